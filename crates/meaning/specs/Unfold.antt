@@ -1,0 +1,78 @@
+-- Unfolding (01, "Unfolding"): a file's bytes, its physical lines, and the logical lines that they are unfolded to.
+unfoldable pub use Rattle.meaning.specs.Bytes.{refuse, permitted, every, allPermitted, begins, ends, withoutLast, cont, prefix}
+use Prim.Native.Nat.{ℕ, _+_}
+use mathlib.Core.Bool.{Bool, true, false, not, _&&_}
+use mathlib.Core.List.{List, [], _∷_, _++_}
+use lib.ListN.{drop}
+use lib.Dec.{eqb}
+
+-- ## Physical lines
+
+-- a file is its physical lines, each without its line end, and then the bytes behind the last LF
+pub data Physical : Type 0 where
+  tail : List ℕ → Physical
+  line : List ℕ → Physical → Physical
+
+-- a byte that stands in the first line
+unfoldable pub add : ℕ → Physical → Physical
+add b (tail l) = tail (b ∷ l)
+add b (line l p) = line (b ∷ l) p
+
+-- a byte before a file whose lines are p: an LF is an empty line's end, a CR before an LF is left out, and any other byte stands in the first line
+unfoldable pub byte : Bool → Bool → ℕ → Physical → Physical
+byte true cr b p = line [] p
+byte false true b p = p
+byte false false b p = add b p
+
+unfoldable pub physical : List ℕ → Physical
+physical [] = tail []
+physical (b ∷ f) = byte (eqb b 0x0a) (eqb b 0x0d && begins 0x0a f) b (physical f)
+
+-- no byte and no line left
+unfoldable pub none : Physical → Bool
+none (tail []) = true
+none (tail (b ∷ l)) = false
+none (line l p) = false
+
+-- ## Logical lines
+
+-- the logical lines, or the first fault: its number, and the logical line where it is found
+pub data Unfolded : Type 0 where
+  lines : List (List ℕ) → Unfolded
+  fault : ℕ → ℕ → Unfolded
+
+-- a part of a line before what the rest of the file is unfolded to: of the same line where it is continued, and a line of its own where not
+unfoldable pub put : Bool → List ℕ → Unfolded → Unfolded
+put continued p (fault k n) = fault k n
+put false p (lines ls) = lines (p ∷ ls)
+put true p (lines []) = lines (p ∷ [])
+put true p (lines (l ∷ ls)) = lines ((p ++ l) ∷ ls)
+
+-- what is left of a physical line: without CONT and the space where it continues one, and without the mark where one continues it
+unfoldable pub dropIf : Bool → ℕ → List ℕ → List ℕ
+dropIf true k l = drop k l
+dropIf false k l = l
+
+unfoldable pub withoutLastIf : Bool → List ℕ → List ℕ
+withoutLastIf true l = withoutLast l
+withoutLastIf false l = l
+
+unfoldable pub next : Bool → ℕ → ℕ
+next true n = n
+next false n = n + 1
+
+-- the physical lines p from logical line n on, whose first continues line n or not
+unfoldable pub unfoldLines : ℕ → ℕ → Bool → Physical → Unfolded
+unfoldLines m n true (tail []) = fault 3 n
+unfoldLines m n false (tail []) = lines []
+unfoldLines m n continues (tail (b ∷ l)) = fault 3 n
+unfoldLines m n continues (line l p) =
+    let continued : Bool = ends m l in
+    let others : Unfolded = unfoldLines m (next continued n) continued p in
+    refuse (continued && none p) (fault 3 n)
+    (refuse (continues && not (prefix cont l)) (fault 5 n)
+    (refuse (not (allPermitted l)) (fault 4 n)
+    (put continued (withoutLastIf continued (dropIf continues 5 l)) others)))
+
+unfoldable pub unfoldFile : ℕ → List ℕ → Unfolded
+unfoldFile m f = unfoldLines m 1 false (physical f)
