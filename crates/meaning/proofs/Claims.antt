@@ -5,10 +5,10 @@ use mathlib.Core.List.{List}
 use lib.ListN.{length}
 use borrow.Author.Tests.{le-ltb}
 use Rattle.meaning.specs.Bytes.{refuse}
-use Rattle.meaning.specs.Unfold.{Unfolded, lines, fault, unfoldFile}
-use Rattle.meaning.specs.Model.{Checked, good, bad, checkModel}
+use Rattle.meaning.specs.Unfold.{lines, fault, Unfolded, unfoldFile}
+use Rattle.meaning.specs.Check.{bad, good, Checked, checkModel}
 use Rattle.meaning.specs.Reading.{Rooms}
-use Rattle.meaning.specs.Table.{Result, readUnfolded, readChecked, read}
+use Rattle.meaning.specs.Table.{read, readChecked}
 use Rattle.meaning.specs.Claims.{CutUnfolds, UnfoldsCut, OnlyCut, OneCut, GoodMark, CutUnder, CutsReadAlike, WidthCuts}
 use Rattle.meaning.proofs.Cuts as cuts
 use Rattle.meaning.proofs.Marks as marks

@@ -8,8 +8,9 @@ use mathlib.Core.List.{List, [], _∷_, _++_, append-assoc}
 use lib.ListN.{length, drop}
 use lib.Dec.{eqb, leb}
 use borrow.Author.Tests.{ne-eqb, eq-eqb, le-leb, eqb-true, not-false}
-use Rattle.meaning.specs.Unfold.{permitted, every, allPermitted, begins, ends, withoutLast, cont, prefix, Physical, tail, line, add, byte, physical, none, Unfolded, lines, fault, put, refuse, dropIf, withoutLastIf, next, unfoldLines, unfoldFile}
-use Rattle.meaning.specs.Cut.{End, lf, crlf, Cut, done, last, more, Mark, Permitted}
+use Rattle.meaning.specs.Bytes.{refuse, permitted, every, allPermitted, begins, ends, withoutLast, prefix, cont}
+use Rattle.meaning.specs.Unfold.{physical, lines, Physical, line, tail, byte, add, none, fault, Unfolded, put, dropIf, withoutLastIf, next, unfoldLines, unfoldFile}
+use Rattle.meaning.specs.Cut.{End, lf, crlf, last, Cut, done, Mark, Permitted, more}
 
 pub both : (a b : Bool) → (a && b) ≡ true → (a ≡ true) × (b ≡ true)
 both true b h = (refl, h)

@@ -11,10 +11,11 @@ use lib.Dec.{eqb, leb, ltb}
 use lib.IntN.{ℤ, pos, negsuc, negℤ, natAbs}
 use lib.Signed.{ltZ}
 use borrow.Author.Tests.{ne-eqb, eq-eqb, le-leb, lt-ltb, le-ltb, lt-leb, eqb-true, leb-true, ltb-true, ltb-false, leb-false, not-false, not-true}
-use Rattle.meaning.specs.Bytes.{choose, refuse, allOf, digit, every, begins, byteAt}
-use Rattle.meaning.specs.Model.{Component, isBound, goodComponent}
-use Rattle.meaning.specs.Value.{Value, pair, wrong, digitsAfter, digitsValue, isDigits, unsigned, signed, wholeSize, isNumber, numberDigits, within, numberOf, isDay, dateOf, enumerationOf}
-use Rattle.meaning.specs.Writing.{lastDigits, shortened, digitsOf, signOf, pointed, numberBytes, dateBytes}
+use Rattle.meaning.specs.Bytes.{choose, refuse, allOf, digit, every, begins}
+use Rattle.meaning.specs.Model.{Component}
+use Rattle.meaning.specs.Check.{isBound, goodComponent}
+use Rattle.meaning.specs.Value.{pair, digitsAfter, isDigits, unsigned, signed, wholeSize, isNumber, numberDigits, within, numberOf, enumerationOf}
+use Rattle.meaning.specs.Digits.{lastDigits, shortened, digitsOf, signOf, pointed, numberBytes}
 use Rattle.meaning.proofs.Cuts.{both}
 
 -- ## Digits

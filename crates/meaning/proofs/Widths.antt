@@ -6,8 +6,8 @@ use mathlib.Core.List.{List, [], _∷_, _++_, append-assoc}
 use lib.ListN.{length}
 use lib.Dec.{leb}
 use borrow.Author.Tests.{not-true}
-use Rattle.meaning.specs.Bytes.{choose, permitted, every, allPermitted, ends, cont}
-use Rattle.meaning.specs.Cut.{lf, Cut, done, last, more, Permitted}
+use Rattle.meaning.specs.Bytes.{choose, permitted, every, allPermitted, ends}
+use Rattle.meaning.specs.Cut.{lf, last, Cut, done, Permitted, more}
 use Rattle.meaning.specs.Writing.{goesWhole, cutRest, cutLine, cutLines}
 use Rattle.meaning.proofs.Cuts.{both, permitted-snoc}
 

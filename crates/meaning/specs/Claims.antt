@@ -5,7 +5,8 @@ use mathlib.Core.List.{List}
 use lib.ListN.{length}
 use Rattle.meaning.specs.Unfold.{lines, fault, unfoldFile}
 use Rattle.meaning.specs.Cut.{Cut, Mark, Permitted}
-use Rattle.meaning.specs.Model.{Model, Checked, good, bad, checkModel}
+use Rattle.meaning.specs.Model.{Model}
+use Rattle.meaning.specs.Check.{bad, good, Checked, checkModel}
 use Rattle.meaning.specs.Reading.{Rooms}
 use Rattle.meaning.specs.Table.{read}
 use Rattle.meaning.specs.Writing.{cutLines}

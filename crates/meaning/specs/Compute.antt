@@ -2,32 +2,35 @@
 use Prim.Native.Nat.{ℕ}
 use mathlib.Core.List.{List}
 use Rattle.meaning.specs.Bytes.{choose, refuse, allOf, permitted, separator, digit, letter, textByte, every, same, begins, ends, withoutLast, prefix}
-use Rattle.meaning.specs.Unfold.{add, byte, physical, none, put, dropIf, withoutLastIf, next, unfoldLines, unfoldFile}
-use Rattle.meaning.specs.Model.{recordsFrom, special, nameByte, isName, isFlag, flagOf, isBound, goodComponent, goodComponents, goodType, componentOf, componentsOf, dimensionOf, typeOf, parametersSize, isType, attributeOf, attributesOf, tablesOf, topicsOf, nameOf, modelOf, isAmong, keepsTransfer, keepsTopic, keepsTable, keepsAttribute, keeps, see, follows, strays, judgeAttributes, judgeReferences, checkRecords, checkModel}
+use Rattle.meaning.specs.Unfold.{add, byte, physical, none, put, dropIf, withoutLastIf, next, unfoldLines, unfoldFile, unfoldedText}
+use Rattle.meaning.specs.Model.{recordsFrom, targetOf, flagOf, componentOf, componentsOf, dimensionOf, typeOf, parametersSize, attributeOf, attributesOf, tablesOf, topicsOf, nameOf, modelOf}
+use Rattle.meaning.specs.Check.{special, nameByte, isName, isFlag, isBound, goodComponent, goodComponents, isDimension, goodType, isType, isAmong, keepsTransfer, keepsTopic, keepsTable, keepsAttribute, keeps, see, followsTransfer, follows, isOutside, judgeAttributes, judgeReferences, checkRecords, checkModel, goodNames, attributeNames, tableNames, goodTypes, goodTables}
+use Rattle.meaning.specs.Answer.{numbersOf, checkAnswer, check, textUnfolded, textChecked, unfoldText, codeForC, Answer, TextResult}
 use Rattle.meaning.specs.Field.{goesOn, addToFields, fieldsOf, hasCode}
 use Rattle.meaning.specs.Value.{digitsAfter, isDigits, unsigned, signed, isNumber, numberDigits, within, numberOf, isDay, dateOf, enumerationOf, stretchOf, textOf, isIdentification, sameIdentification, referenceOf, valueOf, isUndefined, isUndefinedTwice}
-use Rattle.meaning.specs.Row.{putPair, putNumber, moreSlots, slotsOfType, slotsOf, hasMandatory, undefinedRest, definedOr, pairsOf, componentValues, pointCells}
+use Rattle.meaning.specs.Digits.{lastDigits, shortened, digitsOf, signOf, pointed, numberBytes, dateBytes}
+use Rattle.meaning.specs.Row.{putPair, putNumber, componentPairs, pairsOfType, pairsOf, hasMandatory, undefinedRest, definedOr, pairCells, componentValues, pointCells}
 use Rattle.meaning.specs.Reading.{startOf, sameName, findTopic, findTable, mandatoryIn, objectAt, objectsOf, isUsed, linesFrom, dueLines, codeOf, move, isInArc, isForbidden, withLine, bare, named, openingLine, descriptionLine, transferLine, modelLine, topicLine, topicEnd, tableLine, storeRow, objectLine, storePoint, pointLine, closingLine, lineDue, stepOf, finishOf, readLines, Rooms}
-use Rattle.meaning.specs.Table.{findObject, putReference, resolveType, resolvePairs, resolveRows, resolve, numbersOf, refusedWith, acceptedWith, readResolved, readOut, unfoldedText, readUnfolded, readChecked, read, checkAnswer, check, textUnfolded, textChecked, unfoldText, codeForC, Answer, Result, TextResult}
-use Rattle.meaning.specs.Writing.{lastDigits, shortened, digitsOf, signOf, pointed, numberBytes, dateBytes, stretchBytes, identificationBytes, typeBytes, fieldBytes, pairFields, pointCode, pointFields, pointLines, attributeLines, objectLines, rowLines, tableLines, topicLines, linesOf, sameCell, sameCells, typeWithoutStart, slotWithoutStart, pairsWithoutStarts, withoutStarts, sameTable, isReadAs, isTable, goesWhole, cutRest, cutLine, cutLines, writeBytes, writeChecked, write, Lent, Written}
+use Rattle.meaning.specs.Table.{findObject, putReference, resolveType, resolvePairs, resolveRows, resolve, refusedWith, acceptedWith, readResolved, readOut, readUnfolded, readChecked, read, Result}
+use Rattle.meaning.specs.Writing.{stretchBytes, identificationBytes, typeBytes, fieldBytes, pairFields, pointCode, pointFields, pointLines, attributeLines, objectLines, rowLines, tableLines, topicLines, linesOf, sameCell, sameCells, typeWithoutStart, slotWithoutStart, pairsWithoutStarts, withoutStarts, sameTable, isReadAs, isTable, goesWhole, cutRest, cutLine, cutLines, writeBytes, writeChecked, write, Lent, Written}
 use Rattle.meaning.specs.Listing.{objectRows, pointRows, rowsWith, shown, printRow, printRows, modelSize, listWith, list}
 
 unfoldable pub computeRead : List ℕ → List ℕ → Rooms → Result
-unfolding choose refuse allOf permitted separator digit letter textByte every same begins ends withoutLast prefix add byte physical none put dropIf withoutLastIf next unfoldLines unfoldFile recordsFrom special nameByte isName isFlag flagOf isBound goodComponent goodComponents goodType componentOf componentsOf dimensionOf typeOf parametersSize isType attributeOf attributesOf tablesOf topicsOf nameOf modelOf isAmong keepsTransfer keepsTopic keepsTable keepsAttribute keeps see follows strays judgeAttributes judgeReferences checkRecords checkModel goesOn addToFields fieldsOf hasCode digitsAfter isDigits unsigned signed isNumber numberDigits within numberOf isDay dateOf enumerationOf stretchOf textOf isIdentification sameIdentification referenceOf valueOf isUndefined isUndefinedTwice putPair putNumber moreSlots slotsOfType slotsOf hasMandatory undefinedRest definedOr pairsOf componentValues pointCells startOf sameName findTopic findTable mandatoryIn objectAt objectsOf isUsed linesFrom dueLines codeOf move isInArc isForbidden withLine bare named openingLine descriptionLine transferLine modelLine topicLine topicEnd tableLine storeRow objectLine storePoint pointLine closingLine lineDue stepOf finishOf readLines findObject putReference resolveType resolvePairs resolveRows resolve numbersOf refusedWith acceptedWith readResolved readOut unfoldedText readUnfolded readChecked read checkAnswer check textUnfolded textChecked unfoldText codeForC lastDigits shortened digitsOf signOf pointed numberBytes dateBytes stretchBytes identificationBytes typeBytes fieldBytes pairFields pointCode pointFields pointLines attributeLines objectLines rowLines tableLines topicLines linesOf sameCell sameCells typeWithoutStart slotWithoutStart pairsWithoutStarts withoutStarts sameTable isReadAs isTable goesWhole cutRest cutLine cutLines writeBytes writeChecked write objectRows pointRows rowsWith shown printRow printRows modelSize listWith list
+unfolding choose refuse allOf permitted separator digit letter textByte every same begins ends withoutLast prefix add byte physical none put dropIf withoutLastIf next unfoldLines unfoldFile unfoldedText recordsFrom targetOf flagOf componentOf componentsOf dimensionOf typeOf parametersSize attributeOf attributesOf tablesOf topicsOf nameOf modelOf special nameByte isName isFlag isBound goodComponent goodComponents isDimension goodType isType isAmong keepsTransfer keepsTopic keepsTable keepsAttribute keeps see followsTransfer follows isOutside judgeAttributes judgeReferences checkRecords checkModel goodNames attributeNames tableNames goodTypes goodTables numbersOf checkAnswer check textUnfolded textChecked unfoldText codeForC goesOn addToFields fieldsOf hasCode digitsAfter isDigits unsigned signed isNumber numberDigits within numberOf isDay dateOf enumerationOf stretchOf textOf isIdentification sameIdentification referenceOf valueOf isUndefined isUndefinedTwice lastDigits shortened digitsOf signOf pointed numberBytes dateBytes putPair putNumber componentPairs pairsOfType pairsOf hasMandatory undefinedRest definedOr pairCells componentValues pointCells startOf sameName findTopic findTable mandatoryIn objectAt objectsOf isUsed linesFrom dueLines codeOf move isInArc isForbidden withLine bare named openingLine descriptionLine transferLine modelLine topicLine topicEnd tableLine storeRow objectLine storePoint pointLine closingLine lineDue stepOf finishOf readLines findObject putReference resolveType resolvePairs resolveRows resolve refusedWith acceptedWith readResolved readOut readUnfolded readChecked read stretchBytes identificationBytes typeBytes fieldBytes pairFields pointCode pointFields pointLines attributeLines objectLines rowLines tableLines topicLines linesOf sameCell sameCells typeWithoutStart slotWithoutStart pairsWithoutStarts withoutStarts sameTable isReadAs isTable goesWhole cutRest cutLine cutLines writeBytes writeChecked write objectRows pointRows rowsWith shown printRow printRows modelSize listWith list
 computeRead model file rooms = read model file rooms
 
 unfoldable pub computeUnfold : List ℕ → List ℕ → ℕ → TextResult
-unfolding choose refuse allOf permitted separator digit letter textByte every same begins ends withoutLast prefix add byte physical none put dropIf withoutLastIf next unfoldLines unfoldFile recordsFrom special nameByte isName isFlag flagOf isBound goodComponent goodComponents goodType componentOf componentsOf dimensionOf typeOf parametersSize isType attributeOf attributesOf tablesOf topicsOf nameOf modelOf isAmong keepsTransfer keepsTopic keepsTable keepsAttribute keeps see follows strays judgeAttributes judgeReferences checkRecords checkModel goesOn addToFields fieldsOf hasCode digitsAfter isDigits unsigned signed isNumber numberDigits within numberOf isDay dateOf enumerationOf stretchOf textOf isIdentification sameIdentification referenceOf valueOf isUndefined isUndefinedTwice putPair putNumber moreSlots slotsOfType slotsOf hasMandatory undefinedRest definedOr pairsOf componentValues pointCells startOf sameName findTopic findTable mandatoryIn objectAt objectsOf isUsed linesFrom dueLines codeOf move isInArc isForbidden withLine bare named openingLine descriptionLine transferLine modelLine topicLine topicEnd tableLine storeRow objectLine storePoint pointLine closingLine lineDue stepOf finishOf readLines findObject putReference resolveType resolvePairs resolveRows resolve numbersOf refusedWith acceptedWith readResolved readOut unfoldedText readUnfolded readChecked read checkAnswer check textUnfolded textChecked unfoldText codeForC lastDigits shortened digitsOf signOf pointed numberBytes dateBytes stretchBytes identificationBytes typeBytes fieldBytes pairFields pointCode pointFields pointLines attributeLines objectLines rowLines tableLines topicLines linesOf sameCell sameCells typeWithoutStart slotWithoutStart pairsWithoutStarts withoutStarts sameTable isReadAs isTable goesWhole cutRest cutLine cutLines writeBytes writeChecked write objectRows pointRows rowsWith shown printRow printRows modelSize listWith list
+unfolding choose refuse allOf permitted separator digit letter textByte every same begins ends withoutLast prefix add byte physical none put dropIf withoutLastIf next unfoldLines unfoldFile unfoldedText recordsFrom targetOf flagOf componentOf componentsOf dimensionOf typeOf parametersSize attributeOf attributesOf tablesOf topicsOf nameOf modelOf special nameByte isName isFlag isBound goodComponent goodComponents isDimension goodType isType isAmong keepsTransfer keepsTopic keepsTable keepsAttribute keeps see followsTransfer follows isOutside judgeAttributes judgeReferences checkRecords checkModel goodNames attributeNames tableNames goodTypes goodTables numbersOf checkAnswer check textUnfolded textChecked unfoldText codeForC goesOn addToFields fieldsOf hasCode digitsAfter isDigits unsigned signed isNumber numberDigits within numberOf isDay dateOf enumerationOf stretchOf textOf isIdentification sameIdentification referenceOf valueOf isUndefined isUndefinedTwice lastDigits shortened digitsOf signOf pointed numberBytes dateBytes putPair putNumber componentPairs pairsOfType pairsOf hasMandatory undefinedRest definedOr pairCells componentValues pointCells startOf sameName findTopic findTable mandatoryIn objectAt objectsOf isUsed linesFrom dueLines codeOf move isInArc isForbidden withLine bare named openingLine descriptionLine transferLine modelLine topicLine topicEnd tableLine storeRow objectLine storePoint pointLine closingLine lineDue stepOf finishOf readLines findObject putReference resolveType resolvePairs resolveRows resolve refusedWith acceptedWith readResolved readOut readUnfolded readChecked read stretchBytes identificationBytes typeBytes fieldBytes pairFields pointCode pointFields pointLines attributeLines objectLines rowLines tableLines topicLines linesOf sameCell sameCells typeWithoutStart slotWithoutStart pairsWithoutStarts withoutStarts sameTable isReadAs isTable goesWhole cutRest cutLine cutLines writeBytes writeChecked write objectRows pointRows rowsWith shown printRow printRows modelSize listWith list
 computeUnfold model file room = unfoldText model file room
 
 unfoldable pub computeCheck : List ℕ → Answer
-unfolding choose refuse allOf permitted separator digit letter textByte every same begins ends withoutLast prefix add byte physical none put dropIf withoutLastIf next unfoldLines unfoldFile recordsFrom special nameByte isName isFlag flagOf isBound goodComponent goodComponents goodType componentOf componentsOf dimensionOf typeOf parametersSize isType attributeOf attributesOf tablesOf topicsOf nameOf modelOf isAmong keepsTransfer keepsTopic keepsTable keepsAttribute keeps see follows strays judgeAttributes judgeReferences checkRecords checkModel goesOn addToFields fieldsOf hasCode digitsAfter isDigits unsigned signed isNumber numberDigits within numberOf isDay dateOf enumerationOf stretchOf textOf isIdentification sameIdentification referenceOf valueOf isUndefined isUndefinedTwice putPair putNumber moreSlots slotsOfType slotsOf hasMandatory undefinedRest definedOr pairsOf componentValues pointCells startOf sameName findTopic findTable mandatoryIn objectAt objectsOf isUsed linesFrom dueLines codeOf move isInArc isForbidden withLine bare named openingLine descriptionLine transferLine modelLine topicLine topicEnd tableLine storeRow objectLine storePoint pointLine closingLine lineDue stepOf finishOf readLines findObject putReference resolveType resolvePairs resolveRows resolve numbersOf refusedWith acceptedWith readResolved readOut unfoldedText readUnfolded readChecked read checkAnswer check textUnfolded textChecked unfoldText codeForC lastDigits shortened digitsOf signOf pointed numberBytes dateBytes stretchBytes identificationBytes typeBytes fieldBytes pairFields pointCode pointFields pointLines attributeLines objectLines rowLines tableLines topicLines linesOf sameCell sameCells typeWithoutStart slotWithoutStart pairsWithoutStarts withoutStarts sameTable isReadAs isTable goesWhole cutRest cutLine cutLines writeBytes writeChecked write objectRows pointRows rowsWith shown printRow printRows modelSize listWith list
+unfolding choose refuse allOf permitted separator digit letter textByte every same begins ends withoutLast prefix add byte physical none put dropIf withoutLastIf next unfoldLines unfoldFile unfoldedText recordsFrom targetOf flagOf componentOf componentsOf dimensionOf typeOf parametersSize attributeOf attributesOf tablesOf topicsOf nameOf modelOf special nameByte isName isFlag isBound goodComponent goodComponents isDimension goodType isType isAmong keepsTransfer keepsTopic keepsTable keepsAttribute keeps see followsTransfer follows isOutside judgeAttributes judgeReferences checkRecords checkModel goodNames attributeNames tableNames goodTypes goodTables numbersOf checkAnswer check textUnfolded textChecked unfoldText codeForC goesOn addToFields fieldsOf hasCode digitsAfter isDigits unsigned signed isNumber numberDigits within numberOf isDay dateOf enumerationOf stretchOf textOf isIdentification sameIdentification referenceOf valueOf isUndefined isUndefinedTwice lastDigits shortened digitsOf signOf pointed numberBytes dateBytes putPair putNumber componentPairs pairsOfType pairsOf hasMandatory undefinedRest definedOr pairCells componentValues pointCells startOf sameName findTopic findTable mandatoryIn objectAt objectsOf isUsed linesFrom dueLines codeOf move isInArc isForbidden withLine bare named openingLine descriptionLine transferLine modelLine topicLine topicEnd tableLine storeRow objectLine storePoint pointLine closingLine lineDue stepOf finishOf readLines findObject putReference resolveType resolvePairs resolveRows resolve refusedWith acceptedWith readResolved readOut readUnfolded readChecked read stretchBytes identificationBytes typeBytes fieldBytes pairFields pointCode pointFields pointLines attributeLines objectLines rowLines tableLines topicLines linesOf sameCell sameCells typeWithoutStart slotWithoutStart pairsWithoutStarts withoutStarts sameTable isReadAs isTable goesWhole cutRest cutLine cutLines writeBytes writeChecked write objectRows pointRows rowsWith shown printRow printRows modelSize listWith list
 computeCheck model = check model
 
 unfoldable pub computeWrite : List ℕ → Lent → ℕ → ℕ → Written
-unfolding choose refuse allOf permitted separator digit letter textByte every same begins ends withoutLast prefix add byte physical none put dropIf withoutLastIf next unfoldLines unfoldFile recordsFrom special nameByte isName isFlag flagOf isBound goodComponent goodComponents goodType componentOf componentsOf dimensionOf typeOf parametersSize isType attributeOf attributesOf tablesOf topicsOf nameOf modelOf isAmong keepsTransfer keepsTopic keepsTable keepsAttribute keeps see follows strays judgeAttributes judgeReferences checkRecords checkModel goesOn addToFields fieldsOf hasCode digitsAfter isDigits unsigned signed isNumber numberDigits within numberOf isDay dateOf enumerationOf stretchOf textOf isIdentification sameIdentification referenceOf valueOf isUndefined isUndefinedTwice putPair putNumber moreSlots slotsOfType slotsOf hasMandatory undefinedRest definedOr pairsOf componentValues pointCells startOf sameName findTopic findTable mandatoryIn objectAt objectsOf isUsed linesFrom dueLines codeOf move isInArc isForbidden withLine bare named openingLine descriptionLine transferLine modelLine topicLine topicEnd tableLine storeRow objectLine storePoint pointLine closingLine lineDue stepOf finishOf readLines findObject putReference resolveType resolvePairs resolveRows resolve numbersOf refusedWith acceptedWith readResolved readOut unfoldedText readUnfolded readChecked read checkAnswer check textUnfolded textChecked unfoldText codeForC lastDigits shortened digitsOf signOf pointed numberBytes dateBytes stretchBytes identificationBytes typeBytes fieldBytes pairFields pointCode pointFields pointLines attributeLines objectLines rowLines tableLines topicLines linesOf sameCell sameCells typeWithoutStart slotWithoutStart pairsWithoutStarts withoutStarts sameTable isReadAs isTable goesWhole cutRest cutLine cutLines writeBytes writeChecked write objectRows pointRows rowsWith shown printRow printRows modelSize listWith list
+unfolding choose refuse allOf permitted separator digit letter textByte every same begins ends withoutLast prefix add byte physical none put dropIf withoutLastIf next unfoldLines unfoldFile unfoldedText recordsFrom targetOf flagOf componentOf componentsOf dimensionOf typeOf parametersSize attributeOf attributesOf tablesOf topicsOf nameOf modelOf special nameByte isName isFlag isBound goodComponent goodComponents isDimension goodType isType isAmong keepsTransfer keepsTopic keepsTable keepsAttribute keeps see followsTransfer follows isOutside judgeAttributes judgeReferences checkRecords checkModel goodNames attributeNames tableNames goodTypes goodTables numbersOf checkAnswer check textUnfolded textChecked unfoldText codeForC goesOn addToFields fieldsOf hasCode digitsAfter isDigits unsigned signed isNumber numberDigits within numberOf isDay dateOf enumerationOf stretchOf textOf isIdentification sameIdentification referenceOf valueOf isUndefined isUndefinedTwice lastDigits shortened digitsOf signOf pointed numberBytes dateBytes putPair putNumber componentPairs pairsOfType pairsOf hasMandatory undefinedRest definedOr pairCells componentValues pointCells startOf sameName findTopic findTable mandatoryIn objectAt objectsOf isUsed linesFrom dueLines codeOf move isInArc isForbidden withLine bare named openingLine descriptionLine transferLine modelLine topicLine topicEnd tableLine storeRow objectLine storePoint pointLine closingLine lineDue stepOf finishOf readLines findObject putReference resolveType resolvePairs resolveRows resolve refusedWith acceptedWith readResolved readOut readUnfolded readChecked read stretchBytes identificationBytes typeBytes fieldBytes pairFields pointCode pointFields pointLines attributeLines objectLines rowLines tableLines topicLines linesOf sameCell sameCells typeWithoutStart slotWithoutStart pairsWithoutStarts withoutStarts sameTable isReadAs isTable goesWhole cutRest cutLine cutLines writeBytes writeChecked write objectRows pointRows rowsWith shown printRow printRows modelSize listWith list
 computeWrite model t width room = write model t width room
 
 unfoldable pub computeListing : Rooms → List ℕ → List ℕ
-unfolding choose refuse allOf permitted separator digit letter textByte every same begins ends withoutLast prefix add byte physical none put dropIf withoutLastIf next unfoldLines unfoldFile recordsFrom special nameByte isName isFlag flagOf isBound goodComponent goodComponents goodType componentOf componentsOf dimensionOf typeOf parametersSize isType attributeOf attributesOf tablesOf topicsOf nameOf modelOf isAmong keepsTransfer keepsTopic keepsTable keepsAttribute keeps see follows strays judgeAttributes judgeReferences checkRecords checkModel goesOn addToFields fieldsOf hasCode digitsAfter isDigits unsigned signed isNumber numberDigits within numberOf isDay dateOf enumerationOf stretchOf textOf isIdentification sameIdentification referenceOf valueOf isUndefined isUndefinedTwice putPair putNumber moreSlots slotsOfType slotsOf hasMandatory undefinedRest definedOr pairsOf componentValues pointCells startOf sameName findTopic findTable mandatoryIn objectAt objectsOf isUsed linesFrom dueLines codeOf move isInArc isForbidden withLine bare named openingLine descriptionLine transferLine modelLine topicLine topicEnd tableLine storeRow objectLine storePoint pointLine closingLine lineDue stepOf finishOf readLines findObject putReference resolveType resolvePairs resolveRows resolve numbersOf refusedWith acceptedWith readResolved readOut unfoldedText readUnfolded readChecked read checkAnswer check textUnfolded textChecked unfoldText codeForC lastDigits shortened digitsOf signOf pointed numberBytes dateBytes stretchBytes identificationBytes typeBytes fieldBytes pairFields pointCode pointFields pointLines attributeLines objectLines rowLines tableLines topicLines linesOf sameCell sameCells typeWithoutStart slotWithoutStart pairsWithoutStarts withoutStarts sameTable isReadAs isTable goesWhole cutRest cutLine cutLines writeBytes writeChecked write objectRows pointRows rowsWith shown printRow printRows modelSize listWith list
+unfolding choose refuse allOf permitted separator digit letter textByte every same begins ends withoutLast prefix add byte physical none put dropIf withoutLastIf next unfoldLines unfoldFile unfoldedText recordsFrom targetOf flagOf componentOf componentsOf dimensionOf typeOf parametersSize attributeOf attributesOf tablesOf topicsOf nameOf modelOf special nameByte isName isFlag isBound goodComponent goodComponents isDimension goodType isType isAmong keepsTransfer keepsTopic keepsTable keepsAttribute keeps see followsTransfer follows isOutside judgeAttributes judgeReferences checkRecords checkModel goodNames attributeNames tableNames goodTypes goodTables numbersOf checkAnswer check textUnfolded textChecked unfoldText codeForC goesOn addToFields fieldsOf hasCode digitsAfter isDigits unsigned signed isNumber numberDigits within numberOf isDay dateOf enumerationOf stretchOf textOf isIdentification sameIdentification referenceOf valueOf isUndefined isUndefinedTwice lastDigits shortened digitsOf signOf pointed numberBytes dateBytes putPair putNumber componentPairs pairsOfType pairsOf hasMandatory undefinedRest definedOr pairCells componentValues pointCells startOf sameName findTopic findTable mandatoryIn objectAt objectsOf isUsed linesFrom dueLines codeOf move isInArc isForbidden withLine bare named openingLine descriptionLine transferLine modelLine topicLine topicEnd tableLine storeRow objectLine storePoint pointLine closingLine lineDue stepOf finishOf readLines findObject putReference resolveType resolvePairs resolveRows resolve refusedWith acceptedWith readResolved readOut readUnfolded readChecked read stretchBytes identificationBytes typeBytes fieldBytes pairFields pointCode pointFields pointLines attributeLines objectLines rowLines tableLines topicLines linesOf sameCell sameCells typeWithoutStart slotWithoutStart pairsWithoutStarts withoutStarts sameTable isReadAs isTable goesWhole cutRest cutLine cutLines writeBytes writeChecked write objectRows pointRows rowsWith shown printRow printRows modelSize listWith list
 computeListing rooms input = listWith rooms input

@@ -76,3 +76,8 @@ unfoldLines m n continues (line l p) =
 
 unfoldable pub unfoldFile : ℕ → List ℕ → Unfolded
 unfoldFile m f = unfoldLines m 1 false (physical f)
+
+-- "The unfolded text is each logical line followed by one LF"
+unfoldable pub unfoldedText : List (List ℕ) → List ℕ
+unfoldedText [] = []
+unfoldedText (l ∷ ls) = l ++ (0x0a ∷ unfoldedText ls)
