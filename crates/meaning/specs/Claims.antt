@@ -9,7 +9,7 @@ use Rattle.meaning.specs.Model.{Model}
 use Rattle.meaning.specs.Check.{bad, good, Checked, checkModel}
 use Rattle.meaning.specs.Reading.{Rooms}
 use Rattle.meaning.specs.Table.{read}
-use Rattle.meaning.specs.Writing.{cutLines}
+use Rattle.meaning.specs.Width.{cutLines}
 
 -- (a) a cut of lines is unfolded to exactly those lines
 abbrev pub CutUnfolds : Type 0
