@@ -1,6 +1,5 @@
 -- What the struct Attribute means: an attribute's type, by its number.
-use Prim.Native.Nat.{ℕ}
-use mathlib.Core.List.{List, [], _∷_}
+use mathlib.Core.List.{List}
 use lib.Dec.{eqb}
 use lib.ListN.{getD}
 use Rattle.meaning.specs.Bytes.{choose}

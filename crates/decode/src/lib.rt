@@ -1,4 +1,6 @@
 // Decoding of a good model's records: kinds, names, attributes with their type and components by value.
+pub mod numbers;
+
 use component::Components;
 
 // An attribute: kind is its type's number, 1 to 8; number is a reference's table, a text's longest length, an enumeration's

@@ -1,0 +1,4 @@
+pub mod Twos
+pub mod Components
+pub mod Checked
+pub mod Standing
