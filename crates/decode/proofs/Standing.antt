@@ -7,7 +7,7 @@ use mathlib.Core.Path.{_≡_, refl, sym, ap, _∙_}
 use mathlib.Core.Bool.{Bool, true, false}
 use mathlib.Core.List.{List, [], _∷_}
 use lib.Dec.{eqb, leb}
-use lib.ListN.{length, drop, getD, length-take, length-drop, List·getD-eq-default}
+use lib.ListN.{length, drop, getD, length-drop, List·getD-eq-default}
 use lib.Seq.{getD-take, getD-drop, drop-cons}
 use borrow.Author.Tests.{leb-true, leb-false, eqb-true, eqb-false, ne-eqb}
 use Rattle.meaning.specs.Bytes.{choose, byteAt, u16At}
@@ -16,6 +16,7 @@ use Rattle.meaning.specs.Check.{good, special, isFlag, keepsTransfer, keepsTopi
 use Rattle.meaning.proofs.Cuts.{both}
 use Rattle.decode.specs.Records.{recordsAt, kindAt, payloadAt, nextAt, attributesAt}
 use Rattle.decode.specs.Standing.{Standing, Here, TopicHere, TableHere, AttributeNext, EndHere, Beginning}
+use Rattle.decode.proofs.Types.{payload-room}
 use Rattle.decode.proofs.Checked.{holds, begun, Turn, turn, behind-nothing, behind-transfer, in-order, at-end}
 
 -- ## A list of which so many are passed
@@ -32,10 +33,6 @@ module _ {A : Type 0} (l : List A) (n : ℕ) (d x : A) (xs : List A) (e : (x ∷
 
 pub none-left : {A : Type 0} (l : List A) (n : ℕ) → [] ≡ drop n l → n ≤ length l → n ≡ length l
 none-left l n e h = let s = length-drop n l in let r : 0 ≡ length (drop n l) = ap length e in omega arith
-
--- some bytes of a record's payload are bytes of the record
-payload-room : (b : List ℕ) (at n : ℕ) → n ≤ length (payloadAt b at) → at + 4 + n ≤ nextAt b at
-payload-room b at n h = let e = length-take (u16At b at) (drop (at + 4) b) in omega arith
 
 -- ## The topics of the tables
 

@@ -1,7 +1,6 @@
 -- `decode::i64_at` meets its contract. Assumes nothing.
 use Rattle.meaning.specs.Bytes.{twos}
 use mir.ValLaws.{toZ-ofZ}
-use mir.Val.{SFits}
 use mir.Syntax.{w64}
 use mathlib.Core.Path.{_∙_, ap}
 use borrow.Author.Needs.{needs}

@@ -1,9 +1,7 @@
 -- `decode::read_component` meets its contract. Assumes nothing.
 use Rattle.meaning.specs.Model.{componentOf}
 use mir.ValLaws.{toZ-ofZ}
-use mir.Val.{SFits}
 use mir.Syntax.{w64}
-use mathlib.Core.Path.{_∙_, ap}
 use borrow.Author.Needs.{needs}
 use Rattle.decode.proofs.numbers.read_component.Statement.{statement}
 use Rattle.decode.proofs.numbers.read_component.Tie as tie

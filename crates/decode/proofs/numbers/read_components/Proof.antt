@@ -3,15 +3,14 @@ use Rattle.decode.proofs.Components.{items-length}
 use Rattle.decode.specs.Held.{declaredOf}
 use Rattle.decode.proofs.Components.{itemsOf, items as read}
 use Rattle.meaning.specs.Model as meaning
-use Rattle.component.specs.Meant.{listOf}
 use Rattle.text.proofs.Fill.{to-end}
-use lib.ListN.{length, take, set, length-drop}
+use lib.ListN.{length-drop}
 use native.Mathlib.Numerals.{add-one}
 use native.Mathlib.Omega.{arith}
 use mathlib.Core.List.{List}
-use mathlib.Core.Path.{_≡_, refl, ap, sym, _∙_}
+use mathlib.Core.Path.{_≡_, refl, ap, _∙_}
 use borrow.Author.Needs.{needs}
-use Prim.Native.Nat.{ℕ, suc, _≤_, _<_, _-_, _+_, _*_}
+use Prim.Native.Nat.{ℕ, _≤_, _-_, _*_}
 use Rattle.decode.proofs.numbers.read_components.Statement.{statement}
 use Rattle.decode.proofs.numbers.read_components.Tie as tie
 
