@@ -29,7 +29,7 @@ is-digit : (n : ℕ) → n < 10 → digit (0x30 + n) ≡ true
 unfolding digit
 is-digit n h = rw (le-leb 0x30 (0x30 + n) (omega arith), le-leb (0x30 + n) 0x39 (omega arith))
 
-after-append : (n : ℕ) (s t : List ℕ) → digitsAfter n (s ++ t) ≡ digitsAfter (digitsAfter n s) t
+pub after-append : (n : ℕ) (s t : List ℕ) → digitsAfter n (s ++ t) ≡ digitsAfter (digitsAfter n s) t
 unfolding digitsAfter
 after-append n [] t = refl
 after-append n (b ∷ s) t = after-append _ s t
@@ -107,7 +107,7 @@ pub digits-of : (least n : ℕ) → least ≤ 18 → n < 10 ^ 18 → Digits leas
 unfolding digitsOf shortened choose
 digits-of least n h g =
     let e : shortened least (lastDigits 19 n) ≡ shortened least (lastDigits 18 n) =
-        rw (last-more 18 n g) (rw (last-length 18 n, le-leb least 18 h) refl) in
+    rw (last-more 18 n g) (rw (last-length 18 n, le-leb least 18 h) refl) in
     let len = last-length 18 n in
     record {
       digits = short-digits least (lastDigits 19 n) (last-digits 19 n);
@@ -147,8 +147,14 @@ module _ (d : ℕ) (w f : List ℕ) (size : length f ≡ suc d) where
   parts-number : 1 ≤ length w → length w + suc d ≤ 18 → every digit w ≡ true → every digit f ≡ true → isNumber (suc d) (w ++ (0x2e ∷ f)) ≡ true
   unfolding isNumber
   parts-number l h p q =
-      rw (whole-size, getD-at w 0x2e f 0 (length w) refl, take-at w (0x2e ∷ f) (length w) refl, drop-one,
-          is-digits 1 (18 - suc d) w l (omega arith) p, is-digits (suc d) (suc d) f (omega arith) (omega arith) q)
+      rw (
+        whole-size,
+        getD-at w 0x2e f 0 (length w) refl,
+        take-at w (0x2e ∷ f) (length w) refl,
+        drop-one,
+        is-digits 1 (18 - suc d) w l (omega arith) p,
+        is-digits (suc d) (suc d) f (omega arith) (omega arith) q,
+      )
     where
       drop-one : drop (length w + 1) (w ++ (0x2e ∷ f)) ≡ f
       drop-one = lib.Seq.drop-append-add w (0x2e ∷ f) 1
@@ -165,10 +171,10 @@ module _ (n : ℕ) (s : List ℕ) where
       let low = r .low in
       let high = r .high in
       parts-number d (take (length s - suc d) s) (drop (length s - suc d) s)
-          (rw (length-drop (length s - suc d) s) (omega arith))
-          (rw (length-take (length s - suc d) s) (omega arith))
-          (rw (length-take (length s - suc d) s) (omega arith))
-          (every-take digit (length s - suc d) s (r .digits)) (every-drop digit (length s - suc d) s (r .digits))
+      (rw (length-drop (length s - suc d) s) (omega arith))
+      (rw (length-take (length s - suc d) s) (omega arith))
+      (rw (length-take (length s - suc d) s) (omega arith))
+      (every-take digit (length s - suc d) s (r .digits)) (every-drop digit (length s - suc d) s (r .digits))
 
   pointed-digits : (d : ℕ) → Digits (d + 1) n s → numberDigits d (pointed d s) ≡ s
   unfolding numberDigits pointed
@@ -235,11 +241,19 @@ number-reads c v g w = go v w (below c v g w)
   where
     least : c .decimals + 1 ≤ 18
     least = omega (arith, leb-true (c .decimals) 9 (holds _ 0 g))
+
     go : (v : ℤ) → within c v ≡ true → natAbs v < 10 ^ 18 → numberOf c (numberBytes (c .decimals) v) ≡ pair (pos 1) v
     go (pos n) w h =
         let r = digits-of (c .decimals + 1) n least h in
-        rw (sign-pos n, first-digit (c .decimals) n 0x2b _ r (omega arith), first-digit (c .decimals) n 0x2d _ r (omega arith),
-            pointed-number n _ (c .decimals) r, pointed-digits n _ (c .decimals) r, r .value, w)
+        rw (
+          sign-pos n,
+          first-digit (c .decimals) n 0x2b _ r (omega arith),
+          first-digit (c .decimals) n 0x2d _ r (omega arith),
+          pointed-number n _ (c .decimals) r,
+          pointed-digits n _ (c .decimals) r,
+          r .value,
+          w,
+        )
     go (negsuc n) w h =
         let r = digits-of (c .decimals + 1) (suc n) least h in
         rw (sign-neg n, pointed-number (suc n) _ (c .decimals) r, pointed-digits (suc n) _ (c .decimals) r, r .value, w)
