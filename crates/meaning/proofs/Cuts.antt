@@ -10,7 +10,7 @@ use lib.Dec.{eqb, leb}
 use borrow.Author.Tests.{ne-eqb, eq-eqb, le-leb, eqb-true, not-false}
 use Rattle.meaning.specs.Bytes.{refuse, permitted, every, allPermitted, begins, ends, withoutLast, prefix, cont}
 use Rattle.meaning.specs.Unfold.{physical, lines, Physical, line, tail, byte, add, none, fault, Unfolded, put, dropIf, withoutLastIf, next, unfoldLines, unfoldFile}
-use Rattle.meaning.specs.Cut.{End, lf, crlf, last, Cut, done, Mark, Permitted, more}
+use Rattle.meaning.specs.Cut.{End, lf, crlf, last, more, Cut, done, Mark, Permitted}
 
 pub both : (a b : Bool) → (a && b) ≡ true → (a ≡ true) × (b ≡ true)
 both true b h = (refl, h)

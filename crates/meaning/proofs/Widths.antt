@@ -7,8 +7,8 @@ use lib.ListN.{length}
 use lib.Dec.{leb}
 use borrow.Author.Tests.{not-true}
 use Rattle.meaning.specs.Bytes.{choose, permitted, every, allPermitted, ends}
-use Rattle.meaning.specs.Cut.{lf, last, Cut, done, Permitted, more}
-use Rattle.meaning.specs.Writing.{goesWhole, cutRest, cutLine, cutLines}
+use Rattle.meaning.specs.Cut.{lf, last, more, Cut, done, Permitted}
+use Rattle.meaning.specs.Width.{goesWhole, cutRest, cutLine, cutLines}
 use Rattle.meaning.proofs.Cuts.{both, permitted-snoc}
 
 -- what goes out whole does not end in the mark

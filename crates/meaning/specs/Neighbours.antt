@@ -1,0 +1,105 @@
+-- Cases that the sample's model does not try, computed: dates, two undefined bytes, long names, and a text's own last mark in writing.
+use Prim.Native.Nat.{ℕ}
+use Prim.Native.String.{String}
+use mathlib.Core.Path.{_≡_, refl}
+use mathlib.Core.List.{List, [], _∷_, _++_}
+use lib.IntN.{ℤ, pos}
+use lib.ListN.{take}
+use Rattle.meaning.specs.Bytes.{bytesOf}
+use Rattle.meaning.specs.Answer.{Answer, accepted, refusal}
+use Rattle.meaning.specs.Writing.{Lent}
+use Rattle.meaning.specs.Width.{Written}
+use Rattle.meaning.specs.Listing.{listingRooms}
+use Rattle.meaning.specs.Compute.{computeListing, computeWrite}
+use Rattle.meaning.specs.Sample.{recordBytes}
+
+-- ## A model of one table: a mandatory date D, an optional text X and a mandatory text Y of 4 bytes; its topic's name has 24 bytes
+
+unfoldable pub dateModel : List ℕ
+dateModel =
+    recordBytes 1 (bytesOf "_@\\T")
+    ++ recordBytes 2 (bytesOf "M")
+    ++ recordBytes 3 (bytesOf "Abcdefghijklmnopqrstuvwx")
+    ++ recordBytes 4 (0 ∷ bytesOf "A")
+    ++ recordBytes 5 (0 ∷ 6 ∷ bytesOf "D")
+    ++ recordBytes 5 (1 ∷ 5 ∷ 4 ∷ 0 ∷ bytesOf "X")
+    ++ recordBytes 5 (0 ∷ 5 ∷ 4 ∷ 0 ∷ bytesOf "Y")
+    ++ recordBytes 6 []
+
+-- a file with this topic's name, and this line 7
+abbrev pub dated : String → String → List ℕ
+dated topic line7 = bytesOf "SCNT\n////\nMTID T\nMODL M\nTOPI " ++ bytesOf topic ++ bytesOf "\nTABL A\n" ++ bytesOf line7 ++ bytesOf "\nETAB\nETOP\nEMOD\nENDE\n"
+
+unfoldable pub printsDated : String → String → List ℕ
+unfolding computeListing dateModel
+printsDated topic line7 = computeListing listingRooms (dateModel ++ dated topic line7)
+
+pub dates-and-names :
+    (printsDated "Abcdefghijklmnopqrstuvwx" "OBJE a 19991231 x y"
+    ∷ printsDated "Abcdefghijklmnopqrstuvwx" "OBJE a 19991301 x y"
+    ∷ printsDated "Abcdefghijklmnopqrstuvwx" "OBJE a 19991200 x y"
+    ∷ printsDated "Abcdefghijklmnopqrstuvwx" "OBJE a 1999123 x y"
+    -- two undefined bytes over an optional and a mandatory field
+    ∷ printsDated "Abcdefghijklmnopqrstuvwx" "OBJE a 19991231 @@"
+    ∷ printsDated "Abcdefghijklmnopqrstuvwx" "OBJE a 19991231 @ y"
+    -- topics' names compare by their first 24 bytes
+    ∷ printsDated "Abcdefghijklmnopqrstuvwxyz" "OBJE a 19991231 x y"
+    ∷ printsDated "Abcdefghijklmnopqrstuvw" "OBJE a 19991231 x y"
+    ∷ [])
+    ≡ (bytesOf "0 1 9 0\n0 66 1 1 19991231 2 77 2 79\n"
+    ∷ bytesOf "14 7 3 0\n"
+    ∷ bytesOf "14 7 3 0\n"
+    ∷ bytesOf "13 7 3 0\n"
+    ∷ bytesOf "12 7 4 0\n"
+    ∷ bytesOf "0 1 9 0\n0 66 1 1 19991231 0 0 2 79\n"
+    ∷ bytesOf "0 1 9 0\n0 68 1 1 19991231 2 79 2 81\n"
+    ∷ bytesOf "9 5 2 0\n"
+    ∷ [])
+unfolding printsDated
+dates-and-names = refl
+
+-- ## Writing: a model of one table with a mandatory text of 4 bytes, and an object a with the text b\
+
+unfoldable pub textModel : List ℕ
+textModel =
+    recordBytes 1 (bytesOf "_@\\T")
+    ++ recordBytes 2 (bytesOf "M")
+    ++ recordBytes 3 (bytesOf "N")
+    ++ recordBytes 4 (0 ∷ bytesOf "A")
+    ++ recordBytes 5 (0 ∷ 5 ∷ 4 ∷ 0 ∷ bytesOf "Y")
+    ++ recordBytes 6 []
+
+-- the object's text is so many bytes long
+abbrev pub lent : ℤ → Lent
+lent size = record {
+  text = bytesOf "ab\\";
+  marks = 1 ∷ 1 ∷ [];
+  rows = 0 ∷ [];
+  cells = pos 0 ∷ pos 0 ∷ pos 1 ∷ size ∷ pos 1 ∷ [];
+  points = [];
+  objects = 1;
+  cellCount = 5;
+  pointCount = 0;
+}
+
+unfoldable pub writesAs : ℤ → ℕ → ℕ → Written
+unfolding computeWrite textModel
+writesAs size width room = computeWrite textModel (lent size) width room
+
+-- "Taking a text's own last \ for nothing special when writing" would write `OBJE a b\`, which the next line had to continue
+pub own-mark : writesAs (pos 3) 16 76 ≡ record { answer = accepted 75 0 0; output = bytesOf "SCNT\n////\nMTID T\nMODL M\nTOPI N\nTABL A\nOBJE a b\\\\\nCONT \nETAB\nETOP\nEMOD\nENDE\n" ++ (0 ∷ []) }
+unfolding writesAs
+own-mark = refl
+
+-- "In writing: 2, 20, 19, 21": a stretch outside the lent text is 19, a width of 15 is 20, and 74 bytes are one too few
+pub writing-refused : (writesAs (pos 4) 16 2 ∷ writesAs (pos 4) 15 2 ∷ writesAs (pos 3) 16 0 ∷ []) ≡
+    (record { answer = refusal 19 0 0; output = 0 ∷ 0 ∷ [] }
+    ∷ record { answer = refusal 20 0 0; output = 0 ∷ 0 ∷ [] }
+    ∷ record { answer = refusal 21 0 0; output = [] }
+    ∷ [])
+unfolding writesAs
+writing-refused = refl
+
+pub one-byte-short : writesAs (pos 3) 16 74 .answer ≡ refusal 21 0 0
+unfolding writesAs
+one-byte-short = refl
