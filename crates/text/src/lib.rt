@@ -1,0 +1,5 @@
+// Bytes and lists of bytes: their kinds, comparing, and lent rooms.
+pub mod compare;
+pub mod kinds;
+pub mod rooms;
+pub mod tests;
