@@ -7,7 +7,6 @@ ghost use lib.Dec.{T};
 ghost use lib.IntN.{pos};
 ghost use lib.Signed.{nonNeg};
 ghost use lib.ListN.{length, getD, take, replicate};
-ghost use Rattle.meaning.specs.Value.{sameIdentification};
 ghost use Rattle.meaning.specs.Reading.{stretch, cellAt, objectsOf, isUsed};
 ghost use Rattle.meaning.specs.Table.{findObject};
 ghost use Rattle.index.specs.Objects.{identificationOf, isNamed, lastNamed, inTable, Row, Listed};
@@ -18,13 +17,6 @@ ghost use Rattle.index.specs.Holds.{foundOf, Known};
 pub enum Found {
     At(usize),
     Nothing,
-}
-
-// The one comparison of two identifications.
-fn same_identification(a: &[u8], b: &[u8]) -> bool
-    ensures { λ r. ⌜ r ≡ sameIdentification (now (a .entry)) (now (b .entry)) ⌝ }
-{
-    text::compare::same_bytes(a, b)
 }
 
 // A cell that is not below zero.
@@ -45,7 +37,7 @@ fn is_named(text: &[u8], rows: &[u64], cells: &[i64], object: usize, identificat
     let row = rows[object] as usize;
     let start = cell_at(cells, row + 1);
     let end = start + cell_at(cells, row + 2);
-    same_identification(&text[start..end], identification)
+    value::stretches::same_identification(&text[start..end], identification)
 }
 
 // One byte more in the hash: no product wraps, as the factor is at most 2 ^ 30.
