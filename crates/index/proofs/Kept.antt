@@ -10,7 +10,8 @@ use lib.IntN.{ℤ, pos}
 use lib.ListN.{length, getD, take, set, length-set, replicate}
 use lib.Seq.{getD-take, getD-set-other}
 use borrow.Author.Tests.{ltb-true, ltb-false}
-use Rattle.meaning.specs.Reading.{Object, objectAt, objectsOf}
+use Rattle.meaning.specs.Reading.{Object, objectAt, objectsOf, isUsed}
+use Rattle.meaning.specs.Table.{findObject}
 use Rattle.index.specs.Objects.{identificationOf, lastOf, Listed, Unique}
 use Rattle.index.specs.Index.{headOf, hasHead, wordOf, Chained, Indexed}
 use Rattle.index.specs.Holds.{Known, Held, Beside}
@@ -142,6 +143,13 @@ module _ (seed : ℕ) (text : List ℕ) (n used : ℕ) (rows : List ℕ) (cells 
         length-same = λ o l. getD-take used cells (getD rows o 0 + 2) (pos 0) (h .within o l);
       })
       (h .known .listed .in-rows) (h .known .listed .in-rows) n (omega arith)
+
+  -- so the same is used and named there
+  pub held-used : (i : List ℕ) → isUsed i (objectsOf text cells (take n rows)) ≡ isUsed i (objectsOf text (take used cells) (take n rows))
+  held-used i = ap (isUsed i) (sym held-objects)
+
+  pub held-found : (t : ℕ) (i : List ℕ) → findObject t 0 i (objectsOf text cells (take n rows)) ≡ findObject t 0 i (objectsOf text (take used cells) (take n rows))
+  held-found t i = ap (findObject t 0 i) (sym held-objects)
 
   -- ## A cell changed
 
