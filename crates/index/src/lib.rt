@@ -51,8 +51,8 @@ fn mix(k: u64, h: u64, b: u8) -> u64
     x / 2147483648 + x % 2147483648
 }
 
-// The hash of an identification. With a seed that no one can guess, no file can be made to fill one chain; for a file that is
-// not made so any seed serves, 0 too, as what is added to it makes a factor of many bits.
+// The hash of an identification. With a seed that no one can guess, no file can be made to fill one chain. What is added to
+// the seed keeps a small one, as 0, from making a small factor, under which ordinary identifications would share their hashes.
 pub fn hash(identification: &[u8], seed: u64) -> u64
     ensures { λ r. ⌜ r ≡ hashOf seed (now (identification .entry)) ⌝ }
     ensures { λ r. ⌜ r < 4294967296 ⌝ }
