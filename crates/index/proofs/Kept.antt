@@ -4,15 +4,14 @@ use Prim.Native.Nat.{ℕ, zero, suc, _+_, _-_, _≤_, _<_}
 use mathlib.Core.Path.{_≡_, refl, sym, ap, _∙_}
 use mathlib.Core.Bool.{Bool, true, false}
 use mathlib.Core.List.{List, [], _∷_, _++_}
-use mathlib.Core.Logic.{⊎-elim}
 use native.Mathlib.Omega.{arith}
-use native.Mathlib.Nat.{eq-or-lt-of-le}
 use lib.Dec.{eqb, ltb}
 use lib.IntN.{ℤ, pos}
 use lib.ListN.{length, getD, take, set, length-set, replicate}
 use lib.Seq.{getD-take, getD-set-other}
-use borrow.Author.Tests.{ltb-true, ltb-false, eqb-true, eqb-false}
-use Rattle.meaning.specs.Reading.{Object, objectAt, objectsOf}
+use borrow.Author.Tests.{ltb-true, ltb-false}
+use Rattle.meaning.specs.Reading.{Object, objectAt, objectsOf, isUsed}
+use Rattle.meaning.specs.Table.{findObject}
 use Rattle.index.specs.Objects.{identificationOf, lastOf, Listed, Unique}
 use Rattle.index.specs.Index.{headOf, hasHead, wordOf, Chained, Indexed}
 use Rattle.index.specs.Holds.{Known, Held, Beside}
@@ -116,9 +115,6 @@ held-start seed text rows cells index k e = record {
 
 -- ## The same first elements
 
-apart : (a b : ℕ) → a ≤ b → (a ≡ b → ⊥) → a < b
-apart a b l d = ⊎-elim (λ q. absurd (d q)) (λ g. g) (eq-or-lt-of-le l)
-
 first-same : {A : Type 0} (l l′ : List A) (n i : ℕ) (d : A) → take n l′ ≡ take n l → i < n → getD l′ i d ≡ getD l i d
 first-same {A} l l′ n i d e h = sym (getD-take n l′ i d h) ∙ ap (λ (t : List A). getD t i d) e ∙ getD-take n l i d h
 
@@ -148,24 +144,25 @@ module _ (seed : ℕ) (text : List ℕ) (n used : ℕ) (rows : List ℕ) (cells 
       })
       (h .known .listed .in-rows) (h .known .listed .in-rows) n (omega arith)
 
+  -- so the same is used and named there
+  pub held-used : (i : List ℕ) → isUsed i (objectsOf text cells (take n rows)) ≡ isUsed i (objectsOf text (take used cells) (take n rows))
+  held-used i = ap (isUsed i) (sym held-objects)
+
+  pub held-found : (t : ℕ) (i : List ℕ) → findObject t 0 i (objectsOf text cells (take n rows)) ≡ findObject t 0 i (objectsOf text (take used cells) (take n rows))
+  held-found t i = ap (findObject t 0 i) (sym held-objects)
+
   -- ## A cell changed
 
-  -- a cell of row p behind its first three is none of the first three of a row
-  pub beside-in : (p cell : ℕ) → p < n → getD rows p 0 + 2 < cell → (p + 1 < n → cell < getD rows (p + 1) 0) → Beside rows n cell
-  beside-in p cell l b next = record { beside = λ o k m s e. go o k m s e (ltb o p) refl (ltb p o) refl (eqb o (p + 1)) refl }
+  -- a cell of row p behind its first three and before the later rows
+  pub beside-in : (p cell : ℕ) → p < n → getD rows p 0 + 2 < cell → ((o : ℕ) → p < o → o < n → cell < getD rows o 0) → Beside rows n cell
+  beside-in p cell l b later = record { beside = λ o k m s e. go o k m s e (ltb o p) refl (ltb p o) refl }
     where
-      go : (o k : ℕ) → o < n → k < 3 → cell ≡ getD rows o 0 + k → (x : Bool) → ltb o p ≡ x → (y : Bool) → ltb p o ≡ y → (z : Bool) → eqb o (p + 1) ≡ z → ⊥
-      go o k m s e true x y q z r = omega (arith, h .spaced o p (ltb-true o p x) l)
-      go o k m s e false x false y z r =
+      go : (o k : ℕ) → o < n → k < 3 → cell ≡ getD rows o 0 + k → (x : Bool) → ltb o p ≡ x → (y : Bool) → ltb p o ≡ y → ⊥
+      go o k m s e true x y r = omega (arith, h .spaced o p (ltb-true o p x) l)
+      go o k m s e false x true y = omega (arith, later o (ltb-true p o y) m)
+      go o k m s e false x false y =
           let same : o ≡ p = omega (arith, ltb-false o p x, ltb-false p o y) in
           omega (arith, ap (λ (j : ℕ). getD rows j 0) same)
-      go o k m s e false x true y true z =
-          let same : o ≡ p + 1 = eqb-true o (p + 1) z in
-          omega (arith, ap (λ (j : ℕ). getD rows j 0) same, next (omega arith))
-      go o k m s e false x true y false z =
-          let far : o ≡ p + 1 → ⊥ = eqb-false o (p + 1) z in
-          let behind : p + 1 < o = apart (p + 1) o (omega (arith, ltb-true p o y)) (λ q. far (sym q)) in
-          omega (arith, h .spaced (p + 1) o behind m, next (omega arith))
 
   agree-beside : (cell : ℕ) (v : ℤ) → Beside rows n cell → Agree rows rows cells (set cells cell v) n
   agree-beside cell v b = record {
@@ -181,6 +178,10 @@ module _ (seed : ℕ) (text : List ℕ) (n used : ℕ) (rows : List ℕ) (cells 
   -- the objects are the same as before
   pub objects-beside : (cell : ℕ) (v : ℤ) → Beside rows n cell → objectsOf text (set cells cell v) (take n rows) ≡ objectsOf text cells (take n rows)
   objects-beside cell v b = objects-kept text rows rows cells (set cells cell v) n (agree-beside cell v b) (h .known .listed .in-rows) (h .known .listed .in-rows) n (omega arith)
+
+-- a cell behind the first three of every row
+pub beside-behind : (rows : List ℕ) (n cell : ℕ) → ((o : ℕ) → o < n → getD rows o 0 + 2 < cell) → Beside rows n cell
+beside-behind rows n cell behind = record { beside = λ o k l s e. omega (arith, behind o l) }
 
 -- a pair of cells: a line's, or a reference that is resolved
 module _ (seed : ℕ) (text : List ℕ) (n used : ℕ) (rows : List ℕ) (cells : List ℤ) (index : List ℕ) (h : Held seed text n used rows cells index) where

@@ -20,7 +20,7 @@ hashFrom k h (b ∷ s) = hashFrom k (mixOf k h b) s
 
 unfoldable pub hashOf : ℕ → List ℕ → ℕ
 unfolding hashFrom
-hashOf seed i = hashFrom (seed % 1073741824 + 1) 1 i
+hashOf seed i = hashFrom ((seed % 1073741824 + 663608941) % 1073741824 + 1) 1 i
 
 -- the head that an identification belongs to, of so many
 abbrev pub headOf : ℕ → ℕ → List ℕ → ℕ

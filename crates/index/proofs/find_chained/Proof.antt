@@ -12,10 +12,10 @@ use Rattle.index.proofs.find_chained.Statement.{statement}
 use Rattle.index.proofs.find_chained.Tie as tie
 
 abbrev Inv-loop : tie.InvT-loop
-Inv-loop text rows cells index objects seed h identification p word₀ word = Along seed (length index - length rows) (identificationOf text rows cells) objects identification word
+Inv-loop text rows cells index objects seed hash identification head word₀ word = Along seed (length index - length rows) (identificationOf text rows cells) objects identification word
 
 abbrev μ-loop : tie.MeasureT-loop
-μ-loop text rows cells index objects seed h identification p word₀ word = word % 4294967296
+μ-loop text rows cells index objects seed hash identification head word₀ word = word % 4294967296
 
 -- the room
 links-lt : (s : tie.Start Inv-loop μ-loop) → (length (s .args .rows .now) < length (s .args .index .now)) × (length (s .args .rows .now) < 4294967295)

@@ -17,6 +17,9 @@ abbrev μ-loop : tie.MeasureT-loop
 add-k : tie.Need-add-k Inv-loop μ-loop
 add-k c = omega arith
 
+add-k-2 : tie.Need-add-k-2 Inv-loop μ-loop
+add-k-2 c = omega arith
+
 loop-holds : tie.Need-loop-holds Inv-loop μ-loop
 loop-holds c = (omega arith, omega arith, refl)
 
@@ -48,6 +51,7 @@ hash-spec =
     Inv-loop
     μ-loop
     add-k
+    add-k-2
     loop-holds
     shared-slice-read-mix
     mix-requires

@@ -14,10 +14,10 @@ rem-result : tie.Need-rem-result
 rem-result c = search needs
 
 add-result : tie.Need-add-result
-add-result c = omega (arith, mod-lt (c .args .h) {m = c .args .index - c .args .rows} (omega arith))
+add-result c = omega (arith, mod-lt (c .args .hash) {m = c .args .index - c .args .rows} (omega arith))
 
 returns : tie.Need-returns
-returns c = (refl, omega (arith, mod-lt (c .args .h) {m = c .args .index - c .args .rows} (omega arith)))
+returns c = (refl, omega (arith, mod-lt (c .args .hash) {m = c .args .index - c .args .rows} (omega arith)))
 
 pub head-at-spec : {M : Type 1} → statement M
 head-at-spec = tie.close (tie.spec sub-heads rem-result add-result returns)

@@ -44,7 +44,7 @@ same-identification-requires c κs = search needs
 returns : tie.Need-returns
 returns c =
     let a = c .before .before .before .before .before .before .before .before .args in
-    c .same-identification .ensures ∙ ap (λ (s : List ℕ). sameIdentification s (a .identification .now)) (part-named (a .text .now) (a .rows .now) (a .cells .now) (a .o) _ _ (c .before .before .before .cell-at .ensures) (c .before .before .cell-at2 .ensures))
+    c .same-identification .ensures ∙ ap (λ (s : List ℕ). sameIdentification s (a .identification .now)) (part-named (a .text .now) (a .rows .now) (a .cells .now) (a .object) _ _ (c .before .before .before .cell-at .ensures) (c .before .before .cell-at2 .ensures))
 
 pub is-named-spec : {M : Type 1} → statement M
 is-named-spec =
