@@ -2,7 +2,6 @@
 use Prim.Native.Nat.{ℕ}
 use native.Mathlib.Omega.{arith}
 use mathlib.Core.Path.{_≡_, sym, _∙_}
-use Rattle.meaning.specs.Table.{accepted, refusal}
 use Rattle.unfold.specs.Answer.{answerOf, Within}
 use Rattle.unfold.specs.Claims.{OneOutcome}
 use Rattle.unfold.specs.declared.Answer.{Answer}
