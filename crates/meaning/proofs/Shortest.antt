@@ -7,12 +7,14 @@ use mathlib.Core.Path.{_≡_, refl, sym, ap, _∙_}
 use mathlib.Core.Bool.{Bool, true, false, _&&_}
 use mathlib.Core.List.{List, [], _∷_, _++_, append-assoc, append-nil}
 use lib.Dec.{leb, ltb, eqb, lit<}
-use lib.ListN.{length, take, drop, length-append}
+use lib.IntN.{ℤ, pos, natAbs}
+use lib.Signed.{ltZ}
+use lib.ListN.{length, take, drop, length-append, take-append-drop}
 use lib.Seq.{take-at, drop-at}
 use borrow.Author.Tests.{ltb-true, ltb-false, leb-true, leb-false, ne-eqb}
 use Rattle.meaning.specs.Bytes.{choose, digit, every}
 use Rattle.meaning.specs.Value.{digitsAfter, digitsValue}
-use Rattle.meaning.specs.Digits.{lastDigits, shortened, digitsOf, pointed}
+use Rattle.meaning.specs.Digits.{lastDigits, shortened, digitsOf, signOf, pointed}
 use Rattle.meaning.proofs.Cuts.{both}
 use Rattle.meaning.proofs.Digits.{last-length, short-most}
 use Rattle.meaning.proofs.Counts.{digit-range, digits-below, after-scale}
@@ -134,3 +136,32 @@ last-of (b ∷ s) h =
     let first : (x * 10 ^ k + digitsValue s) / 10 ^ k ≡ x = mul-add-div-right {m = 10 ^ k} (tens k) x (digitsValue s) ∙ rw (div-eq-of-lt {n = digitsValue s} {m = 10 ^ k} small) (omega arith) in
     let byte : 0x30 + x % 10 ≡ b = omega arith in
     last-front k (digitsAfter x s) ∙ rw (value, first, byte, last-above k x (digitsValue s), last-of s (r .1))
+
+-- ## Room
+
+pub sign-one : (v : ℤ) → length (signOf v) ≤ 1
+unfolding signOf choose
+sign-one v = go (ltZ v (pos 0))
+  where
+    go : (t : Bool) → length {A = ℕ} (choose t (0x2d ∷ []) []) ≤ 1
+    go true = omega arith
+    go false = omega arith
+
+-- with a point they are one byte more
+pub point-more : (d : ℕ) (s : List ℕ) → length (pointed (suc d) s) ≡ length s + 1
+unfolding pointed
+point-more d s =
+    length-append (take (length s - suc d) s) (0x2e ∷ drop (length s - suc d) s)
+    ∙ omega (arith, length-append (take (length s - suc d) s) (drop (length s - suc d) s), ap (λ (l : List ℕ). length l) (take-append-drop (length s - suc d) s))
+
+pointed-most : (d : ℕ) (s : List ℕ) → length (pointed d s) ≤ length s + 1
+unfolding pointed
+pointed-most zero s = omega arith
+pointed-most (suc d) s = omega (arith, point-more d s)
+
+-- a cell's value takes 21 bytes at most: a sign, 19 digits and a point
+pub bytes-most : (least d : ℕ) (v : ℤ) → length (signOf v ++ pointed d (digitsOf least (natAbs v))) ≤ 21
+unfolding digitsOf
+bytes-most least d v =
+    let n : ℕ = natAbs v in
+    omega (arith, length-append (signOf v) (pointed d (digitsOf least n)), sign-one v, pointed-most d (digitsOf least n), short-most least (lastDigits 19 n), last-length 19 n)

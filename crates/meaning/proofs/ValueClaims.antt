@@ -20,7 +20,7 @@ use Rattle.meaning.proofs.Cuts.{both}
 use Rattle.meaning.proofs.Digits.{every-append, last-digits, last-length, last-value, short-digits, short-value, short-least, parts-digits, no-sign, sign-pos, sign-neg, number-reads, leaf-reads}
 use Rattle.meaning.proofs.Dates.{date-reads}
 use Rattle.meaning.proofs.Counts.{digits-below}
-use Rattle.meaning.proofs.Shortest.{digits-count, digits-most, last-of}
+use Rattle.meaning.proofs.Shortest.{digits-count, digits-most, last-of, sign-one, point-more}
 
 -- ## What is written reads as the value
 
@@ -121,14 +121,6 @@ enumeration-shortest leaves n s e =
     rw (sign-pos n, ← v) (few 1 s (d .0) (d .1) (d .2))
 
 -- a sign takes one byte of the field, and only one below zero is written
-sign-one : (v : ℤ) → length (signOf v) ≤ 1
-unfolding signOf choose
-sign-one v = go (ltZ v (pos 0))
-  where
-    go : (t : Bool) → length {A = ℕ} (choose t (0x2d ∷ []) []) ≤ 1
-    go true = omega arith
-    go false = omega arith
-
 sign-none : (n : ℕ) → length (signOf (pos n)) ≡ 0
 sign-none n = rw (sign-pos n)
 
@@ -151,13 +143,6 @@ abs-signed s n = go (begins 0x2d s) n
     go true zero = refl
     go true (suc n) = refl
     go false n = refl
-
--- with a point they are one byte more
-point-more : (d : ℕ) (s : List ℕ) → length (pointed (suc d) s) ≡ length s + 1
-unfolding pointed
-point-more d s =
-    length-append (take (length s - suc d) s) (0x2e ∷ drop (length s - suc d) s)
-    ∙ omega (arith, length-append (take (length s - suc d) s) (drop (length s - suc d) s), ap (λ (l : List ℕ). length l) (take-append-drop (length s - suc d) s))
 
 number-few : (d : ℕ) (u : List ℕ) → isNumber d u ≡ true → length (pointed d (digitsOf (d + 1) (digitsValue (numberDigits d u)))) ≤ length u
 unfolding isNumber numberDigits pointed
