@@ -75,6 +75,7 @@ module _ (b : List ℕ) (m : Model) (at k t : ℕ) (s : Standing b m at k t) whe
       gone rs h false e q l =
           let f : checkRecords (s .before) (s .seen) (finish at) (good m) ≡ good m = sym (ap (λ (r : Records). checkRecords (s .before) (s .seen) r (good m)) (sym q ∙ finish-at b at (ltb-false at (length b) e))) ∙ h in
           s .isOpen (eqb-true (s .before) 6 (not-false _ (passed _ at _ m f .0)))
+
       go : (x : Bool) → leb (nextAt b at) (length b) ≡ x → nextAt b at ≤ length b
       go true e = leb-true _ _ e
       go false e = absurd (gone (recordsAt b at) (s .checked) (ltb at (length b)) refl refl (leb-false _ _ e))
@@ -363,3 +364,20 @@ module _ (b : List ℕ) (m : Model) (h : checkModel b ≡ good m) where
   pub good-name : m .name ≡ payloadAt b (nextAt b 0)
   unfolding modelOf nameOf
   good-name = sym (ap (λ (x : Model). x .name) model-of) ∙ rw second-entry
+
+  -- the three bytes, in the transfer record's payload
+  pub payload-blank : m .blank ≡ byteAt (payloadAt b 0) 0
+  unfolding modelOf
+  payload-blank = sym (ap (λ (x : Model). x .blank) model-of)
+
+  pub payload-undefined : m .undefined ≡ byteAt (payloadAt b 0) 1
+  unfolding modelOf
+  payload-undefined = sym (ap (λ (x : Model). x .undefined) model-of)
+
+  pub payload-mark : m .mark ≡ byteAt (payloadAt b 0) 2
+  unfolding modelOf
+  payload-mark = sym (ap (λ (x : Model). x .mark) model-of)
+
+  pub name-keeps : isName 63 (payloadAt b (nextAt b 0)) ≡ true
+  unfolding keeps choose
+  name-keeps = rw second-kind at (stands-keeps b m (nextAt b 0) 0 0 stands-second)
