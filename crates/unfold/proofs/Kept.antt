@@ -10,7 +10,7 @@ use lib.Seq.{length-take-le}
 use lib.Dec.{ltb}
 use borrow.Author.Tests.{ltb-true, ltb-false}
 use Rattle.meaning.specs.Unfold.{lines, physical, next, unfoldLines, unfoldFile}
-use Rattle.meaning.specs.Table.{textRefused, textUnfolded}
+use Rattle.meaning.specs.Answer.{textRefused, textUnfolded}
 use Rattle.unfold.specs.Step.{Parted, Refused}
 use Rattle.unfold.specs.Turn.{overfull, Put, Finished, Ready, Ended}
 use Rattle.unfold.specs.declared.Answer.{Answer}

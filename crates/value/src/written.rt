@@ -9,7 +9,7 @@ ghost use Rattle.meaning.specs.Digits.{lastDigits, digitsOf, signOf, pointed, n
 ghost use Rattle.value.specs.Written.{pointSize, valueBytes};
 
 // The value without its sign; -2^63 has one too.
-fn magnitude(v: i64) -> u64
+pub fn magnitude(v: i64) -> u64
     ensures { λ r. ⌜ r ≡ natAbs v ⌝ }
 {
     if v < 0 {

@@ -1,0 +1,6 @@
+pub mod Meant
+pub mod Names
+pub mod Attributes
+pub mod Records
+pub mod References
+pub mod Walk
