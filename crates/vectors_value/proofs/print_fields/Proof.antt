@@ -4,7 +4,7 @@ use mathlib.Core.Path.{subst}
 use mathlib.Core.List.{List}
 use native.Mathlib.Omega.{arith}
 use borrow.Author.Needs.{needs}
-use lib.ListN.{length, drop, length-drop}
+use lib.ListN.{length, length-drop}
 use Rattle.text.specs.Fields.{NextField}
 use Rattle.text.proofs.Fill.{to-end}
 use Rattle.vectors_value.proofs.print_fields.Statement.{statement}
