@@ -1,17 +1,17 @@
 -- Digits as counts: how large a value so many digits have, and its parts. Assumes nothing.
-use Prim.Native.Nat.{ℕ, zero, suc, _+_, _*_, _-_, _/_, _%_, _≤_, _<_, _^_}
+use Prim.Native.Nat.{ℕ, suc, _+_, _*_, _-_, _/_, _%_, _≤_, _<_, _^_}
 use native.Mathlib.Numerals.{add-one}
 use native.Mathlib.Nat.{pow-suc, pow-le-pow-right, add-zero, add-mul, mul-assoc, mul-comm}
 use native.Mathlib.Omega.{arith}
 use mathlib.Core.Path.{_≡_, refl, sym, ap, _∙_}
-use mathlib.Core.Bool.{Bool, true, false, _&&_}
+use mathlib.Core.Bool.{true}
 use mathlib.Core.List.{List, [], _∷_, _++_}
-use lib.Dec.{leb, ltb, lit<}
+use lib.Dec.{leb, lit<}
 use lib.ListN.{length, take, drop, take-append-drop, length-drop}
 use lib.Seq.{length-take-le, drop-drop}
-use borrow.Author.Tests.{leb-true, ltb-true, ltb-false, le-leb, lt-leb}
+use borrow.Author.Tests.{leb-true}
 use Rattle.meaning.specs.Bytes.{digit, every}
-use Rattle.meaning.specs.Value.{digitsAfter, digitsValue, isDigits}
+use Rattle.meaning.specs.Value.{digitsAfter, digitsValue}
 use Rattle.meaning.proofs.Cuts.{both}
 use Rattle.meaning.proofs.Digits.{after-append, every-take, every-drop}
 

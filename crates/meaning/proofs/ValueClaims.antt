@@ -1,20 +1,17 @@
 -- The claims of specs/ValueClaims.antt. Assumes nothing.
-use Prim.Native.Nat.{ℕ, zero, suc, _+_, _*_, _-_, _/_, _%_, _^_, _≤_, _<_}
+use Prim.Native.Nat.{ℕ, zero, suc, _+_, _-_, _^_, _≤_, _<_}
 use native.Mathlib.Nat.{zero-add}
 use native.Mathlib.Omega.{arith}
 use mathlib.Core.Path.{_≡_, refl, sym, ap, _∙_}
-use mathlib.Core.Bool.{Bool, true, false, not, _&&_, _||_, false≢true, true≢false}
+use mathlib.Core.Bool.{Bool, true, false, not, _&&_, _||_}
 use mathlib.Core.List.{List, [], _∷_, _++_}
 use lib.Dec.{eqb, leb, ltb}
 use lib.IntN.{ℤ, pos, negsuc, negℤ, natAbs}
-use lib.Signed.{ltZ}
 use lib.ListN.{length, take, drop, getD, length-append, length-take, length-drop, take-append-drop}
-use borrow.Author.Tests.{leb-true, eqb-true, not-false, le-ltb}
+use borrow.Author.Tests.{leb-true}
 use Rattle.meaning.specs.Bytes.{choose, refuse, digit, every, begins}
-use Rattle.meaning.specs.Model.{Component}
-use Rattle.meaning.specs.Check.{goodComponent}
-use Rattle.meaning.specs.Value.{Value, pair, wrong, digitsAfter, digitsValue, isDigits, unsigned, signed, wholeSize, isNumber, numberDigits, within, numberOf, isDay, dateOf, enumerationOf}
-use Rattle.meaning.specs.Digits.{lastDigits, shortened, digitsOf, signOf, pointed, numberBytes, dateBytes}
+use Rattle.meaning.specs.Value.{Value, pair, wrong, digitsValue, isDigits, unsigned, signed, isNumber, numberDigits, within, numberOf, isDay, dateOf, enumerationOf}
+use Rattle.meaning.specs.Digits.{lastDigits, digitsOf, signOf, pointed, numberBytes, dateBytes}
 use Rattle.meaning.specs.ValueClaims.{NumberReads, EnumerationReads, DateReads, NumberBytesDiffer, DateBytesDiffer, NumberShortest, EnumerationShortest, DateOnly}
 use Rattle.meaning.proofs.Cuts.{both}
 use Rattle.meaning.proofs.Digits.{every-append, last-digits, last-length, last-value, short-digits, short-value, short-least, parts-digits, no-sign, sign-pos, sign-neg, number-reads, leaf-reads}

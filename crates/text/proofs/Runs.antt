@@ -3,13 +3,13 @@ use Prim.Native.Nat.{ℕ, zero, suc, _+_, _≤_, _<_}
 use native.Mathlib.Numerals.{add-one}
 use native.Mathlib.Nat.{add-assoc, add-zero}
 use native.Mathlib.Omega.{arith}
-use mathlib.Core.Path.{_≡_, refl, sym, ap, _∙_}
-use mathlib.Core.Bool.{Bool, true, false, not, false≢true}
-use mathlib.Core.List.{List, [], _∷_, _++_}
+use mathlib.Core.Path.{_≡_, refl, _∙_}
+use mathlib.Core.Bool.{true, false, false≢true}
+use mathlib.Core.List.{List, [], _∷_}
 use lib.ListN.{length, take, drop, getD, length-drop, take-append-drop, drop-of-length-le}
 use lib.Seq.{take-suc, length-take-le, drop-length, drop-drop}
 use Rattle.meaning.specs.Bytes.{separator, every}
-use Rattle.meaning.specs.Field.{Field, goesOn, addToFields, fieldsOf}
+use Rattle.meaning.specs.Field.{goesOn, addToFields, fieldsOf}
 use Rattle.meaning.proofs.Digits.{every-append}
 use Rattle.meaning.proofs.Fields.{solid, one-field}
 use Rattle.text.specs.Fields.{FirstField}

@@ -1,15 +1,13 @@
 -- Shapes: what digits read, and where they were too few or too many, say of a field. Assumes nothing.
-use Prim.Native.Nat.{ℕ, zero, suc, _+_, _*_, _-_, _/_, _%_, _≤_, _<_, _^_}
-use native.Mathlib.Numerals.{add-one}
+use Prim.Native.Nat.{ℕ, zero, suc, _+_, _-_, _/_, _%_, _≤_, _<_, _^_}
 use native.Mathlib.Omega.{arith}
-use mathlib.Core.Path.{_≡_, refl, sym, ap, _∙_, subst}
-use mathlib.Core.Bool.{Bool, true, false, not, _&&_, false≢true, true≢false}
-use mathlib.Core.List.{List, [], _∷_, _++_}
+use mathlib.Core.Path.{_≡_, refl, _∙_}
+use mathlib.Core.Bool.{Bool, true, false, _&&_}
+use mathlib.Core.List.{List, _++_}
 use lib.Dec.{leb, ltb, eqb}
 use lib.IntN.{ℤ, pos, negℤ}
 use lib.ListN.{length, take, drop, getD, length-take, length-drop, length-append}
-use mathlib.Core.Logic.{_⊎_, inl, inr}
-use borrow.Author.Tests.{le-leb, lt-leb, eq-eqb, ne-eqb, leb-true, ltb-true, ltb-false}
+use borrow.Author.Tests.{le-leb, lt-leb, ne-eqb, leb-true, ltb-true, ltb-false}
 use Rattle.meaning.specs.Bytes.{choose, refuse, digit, every, begins}
 use Rattle.meaning.specs.Value.{digitsAfter, digitsValue, isDigits, unsigned, signed, isNumber, numberDigits, within, numberOf, isDay, dateOf, wrong}
 use Rattle.meaning.specs.Model.{Component}
@@ -19,7 +17,6 @@ use Rattle.text.proofs.Scan.{and-false}
 use Rattle.value.specs.Meant.{Reads, judged}
 use Rattle.meaning.proofs.Counts.{below-18, date-year, date-month, date-day}
 use Rattle.value.specs.declared.digits.Found.{Found}
-use Rattle.value.specs.declared.digits.Found.the-variants.{Number, Others}
 
 -- ## So many digits
 

@@ -1,8 +1,7 @@
 // Dates and enumerations.
 ghost use mathlib.Core.Path.{_≡_};
-ghost use mathlib.Core.Bool.{_&&_};
-ghost use Prim.Native.Nat.{ℕ, _<_, _^_, _/_, _%_};
-ghost use lib.Dec.{leb, ltb};
+ghost use Prim.Native.Nat.{_<_, _^_, _/_, _%_};
+ghost use lib.Dec.{ltb};
 ghost use lib.IntN.{pos};
 ghost use Rattle.meaning.specs.Value.{isDay, dateOf, enumerationOf};
 ghost use Rattle.value.specs.Meant.{judged, valueMeant};

@@ -1,6 +1,5 @@
 // Digits: their value, in one pass.
-ghost use mathlib.Core.Path.{_≡_};
-ghost use Prim.Native.Nat.{ℕ, _+_, _≤_, _<_, _^_};
+ghost use Prim.Native.Nat.{_+_, _≤_, _<_, _^_};
 ghost use lib.ListN.{length};
 ghost use Rattle.meaning.specs.Bytes.{digit, every};
 ghost use Rattle.meaning.specs.Value.{digitsAfter, digitsValue, isDigits};

@@ -1,8 +1,7 @@
 // Numbers: sign, digits and point to a scaled value, and its bounds.
 ghost use mathlib.Core.Path.{_≡_};
-ghost use mathlib.Core.Bool.{_||_};
-ghost use Prim.Native.Nat.{ℕ, _+_, _≤_, _<_, _^_};
-ghost use lib.IntN.{ℤ, pos, negℤ};
+ghost use Prim.Native.Nat.{_+_, _≤_, _<_, _^_};
+ghost use lib.IntN.{pos, negℤ};
 ghost use lib.ListN.{length, drop};
 ghost use Rattle.meaning.specs.Bytes.{choose, begins};
 ghost use Rattle.meaning.specs.Value.{digitsValue, unsigned, isNumber, numberDigits, within, numberOf};

@@ -1,13 +1,11 @@
 -- `text::fields::field_size` meets its contract: the bytes so far are no separators. Assumes nothing.
-use Prim.Native.Nat.{ℕ, _+_, _-_, _≤_, _<_}
-use mathlib.Core.Path.{_≡_, refl, sym, _∙_}
-use mathlib.Core.Bool.{true, false}
+use Prim.Native.Nat.{_-_, _≤_, _<_}
+use mathlib.Core.Path.{_≡_, sym, _∙_}
+use mathlib.Core.Bool.{true}
 use native.Mathlib.Omega.{arith}
 use borrow.Author.Needs.{needs}
-use borrow.Author.Tests.{not-true, not-false}
-use lib.ListN.{length, take, drop, getD}
-use Rattle.meaning.specs.Bytes.{separator, every}
-use Rattle.meaning.specs.Field.{goesOn, fieldsOf}
+use lib.ListN.{length, take}
+use Rattle.meaning.specs.Bytes.{every}
 use Rattle.meaning.proofs.Fields.{solid}
 use Rattle.text.proofs.Runs.{first-byte, run-next, run-field, stops-at, stops-behind}
 use Rattle.text.proofs.fields.field_size.Statement.{statement}

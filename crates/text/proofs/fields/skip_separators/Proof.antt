@@ -1,13 +1,11 @@
 -- `text::fields::skip_separators` meets its contract: the fields are those of the rest behind the separators. Assumes nothing.
-use Prim.Native.Nat.{ℕ, _+_, _-_, _≤_, _<_}
-use mathlib.Core.Path.{_≡_, refl, sym, _∙_}
-use mathlib.Core.Bool.{true, false}
+use Prim.Native.Nat.{ℕ, _+_, _-_, _≤_}
+use mathlib.Core.Path.{_≡_, sym, _∙_}
 use native.Mathlib.Omega.{arith}
 use borrow.Author.Needs.{needs}
 use borrow.Author.Tests.{not-true, not-false}
-use lib.ListN.{length, take, drop, getD}
-use Rattle.meaning.specs.Bytes.{separator, every}
-use Rattle.meaning.specs.Field.{goesOn, fieldsOf}
+use lib.ListN.{length, drop}
+use Rattle.meaning.specs.Field.{fieldsOf}
 use Rattle.text.proofs.Runs.{skip-none, skip-next, goes-on}
 use Rattle.text.proofs.fields.skip_separators.Statement.{statement}
 use Rattle.text.proofs.fields.skip_separators.Tie as tie

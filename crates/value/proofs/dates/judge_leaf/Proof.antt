@@ -1,5 +1,4 @@
 -- `value::dates::judge_leaf` meets its contract. Assumes nothing.
-use Prim.Native.Nat.{ℕ, _^_, _<_}
 use native.Mathlib.Omega.{arith}
 use borrow.Author.Needs.{needs}
 use borrow.Author.Tests.{lt-ltb, le-ltb}

@@ -1,14 +1,14 @@
 -- `value::numbers::read_pointed` meets its contract. Assumes nothing.
-use Prim.Native.Nat.{ℕ, _+_, _-_}
-use mathlib.Core.Path.{_≡_, sym, _∙_, subst}
+use Prim.Native.Nat.{ℕ, _+_}
+use mathlib.Core.Path.{_≡_, sym, subst}
 use mathlib.Core.List.{List}
 use native.Mathlib.Nat.{zero-add}
 use native.Mathlib.Omega.{arith}
 use borrow.Author.Needs.{needs}
-use lib.ListN.{length, take, drop, length-drop}
+use lib.ListN.{length, take, length-drop}
 use lib.Seq.{length-take-le}
 use Rattle.meaning.specs.Bytes.{digit, every}
-use Rattle.meaning.specs.Value.{digitsAfter, digitsValue}
+use Rattle.meaning.specs.Value.{digitsValue}
 use Rattle.meaning.proofs.Counts.{digits-below}
 use Rattle.text.proofs.Fill.{to-end}
 use Rattle.value.specs.Meant.{Reads}

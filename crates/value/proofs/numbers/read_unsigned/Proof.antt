@@ -1,5 +1,4 @@
 -- `value::numbers::read_unsigned` meets its contract. Assumes nothing.
-use native.Mathlib.Omega.{arith}
 use borrow.Author.Needs.{needs}
 use Rattle.meaning.specs.Value.{isNumber, numberDigits}
 use Rattle.value.proofs.numbers.read_unsigned.Statement.{statement}

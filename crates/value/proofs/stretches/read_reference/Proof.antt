@@ -1,5 +1,5 @@
 -- `value::stretches::read_reference` meets its contract. Assumes nothing.
-use mathlib.Core.Path.{_≡_, sym, _∙_}
+use mathlib.Core.Path.{sym, _∙_}
 use borrow.Author.Needs.{needs}
 use Rattle.meaning.specs.Bytes.{refuse}
 use Rattle.meaning.specs.Value.{referenceOf}

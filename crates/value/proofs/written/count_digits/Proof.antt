@@ -1,10 +1,8 @@
 -- `value::written::count_digits` meets its contract: what is left of n behind `size` digits. Assumes nothing.
-use Prim.Native.Nat.{ℕ, suc, _+_, _-_, _/_, _≤_, _<_, _^_}
+use Prim.Native.Nat.{ℕ, _/_, _≤_, _<_, _^_}
 use mathlib.Core.Path.{_≡_, refl, sym, _∙_}
-use mathlib.Core.Bool.{Bool, true, false}
 use native.Mathlib.Numerals.{add-one}
 use native.Mathlib.Omega.{arith}
-use borrow.Author.Needs.{needs}
 use Rattle.meaning.proofs.Shortest.{tens-div, none-left, some-left, tens-rise, tens-below, digits-count}
 use Rattle.value.proofs.Stores.{count-next}
 use Rattle.value.proofs.written.count_digits.Statement.{statement}

@@ -1,17 +1,16 @@
 -- `value::written::put_value` meets its contract. Assumes nothing.
-use Prim.Native.Nat.{ℕ, _+_, _^_, _≤_, _<_}
-use mathlib.Core.Path.{_≡_, sym, _∙_, ap}
+use Prim.Native.Nat.{ℕ, _+_, _≤_}
+use mathlib.Core.Path.{_≡_, _∙_, ap}
 use mathlib.Core.List.{List}
 use native.Mathlib.Omega.{arith}
 use borrow.Author.Needs.{needs}
-use lib.IntN.{ℤ, natAbs}
+use lib.IntN.{natAbs}
 use lib.ListN.{length}
-use lib.Seq.{sets, length-sets}
+use lib.Seq.{length-sets}
 use mir.Syntax.{w64}
 use mir.ValLaws.{toZ-ofZ}
 use Rattle.meaning.specs.Digits.{signOf}
 use Rattle.meaning.proofs.Shortest.{sign-one}
-use Rattle.value.specs.Written.{pointSize}
 use Rattle.value.proofs.Signs.{abs-mag}
 use Rattle.value.proofs.Stores.{point-most, value-put}
 use Rattle.value.proofs.written.put_value.Statement.{statement}
