@@ -972,6 +972,25 @@ def agrees(call, got, expected):
     return got == expected or (not expected.endswith("\n") and got.split("\n")[0] == expected)
 
 
+def reads_as(model, file, lent, width):
+    """Whether a written file reads as the table (starts aside), and its table is written as that file again."""
+    m = o.decode(model)
+    again = lent_of(model, file)
+    counts = ("objects", "cells_used", "points_used")
+    if any(getattr(again, n) != getattr(lent, n) for n in counts) or again.rows != lent.rows[:lent.objects]:
+        return False
+    cells, points = lent.cells[:lent.cells_used], lent.points[:4 * lent.points_used]
+    if o.without_starts(m, again.rows, again.cells) != o.without_starts(m, again.rows, cells):
+        return False
+    if again.points != points or again.marks != lent.marks[:len(again.marks)]:
+        return False
+    texts = [[bytes(t.text[c[r + 1]:c[r + 1] + c[r + 2]]) for r in again.rows]
+             for t, c in ((again, again.cells), (lent, cells))]
+    if texts[0] != texts[1] or any(len(line) > width for line in file.split(b"\n")):
+        return False
+    return o.write(model, again, width, len(file)) == ((0, len(file), 0, 0), list(file))
+
+
 KNOWN_CUTS = [
     # (line, width, physical lines): G2, G3 and the line that just fits
     (b"OBJE a b\\", 16, [b"OBJE a b\\\\", b"CONT "]),
@@ -999,6 +1018,9 @@ def main():
         if not agrees(call, got, expected):
             wrong += 1
             print("%s: expected %s, got %s" % (name, expected, got.answer if call == "read" else got))
+        if call == "write" and expected == 0 and not reads_as(arguments[0], bytes(got[1][:got[0][1]]), *arguments[1:3]):
+            wrong += 1
+            print("%s: what is written does not read as the table" % name)
         count["known " + call] = count.get("known " + call, 0) + 1
     for name, data, expected in large_listing_readings():
         if not agrees("listing", o.listing(data), expected):
@@ -1006,7 +1028,12 @@ def main():
             print("%s: expected %s, got %s" % (name, expected, o.listing(data)[:40]))
         count["known large"] = count.get("known large", 0) + 1
     for name, call, arguments in generated():
-        answer(call, arguments)
+        got = answer(call, arguments)
+        if call == "write" and got[0][0] == 0:
+            count["written and read again"] = count.get("written and read again", 0) + 1
+            if not reads_as(arguments[0], bytes(got[1][:got[0][1]]), arguments[1], arguments[2]):
+                wrong += 1
+                print("%s: what is written does not read as the table" % name)
         count["generated " + call] = count.get("generated " + call, 0) + 1
     for key in sorted(count):
         print(key, count[key])
