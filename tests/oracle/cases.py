@@ -907,6 +907,213 @@ def damaged_tables(rng):
             yield "%s, text changed %d" % (name, n), model, changed, rng.choice((16, 17, 20, 65535)), 700
 
 
+RANDOM_MODELS = 200
+
+
+# ---- Random models and files of their grammar -----------------------------------------------------------------
+
+NAME_BYTES = b"abcXYZ019_"
+VALUE_BYTES = b"!#$%&'()*+,-./019:;<=>?AZaz[]^_`{|}~@\\\xc0\xd6\xd8\xf6\xf8\xff"
+
+
+def random_name(rng, longest):
+    size = rng.choice((1, 1, 2, 3, 5, longest))
+    return bytes([rng.choice(b"ABCxyz")] + [rng.choice(NAME_BYTES) for _ in range(size - 1)])
+
+
+def unique_names(rng, count, longest):
+    names = []
+    while len(names) < count:
+        name = random_name(rng, longest)
+        if name not in names:
+            names.append(name)
+    return names
+
+
+def random_component(rng):
+    decimals = rng.choice((0, 0, 1, 2, 3, 9))
+    least = rng.choice((0, -5, -100, -10 ** 18 + 1, 7, rng.randrange(-10 ** 6, 10 ** 6)))
+    return decimals, least, least + rng.choice((0, 1, 99, 10 ** 6))
+
+
+def random_attribute(rng, name, first_table, tables):
+    optional = rng.randrange(2)
+    kind = rng.randrange(1, 9)
+    if kind == o.REFERENCE:
+        return o.reference(name, first_table + rng.randrange(tables), optional)
+    if kind in (o.COORDINATE2, o.COORDINATE3):
+        return o.coordinate(name, [random_component(rng) for _ in range(kind)], optional)
+    if kind == o.NUMBER:
+        return o.number(name, random_component(rng), optional)
+    if kind == o.TEXT:
+        return o.text(name, rng.choice((1, 2, 5, 40)), optional)
+    if kind == o.DATE:
+        return o.date(name, optional)
+    if kind == o.ENUMERATION:
+        return o.enumeration(name, rng.choice((1, 3, 12, 65535)), optional)
+    return o.line(name, rng.choice((1, 2, 3)), [random_component(rng) for _ in range(rng.choice((2, 3)))], optional)
+
+
+def random_model(rng):
+    special = rng.choice((b"_@\\", b"_@\\", b"_@\\", b"!#$", b"\"~*", b"@_&"))
+    out = o.transfer(random_name(rng, 63), special) + o.model_record(random_name(rng, 63))
+    first_table = 0
+    for topic in unique_names(rng, rng.choice((1, 1, 2, 3)), 24):
+        out += o.topic(topic)
+        tables = rng.choice((1, 2, 3))
+        for table in unique_names(rng, tables, 24):
+            out += o.table(table, rng.randrange(2))
+            for name in unique_names(rng, rng.choice((1, 2, 3, 4)), 24):
+                out += random_attribute(rng, name, first_table, tables)
+        first_table += tables
+    return out + o.end()
+
+
+def random_value(rng, m, longest):
+    while True:
+        value = bytes(rng.choice(VALUE_BYTES) for _ in range(rng.choice((1, 1, 2, 3, longest))))[:longest]
+        if value not in (bytes([m.undefined]), bytes([m.undefined]) * 2):
+            return value
+
+
+def random_number(rng, c):
+    value = rng.choice((c.least, c.greatest, rng.randrange(c.least, c.greatest + 1)))
+    digits = o.number_digits(c.decimals, value)
+    if value >= 0 and rng.random() < 0.2 and len(digits) < 15:
+        digits = rng.choice((b"+", b"+0", b"0", b"000")) + digits
+    return digits
+
+
+def random_field(rng, m, a, c, identifications):
+    if a.kind in (o.COORDINATE2, o.COORDINATE3, o.NUMBER):
+        return random_number(rng, a.components[c])
+    if a.kind == o.DATE:
+        return b"%04d%02d%02d" % (rng.randrange(10000), rng.randrange(1, 13), rng.randrange(1, 32))
+    if a.kind == o.ENUMERATION:
+        return b"%d" % rng.choice((0, a.leaves - 1, rng.randrange(a.leaves)))
+    if a.kind == o.TEXT:
+        return random_value(rng, m, a.longest)
+    return rng.choice(identifications[a.table])
+
+
+def random_points(rng, a):
+    def point(code):
+        return b" ".join([code] + [random_number(rng, c) for c in a.components])
+    if a.optional and rng.random() < 0.4:
+        return [b"ELIN"]
+    lines = [point(b"STPT")]
+    for _ in range(rng.choice((1, 2, 3))):
+        if a.forms == 2 or (a.forms == 3 and rng.random() < 0.5):
+            lines.append(point(b"ARCP"))
+        lines.append(point(b"LIPT"))
+    return lines + [b"ELIN"]
+
+
+def random_object(rng, m, table, identification, identifications):
+    fields, lines = [b"OBJE", identification], []
+    last = 1                                       # the last field that is not undefined
+    for a in table.attributes:
+        if a.kind == o.LINE:
+            lines += random_points(rng, a)
+        elif a.optional and (rng.random() < 0.4 or (a.kind == o.REFERENCE and not identifications[a.table])):
+            fields += [bytes([m.undefined])] * a.fields()
+        else:
+            fields += [random_field(rng, m, a, c, identifications) for c in range(a.fields())]
+            last = len(fields) - 1
+    if last + 1 < len(fields) and rng.random() < 0.5:
+        fields[rng.randrange(last + 1, len(fields)):] = [bytes([m.undefined]) * 2]
+    separator = rng.choice((b" ", b" ", b" ", b"  ", b"\t"))
+    return [separator.join(fields)] + lines
+
+
+def random_lines(rng, m):
+    """Lines of a file that reading has to accept."""
+    delivered = [t for t in range(len(m.topics)) if rng.random() < 0.8]
+    tables = [n for n, t in enumerate(m.tables)
+              if t.topic in delivered and (not t.optional or rng.random() < 0.7)]
+    identifications, used = {n: [] for n in range(len(m.tables))}, set()
+    for n in tables:
+        for _ in range(rng.choice((0, 1, 1, 2, 3))):
+            name = random_value(rng, m, 6)
+            if name not in used:
+                used.add(name)
+                identifications[n].append(name)
+    changed = True
+    while changed:                                 # no object whose mandatory reference has nothing to name
+        changed = False
+        for n in tables:
+            if identifications[n] and any(a.kind == o.REFERENCE and not a.optional and not identifications[a.table]
+                                          for a in m.tables[n].attributes):
+                identifications[n], changed = [], True
+    lines = [b"SCNT"] + rng.choice(([], [b""], [b"a description", b" ////"], [b"TOPI x"]))
+    lines += [b"////", b"MTID " + m.transfer, b"MODL " + m.name]
+    for t in delivered:
+        lines.append(b"TOPI " + m.topics[t] + (b"x" if len(m.topics[t]) == 24 and rng.random() < 0.5 else b""))
+        for n in tables:
+            if m.tables[n].topic == t:
+                lines.append(b"TABL " + m.tables[n].name)
+                for identification in identifications[n]:
+                    lines += random_object(rng, m, m.tables[n], identification, identifications)
+                lines.append(b"ETAB")
+        lines.append(b"ETOP")
+    return lines + [b"EMOD", b"ENDE"]
+
+
+def random_damage(rng, file, special):
+    file = bytearray(file)
+    for _ in range(rng.choice((1, 1, 2))):
+        place = rng.randrange(len(file))
+        how = rng.randrange(4)
+        if how == 0:
+            file[place] = rng.choice(special + b" \t\r\n0159.+-AEx\x00\x80\xa0\xd7")
+        elif how == 1:
+            file.insert(place, rng.choice(special + b" \t\n09.@"))
+        elif how == 2:
+            del file[place]
+        else:
+            lines = bytes(file).split(b"\n")
+            at = rng.randrange(len(lines))
+            lines[at:at + 1] = rng.choice(([], [lines[at]] * 2, [lines[at] + b" " + special[1:2]],
+                                           [special[1:2].join(lines[at].rsplit(b" ", 1))],
+                                           [b" ".join(lines[at].split(b" ")[:-1] + [special[1:2] * 2])]))
+            file = bytearray(b"\n".join(lines))
+    return bytes(file)
+
+
+def random_cases(rng, count):
+    """Random models, each with a good file, cuts and damages of it, and its table written whole and damaged."""
+    for n in range(count):
+        model = random_model(rng)
+        m = o.decode(model)
+        special = bytes([m.blank, m.undefined, m.mark])
+        lines = random_lines(rng, m)
+        file = cut(rng, bytes([m.mark]), lines, rng.choice((0, 0.2)), rng.choice((0, 0.3)))
+        r = o.read(model, file, o.LISTING_ROOMS)
+        assert r.answer[0] == 0, (r.answer, file)
+        yield "random %d" % n, "listing", (model + file,)
+        for k in range(3):
+            yield "random %d damaged %d" % (n, k), "listing", (model + random_damage(rng, file, special),)
+        rooms_ = o.Rooms(len(file), len(m.topics) + len(m.tables), max(r.answer[1] - rng.randrange(2), 0),
+                         max(r.answer[2] - rng.randrange(2), 0), max(4 * r.answer[3] - rng.randrange(2), 0))
+        yield "random %d with rooms" % n, "read", (model, file, rooms_)
+        t = lent_of(model, file)
+        yield "random %d written" % n, "write", (model, t, rng.choice((16, 17, 20, 33, 80, 65535)), 3000)
+        for k in range(2):
+            changed = t.copy()
+            which = rng.choice([w for w in ("cells", "cells", "rows", "points", "marks", "text") if getattr(t, w)])
+            values = getattr(changed, which)
+            at = rng.randrange(len(values))
+            choices = [0, 1, 2, values[at] + 1, max(values[at] - 1, 0), rng.choice(values)]
+            if which in ("cells", "points"):
+                choices += [-1, -values[at], values[at] - 1]
+            elif which == "text":
+                choices = list(b" @x\\") + list(special)
+            values[at] = rng.choice(choices) % (256 if which in ("text", "marks") else 2 ** 64)
+            if which in ("cells", "points") and values[at] >= 2 ** 63:
+                values[at] -= 2 ** 64
+            yield "random %d changed %d" % (n, k), "write", (model, changed, rng.choice((16, 20, 65535)), 3000)
+
+
 def known():
     """Every case whose answer the documents give: (name, call, arguments, answer)."""
     for name, model, file, answer in model_readings():
@@ -944,6 +1151,7 @@ def generated():
             yield name, "unfold", (model, file, room)
     for name, model, lent, width, room in damaged_tables(rng):
         yield name, "write", (model, lent, width, room)
+    yield from random_cases(random.Random(2026), RANDOM_MODELS)
 
 
 def large():
