@@ -1,6 +1,6 @@
 """Cases to compare with document 01's calls: each reading of 01 with its answer, 01's own sample and neighbours, and
 generated ones. Always the same cases in the same order. `python3 cases.py` checks the oracle against every answer that
-is known from the documents and counts the cases.
+is known from the documents and counts the cases; with --huge those of 16,777,216 bytes too.
 
 A case is a tuple of its name, its call and that call's arguments:
     ("listing", input)                  ("check", model)                 ("unfold", model, file, room)
@@ -8,6 +8,7 @@ A case is a tuple of its name, its call and that call's arguments:
 """
 
 import random
+import sys
 
 import oracle as o
 
@@ -381,6 +382,19 @@ def large_listing_readings():
     yield "D23 without it", one(Y) + frame(*(objects + [b"OBJE b x"])), "16 1031 0 0"
     yield "D23 1,024 objects", one(Y) + frame(*objects), "0 1024 5120 0"
     wide = one(*[o.date(b"D%d" % n, 1) for n in range(64)])
+    sized = head() + o.topic(b"N") + b"".join(
+        o.table(name, 1) + b"".join(o.date(b"D%d" % n, 1) for n in range(count))
+        for name, count in ((b"A", 64), (b"B", 1), (b"C", 31), (b"D", 34))) + o.end()
+
+    def sized_file(*counts):
+        lines = []
+        for table, count in zip((b"A", b"B", b"C", b"D"), counts):
+            lines += [b"TABL " + table] + [b"OBJE %s%d @@" % (table, n) for n in range(count)] + [b"ETAB"]
+        return file_of([b"SCNT", b"////", b"MTID T", b"MODL M", b"TOPI N"] + lines + [b"ETOP", b"EMOD", b"ENDE"])
+    yield "8,192 cells", sized + sized_file(62, 1, 1, 0), "0 64 8192 0"
+    yield "8,193 cells", sized + sized_file(62, 0, 0, 1), "16 75 0 0"
+    full = b"".join(o.topic(b"N%d" % t) + b"".join(o.table(b"A%d" % n) + D for n in range(8)) for t in range(64))
+    yield "576 marks", head() + full + o.end() + NO_TOPICS_FILE, "0 0 0 0"
     yield "62 rows of 131 cells", wide + frame(*[b"OBJE a%d @@" % n for n in range(62)]), "0 62 8122 0"
     yield "no room for the 63rd", wide + frame(*[b"OBJE a%d @@" % n for n in range(63)]), "16 69 0 0"
     points = [b"OBJE a", b"STPT 1.0 1.0"] + [b"LIPT 2.0 2.0"] * 2047 + [b"ELIN"]
@@ -790,39 +804,70 @@ def model_borders():
     yield "nothing", b""
 
 
-def large_models():
-    """For compiled code only."""
-    for count in (63, 64, 65):
-        yield "%d topics" % count, many("topics", count)
-        yield "%d attributes" % count, many("attributes", count)
-    for count in (511, 512, 513):
-        yield "%d tables" % count, many("tables", count)
-    big = head() + b"".join(o.topic(b"N%d" % n) + o.table(b"A") + b"".join(o.coordinate(b"P%d" % c, [(0, 0, 0)] * 3)
-                                                                         for c in range(16)) for n in range(64))
-    for size in (65535, 65536, 65537):
-        rest = size - len(big) - 4
-        assert rest > 0
-        yield "a model of %d bytes" % size, (big + b"\x00" * rest)[:size - 4] + o.end()
-    full = head() + o.topic(b"N")
+def model_of_size(size):
+    """A good model of exactly so many bytes, 5,000 at least."""
+    out = head() + o.topic(b"N")
+    wide = [o.coordinate(b"P%02d" % n, [(0, 0, 0)] * 3) for n in range(63)]
+    table = 0
+    while size - len(out) > 2 * 60 * 64:
+        out += o.table(b"A%03d" % table) + b"".join(wide)
+        table += 1
+    out += o.table(b"B")
     n = 0
-    while len(full) < 65536 - 60 - 60 * 64:
-        full += o.table(b"A%03d" % n) + b"".join(o.coordinate(b"P%02d" % c, [(0, 0, 0)] * 3) for c in range(64))
+    while size - 4 - len(out) > 0:
+        left = size - 4 - len(out)
+        if n == 60:
+            out, n = out + o.table(b"C%d" % left), 0
+            continue
+        if left > 200:
+            out += o.coordinate(b"P%02d" % n, [(0, 0, 0)] * 3)
+        else:
+            record = left if left <= 30 else 30 if left >= 37 else left - 7
+            out += o.date((b"D%02d" % n + b"d" * 24)[:record - 6])
         n += 1
-    c = 0
-    full += o.table(b"B")
-    while 65536 - len(full) > 100:
-        full += o.coordinate(b"P%02d" % c, [(0, 0, 0)] * 3)
-        c += 1
-    rest = 65536 - 4 - len(full) - 4 - 1
-    for size in (65536, 65537):
-        left = size - 4 - len(full)
-        names = [b"t" * 20, b"u" * 20, b"v" * 20, b"w" * 20]
-        more = b""
-        for name in names:
-            if left - len(more) > 60:
-                more += o.date(name)
-        more += o.date(b"z" * (left - len(more) - 6))
-        yield "a good model of %d bytes" % size, full + more + o.end()
+    return out + o.end()
+
+
+def large_models():
+    """(name, model, answer): for compiled code only."""
+    for count in (63, 64):
+        yield "%d topics" % count, many("topics", count), (0, count, 0, 0)
+        yield "%d attributes" % count, many("attributes", count), (0, 1, 0, 0)
+    yield "65 topics", many("topics", 65), (2, len(many("topics", 64)) - 4, 0, 0)
+    yield "65 attributes", many("attributes", 65), (2, len(many("attributes", 64)) - 4, 0, 0)
+    for count in (511, 512):
+        yield "%d tables" % count, many("tables", count), (0, 1, 0, 0)
+    yield "513 tables", many("tables", 513), (2, len(many("tables", 512)) - 4, 0, 0)
+    for size in (65535, 65536):
+        yield "a good model of %d bytes" % size, model_of_size(size), (0, 1, 0, 0)
+        yield "one of %d bytes without its end" % size, model_of_size(size + 4)[:size], (2, size, 0, 0)
+    yield "a good model but for its 65537 bytes", model_of_size(65537), (2, 0, 0, 0)
+    yield "65537 bytes of nothing", b"\x00" * 65537, (2, 0, 0, 0)
+
+
+def huge():
+    """(name, call, arguments, first two numbers) at 16,777,216 bytes: for compiled code only."""
+    limit = o.FILE_LIMIT
+    begin, rest = SAMPLE_FILE[:5], SAMPLE_FILE[5:]
+    for size, answer in ((limit, (0, limit)), (limit + 1, (1, 0))):
+        file = begin + b"x" * (size - len(SAMPLE_FILE) - 1) + b"\n" + rest
+        yield "unfolding %d bytes" % size, "unfold", (SAMPLE_MODEL, file, size), answer
+        yield "unfolding %d bytes under a bad model" % size, "unfold", (b"", file, 0), (2, 0) if answer[0] == 0 else answer
+        yield ("reading %d bytes" % size, "read", (SAMPLE_MODEL, file, o.Rooms(size, 3, 2, 18, 12)),
+               (0, 2) if answer[0] == 0 else answer)
+    model = one(o.text(b"Y", 65535))
+    longest = 65535 - len(b"OBJE 000 ")                    # a line that just fits the width
+    frame_size = len(frame())
+    objects = (limit - frame_size) // 65536
+    last = limit - frame_size - 65536 * objects - len(b"OBJE 000 \n")
+    assert last > 0
+    for more, answer in ((0, (0, limit)), (1, (21, 0))):
+        sizes = [longest] * objects + [last + more]
+        names = b"".join(b"%03d" % n for n in range(objects + 1))
+        cells = [v for n, size in enumerate(sizes) for v in (0, 3 * n, 3, 1 + size, len(names))]
+        t = o.Lent(list(names + b"x" * longest), [1, 1], [5 * n for n in range(len(sizes))], cells, [], len(sizes),
+                   len(cells), 0)
+        yield "writing %d bytes" % (limit + more), "write", (model, t, 65535, limit + 1), answer
 
 
 def all_rooms():
@@ -1158,7 +1203,7 @@ def large():
     """Cases that only compiled code is asked."""
     for name, data, _ in large_listing_readings():
         yield name, "listing", (data,)
-    for name, model in large_models():
+    for name, model, _ in large_models():
         yield name, "check", (model,)
 
 
@@ -1235,6 +1280,19 @@ def main():
             wrong += 1
             print("%s: expected %s, got %s" % (name, expected, o.listing(data)[:40]))
         count["known large"] = count.get("known large", 0) + 1
+    for name, model, expected in large_models():
+        if o.check(model) != expected:
+            wrong += 1
+            print("%s: expected %s, got %s" % (name, expected, o.check(model)))
+        count["known large"] = count.get("known large", 0) + 1
+    if "--huge" in sys.argv:
+        for name, call, arguments, expected in huge():
+            got = answer(call, arguments)
+            numbers = (got.answer if call == "read" else got[0])[:2]
+            if numbers != expected:
+                wrong += 1
+                print("%s: expected %s, got %s" % (name, expected, numbers))
+            count["known huge"] = count.get("known huge", 0) + 1
     for name, call, arguments in generated():
         got = answer(call, arguments)
         if call == "write" and got[0][0] == 0:
