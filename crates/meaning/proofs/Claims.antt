@@ -7,9 +7,9 @@ use borrow.Author.Tests.{le-ltb}
 use Rattle.meaning.specs.Bytes.{refuse}
 use Rattle.meaning.specs.Unfold.{lines, fault, Unfolded, unfoldFile}
 use Rattle.meaning.specs.Check.{bad, good, Checked, checkModel}
-use Rattle.meaning.specs.Reading.{Rooms}
-use Rattle.meaning.specs.Table.{read, readChecked}
-use Rattle.meaning.specs.Claims.{CutUnfolds, UnfoldsCut, OnlyCut, OneCut, GoodMark, CutUnder, CutsReadAlike, WidthCuts}
+use Rattle.meaning.specs.Answer.{textChecked, unfoldText}
+use Rattle.meaning.specs.Table.{read, readUnfolded, readChecked}
+use Rattle.meaning.specs.Claims.{CutUnfolds, UnfoldsCut, OnlyCut, OneCut, GoodMark, CutReadsAsLines, CutUnfoldsToText, BadModelReads, CutUnder, CutsReadAlike, WidthCuts}
 use Rattle.meaning.proofs.Cuts as cuts
 use Rattle.meaning.proofs.Marks as marks
 use Rattle.meaning.proofs.Widths as widths
@@ -34,20 +34,26 @@ one-cut m mark f fine = go (unfoldFile m f) refl
 pub good-mark : GoodMark
 good-mark model m h = marks.good-mark model m h
 
--- what a cut is read to under a checked model: a result of its lines alone
-read-cut : (model : List ℕ) (ls : List (List ℕ)) (f g : List ℕ) (rooms : Rooms) → (c : Checked) → checkModel model ≡ c
-    → CutUnder c ls f → CutUnder c ls g → readChecked f rooms c ≡ readChecked g rooms c
-unfolding readChecked
-read-cut model ls f g rooms (good m) e cut-f cut-g =
-    let mark = marks.good-mark model m e in
-    rw (cuts.cut-unfolds (m .mark) mark cut-f, cuts.cut-unfolds (m .mark) mark cut-g)
-read-cut model ls f g rooms (bad at) e cut-f cut-g = refl
+pub cut-reads-as-lines : CutReadsAsLines
+unfolding read refuse readChecked readUnfolded
+cut-reads-as-lines model m ls f rooms e short cut =
+    rw (le-ltb 16777216 (length f) short, e, cuts.cut-unfolds (m .mark) (marks.good-mark model m e) cut)
+
+pub cut-unfolds-to-text : CutUnfoldsToText
+unfolding unfoldText refuse textChecked
+cut-unfolds-to-text model m ls f room e short cut =
+    rw (le-ltb 16777216 (length f) short, e, cuts.cut-unfolds (m .mark) (marks.good-mark model m e) cut)
+
+pub bad-model-reads : BadModelReads
+unfolding read refuse readChecked
+bad-model-reads model at f rooms e short = rw (le-ltb 16777216 (length f) short, e)
 
 pub cuts-read-alike : CutsReadAlike
-unfolding read refuse
-cuts-read-alike model ls f g rooms short-f short-g cut-f cut-g =
-    rw (le-ltb 16777216 (length f) short-f, le-ltb 16777216 (length g) short-g)
-    (read-cut model ls f g rooms (checkModel model) refl cut-f cut-g)
+cuts-read-alike model ls f g rooms short-f short-g = go (checkModel model) refl
+  where
+    go : (c : Checked) → checkModel model ≡ c → CutUnder c ls f → CutUnder c ls g → read model f rooms ≡ read model g rooms
+    go (good m) e cut-f cut-g = cut-reads-as-lines model m ls f rooms e short-f cut-f ∙ sym (cut-reads-as-lines model m ls g rooms e short-g cut-g)
+    go (bad at) e cut-f cut-g = bad-model-reads model at f rooms e short-f ∙ sym (bad-model-reads model at g rooms e short-g)
 
 pub width-cuts : WidthCuts
 width-cuts mark width ls h = widths.width-cuts mark width ls h

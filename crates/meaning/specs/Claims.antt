@@ -1,15 +1,19 @@
--- What is proved of reading and cuts, in proofs/Claims.antt.
-use Prim.Native.Nat.{ℕ, _≤_}
+-- What is proved of these definitions, in proofs/Claims.antt.
+use Prim.Native.Nat.{ℕ, _*_, _-_, _≤_}
 use mathlib.Core.Path.{_≡_}
 use mathlib.Core.List.{List}
-use lib.ListN.{length}
+use lib.IntN.{pos}
+use lib.ListN.{length, drop, replicate}
 use Rattle.meaning.specs.Unfold.{lines, fault, unfoldFile}
 use Rattle.meaning.specs.Cut.{Cut, Mark, Permitted}
 use Rattle.meaning.specs.Model.{Model}
-use Rattle.meaning.specs.Check.{bad, good, Checked, checkModel}
+use Rattle.meaning.specs.Check.{Checked, good, bad, checkModel, GoodModel}
+use Rattle.meaning.specs.Answer.{accepted, refusal, textUnfolded, unfoldText}
 use Rattle.meaning.specs.Reading.{Rooms}
-use Rattle.meaning.specs.Table.{read}
+use Rattle.meaning.specs.Table.{Result, refusedWith, readText, read}
 use Rattle.meaning.specs.Width.{cutLines}
+
+-- ## Unfolding and cuts
 
 -- (a) a cut of lines is unfolded to exactly those lines
 abbrev pub CutUnfolds : Type 0
@@ -29,20 +33,87 @@ pub record OnlyCut (m : ℕ) (f : List ℕ) : Type 0 where
 abbrev pub OneCut : Type 0
 OneCut = (m : ℕ) → Mark m → (f : List ℕ) → ((number line : ℕ) → unfoldFile m f ≡ fault number line → ⊥) → OnlyCut m f
 
+-- ## The model
+
+-- what the check calls good has all that a good model has
+abbrev pub CheckedGood : Type 0
+CheckedGood = (model : List ℕ) (m : Model) → checkModel model ≡ good m → GoodModel m
+
 -- a good model's mark lies in 21 to 7E hex
 abbrev pub GoodMark : Type 0
 GoodMark = (model : List ℕ) (m : Model) → checkModel model ≡ good m → Mark (m .mark)
 
--- "A good model gives its mark; under a bad one both files get 2"
+-- ## Demand 3
+
+-- a cut within the size limit is read as its lines: the answer and every buffer are those that demand 2 defines for the lines
+abbrev pub CutReadsAsLines : Type 0
+CutReadsAsLines =
+    (model : List ℕ) (m : Model) (ls : List (List ℕ)) (f : List ℕ) (rooms : Rooms) → checkModel model ≡ good m → length f ≤ 16777216 → Cut (m .mark) ls f
+    → read model f rooms ≡ readText m rooms ls
+
+-- and so for the unfolding alone
+abbrev pub CutUnfoldsToText : Type 0
+CutUnfoldsToText =
+    (model : List ℕ) (m : Model) (ls : List (List ℕ)) (f : List ℕ) (room : ℕ) → checkModel model ≡ good m → length f ≤ 16777216 → Cut (m .mark) ls f
+    → unfoldText model f room ≡ textUnfolded room (lines ls)
+
+-- "under a bad one both files get 2"
+abbrev pub BadModelReads : Type 0
+BadModelReads = (model : List ℕ) (at : ℕ) (f : List ℕ) (rooms : Rooms) → checkModel model ≡ bad at → length f ≤ 16777216 → read model f rooms ≡ refusedWith rooms 2 at 0
+
+-- "A good model gives its mark": a cut under a checked model; under a bad one there is no mark, and nothing is asked
 abbrev pub CutUnder : Checked → List (List ℕ) → List ℕ → Type 0
 CutUnder (good m) ls f = Cut (m .mark) ls f
 CutUnder (bad at) ls f = Unit {0}
 
--- demand 3: two cuts of the same lines, both within the size limit, are read alike: the same answer and the same content of every buffer
+-- "Two cuts of the same logical lines of permitted bytes into physical lines get the same answer and the same content of every result buffer"
 abbrev pub CutsReadAlike : Type 0
 CutsReadAlike =
     (model : List ℕ) (ls : List (List ℕ)) (f g : List ℕ) (rooms : Rooms) → length f ≤ 16777216 → length g ≤ 16777216
     → CutUnder (checkModel model) ls f → CutUnder (checkModel model) ls g → read model f rooms ≡ read model g rooms
+
+-- ## What reading leaves in the buffers
+
+-- nothing but zeros
+pub record Zeroed (rooms : Rooms) (r : Result) : Type 0 where
+  pub text : r .text ≡ replicate (rooms .text) 0
+  pub marks : r .marks ≡ replicate (rooms .marks) 0
+  pub rows : r .rows ≡ replicate (rooms .rows) 0
+  pub cells : r .cells ≡ replicate (rooms .cells) (pos 0)
+  pub points : r .points ≡ replicate (rooms .points) (pos 0)
+
+-- "All result buffers are zeroed by every refusal"
+abbrev pub RefusalZeroes : Type 0
+RefusalZeroes =
+    (model file : List ℕ) (rooms : Rooms) (number first second : ℕ) → read model file rooms .answer ≡ refusal number first second
+    → Zeroed rooms (read model file rooms)
+
+-- every buffer keeps its length
+pub record Kept (rooms : Rooms) (r : Result) : Type 0 where
+  pub text : length (r .text) ≡ rooms .text
+  pub marks : length (r .marks) ≡ rooms .marks
+  pub rows : length (r .rows) ≡ rooms .rows
+  pub cells : length (r .cells) ≡ rooms .cells
+  pub points : length (r .points) ≡ rooms .points
+
+abbrev pub BuffersKept : Type 0
+BuffersKept = (model file : List ℕ) (rooms : Rooms) → Kept rooms (read model file rooms)
+
+-- "Every result buffer is zero behind its used part": the answer's counts say what is used
+pub record UsedBy (rooms : Rooms) (objectCount cellCount pointCount : ℕ) (r : Result) : Type 0 where
+  pub rowsFit : objectCount ≤ rooms .rows
+  pub cellsFit : cellCount ≤ rooms .cells
+  pub pointsFit : 4 * pointCount ≤ rooms .points
+  pub rows : drop objectCount (r .rows) ≡ replicate (rooms .rows - objectCount) 0
+  pub cells : drop cellCount (r .cells) ≡ replicate (rooms .cells - cellCount) (pos 0)
+  pub points : drop (4 * pointCount) (r .points) ≡ replicate (rooms .points - 4 * pointCount) (pos 0)
+
+abbrev pub CountsSayWhatIsUsed : Type 0
+CountsSayWhatIsUsed =
+    (model file : List ℕ) (rooms : Rooms) (objects count points : ℕ) → read model file rooms .answer ≡ accepted objects count points
+    → UsedBy rooms objects count points (read model file rooms)
+
+-- ## Writing
 
 -- the writer's lines, cut to any width, are a cut of them
 abbrev pub WidthCuts : Type 0
