@@ -358,6 +358,58 @@ def neighbours():
     yield "ELIN right after STPT", s, file_of(SAMPLE_LINES[:11] + SAMPLE_LINES[13:]), "7 12 1 0"
 
 
+PRINTED_POINTS = [(b"a", b"""STPT 600146.92 200174.98
+LIPT 600138.68 200187.51
+LIPT 600147.04 200193.00
+LIPT 600149.79 200188.82
+LIPT 600158.15 200194.31
+LIPT 600163.64 200185.96
+LIPT 600146.92 200174.98"""), (b"b", b"""STPT 600140.69 200156.63
+LIPT 600118.19 200179.82
+LIPT 600113.00 200219.97
+LIPT 600148.30 200228.97
+LIPT 600186.38 200206.82"""), (b"c", b"""STPT 600186.38 200206.82
+ARCP 600183.52 200188.65
+LIPT 600170.18 200176.00
+LIPT 600140.69 200156.63"""), (b"d", b"""STPT 600186.38 200206.82
+LIPT 600194.26 200208.19
+ARCP 600190.75 200185.21
+LIPT 600174.10 200169.00
+LIPT 600145.08 200149.94
+LIPT 600140.69 200156.63""")]
+
+
+def printed_example():
+    """The example of 000, chapter 5: without what is not data, and as it is printed."""
+    lkoord = [(2, 48000000, 85000000), (2, 6000000, 32000000)]
+    model = (o.transfer(b"Beispiel") + o.model_record(b"Beispiel") + o.topic(b"Bodenbedeckung")
+             + o.table(b"BoFlaechen_Form") + o.line(b"Line", 3, lkoord)
+             + o.table(b"BoFlaechen") + o.enumeration(b"Art", 6) + o.coordinate(b"Form", lkoord)
+             + o.table(b"Gebaeude") + o.text(b"AssNr", 6) + o.reference(b"Flaechen", 1) + o.end())
+
+    def printed(transfer_name, line_remark, object_remarks, behind_objects):
+        lines = [b"SCNT", b"Transferfile des Beispiels", b"////", b"MTID " + transfer_name, b"MODL Beispiel",
+                 b"TOPI Bodenbedeckung", b"TABL BoFlaechen_Form"]
+        for name, points in PRINTED_POINTS:
+            lines += [b"OBJE " + name + (line_remark if name == b"a" else b"")] + points.split(b"\n") + [b"ELIN"]
+        lines += [b"ETAB", b"TABL BoFlaechen", b"OBJE A 0 600148.20 200183.48" + object_remarks[0],
+                  b"OBJE C 1 600168.27 200170.85" + object_remarks[1], b"OBJE B 2 600133.95 200206.06"]
+        lines += behind_objects + [b"ETAB", b"TABL Gebaeude", b"OBJE 1 958 A", b"ETAB", b"ETOP", b"EMOD", b"ENDE"]
+        return file_of(lines)
+    free = b"gem\xe4ss Beschreibung des Beispiels"
+    remark = b"                               Lin-Id"
+    remarks = (b"  A ist Objekt-ID; 0 f\xfcr Geb\xe4ude; RefPt", b'  C " " " 1 f\xfcr befestigt; RefPt')
+    behind = [b"", b"da Periphery nicht verlangt, kein OBJE D", b""]
+    name, none = b"Beispiel", (b"", b"")
+    yield "000's example", model, printed(name, b"", none, []), "0 8 54 22"
+    yield "000's example as printed", model, printed(free, remark, remarks, behind), "9 4 2 0"
+    yield "its sentence after MTID", model, printed(name + b" " + free, b"", none, []), "11 4 3 0"
+    yield "its first remark", model, printed(name, remark, none, []), "11 8 3 0"
+    yield "its second remark", model, printed(name, b"", remarks, []), "11 40 6 0"
+    yield "its empty line", model, printed(name, b"", none, behind), "7 43 1 0"
+    yield "its free line", model, printed(name, b"", none, behind[1:2]), "7 43 1 0"
+
+
 def listing_readings():
     """(name, input, answer)"""
     yield "H1", b"", "2 0 0 0"
@@ -1168,7 +1220,7 @@ def known():
             yield name, "listing", (model + file,), answer
     for name, file, answer in unfold_readings():
         yield name, "listing", (SAMPLE_MODEL + file,), answer
-    for source in (line_readings, object_readings, neighbours):
+    for source in (line_readings, object_readings, neighbours, printed_example):
         for name, model, file, answer in source():
             yield name, "listing", (model + file,), answer
     for name, data, answer in listing_readings():
