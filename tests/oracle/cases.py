@@ -1211,6 +1211,18 @@ def random_cases(rng, count):
             yield "random %d changed %d" % (n, k), "write", (model, changed, rng.choice((16, 20, 65535)), 3000)
 
 
+def written_bytes():
+    """Every byte in a text and in an identification of a lent table."""
+    model = one(Y)
+    t = lent_of(model, frame(b"OBJE ab xy"))
+    at, text_at = t.cells[1] + 1, t.cells[4] + 1
+    for c in range(256):
+        for place, what in ((at, "an identification"), (text_at, "a text")):
+            changed = t.copy()
+            changed.text[place] = c
+            yield "byte %02X in %s to be written" % (c, what), model, changed, 20, 200
+
+
 def known():
     """Every case whose answer the documents give: (name, call, arguments, answer)."""
     for name, model, file, answer in model_readings():
@@ -1249,6 +1261,8 @@ def generated():
     for name, model, lent, width, room in damaged_tables(rng):
         yield name, "write", (model, lent, width, room)
     yield from random_cases(random.Random(2026), RANDOM_MODELS)
+    for name, model, lent, width, room in written_bytes():
+        yield name, "write", (model, lent, width, room)
 
 
 def large():
