@@ -566,6 +566,13 @@ def write_readings():
     yield "G9 last row left out", s, changed(t, objects=1), 20, 400, 19
     yield "G9 cells left over", s, changed(t, objects=1, cells_used=18), 20, 400, 19
     yield "G9 points left over", s, changed(t, points_used=2), 20, 400, 19
+    alike = one(L_)
+    points = [b"STPT 1.0 1.0", b"LIPT 2.0 2.0", b"ELIN"]
+    twice = lent_of(alike, frame(b"OBJE a", *points, b"OBJE b", *points))
+    yield "G9 equal lines", alike, twice, 20, 300, 0
+    yield "G9 a line with another's points", alike, changed(twice, cells={9: 0}), 20, 300, 19
+    yield "G9 lines that share their points", alike, changed(twice, cells={9: 0}, points_used=2), 20, 300, 19
+    yield "G9 lines that change their points", alike, changed(twice, cells={4: 2, 9: 0}), 20, 300, 19
     swapped = one(Y)
     two = lent_of(swapped, frame(b"OBJE a x", b"OBJE b y"))
     yield "G9 rows swapped", swapped, changed(two, rows={0: 5, 1: 0}), 20, 300, 19

@@ -130,19 +130,23 @@ def quoted(content):
 
 
 def byte_list(content):
-    """Bytes as an expression: long plain runs quoted, the others as numbers."""
-    content, parts, at = bytes(content), [], 0
-    while at < len(content):
-        end = at
-        while end < len(content) and is_plain(content[end]):
-            end += 1
-        if end - at >= 4:
-            parts.append(quoted(content[at:end]))
+    """Bytes as an expression: plain runs of eight and more quoted, the others as numbers."""
+    content, parts, plain_from = bytes(content), [], 0
+    numbers = []
+    for at in range(len(content) + 1):
+        if at < len(content) and is_plain(content[at]):
+            continue
+        run = content[plain_from:at]
+        if len(run) >= 8:
+            parts += ["(%s)" % nats(numbers)] if numbers else []
+            parts.append(quoted(run))
+            numbers = []
         else:
-            end = min(end + 1, len(content))
-            parts.append("(%s)" % nats(content[at:end]))
-        at = end
-    return "(%s)" % " ++ ".join(parts) if parts else "[]"
+            numbers += run
+        numbers += content[at:at + 1]
+        plain_from = at + 1
+    parts += ["(%s)" % nats(numbers)] if numbers else []
+    return "(%s)" % " ++ (".join(parts) + ")" * (len(parts) - 1) if parts else "[]"
 
 
 def buffer(values, show, zero):
@@ -174,7 +178,7 @@ def test_of(call, arguments, models):
         m, f = oracle.split_input(arguments[0])
         return "asListing (%s ++ %s) %s" % (model(m), byte_list(f), byte_list(got.encode()))
     if call == "check":
-        return "asCheck %s (%s)" % (byte_list(arguments[0]), nats(got))
+        return "asCheck (%s) (%s)" % (nats(arguments[0]), nats(got))
     if call == "unfold":
         m, f, room = arguments
         return "asUnfold %s %s %d (%s) %s" % (model(m), byte_list(f), room, nats(got[0]), buffer(got[1], nats, "0"))

@@ -56,9 +56,6 @@ class Table:
     def __init__(self, optional, name, topic):
         self.optional, self.name, self.topic, self.attributes = optional, name, topic, []
 
-    def row_size(self):
-        return 3 + 2 * sum(a.pairs() for a in self.attributes)
-
 
 class Model:
     def __init__(self):
