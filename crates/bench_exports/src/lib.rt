@@ -2,7 +2,7 @@
 ghost use mathlib.Core.Path.{_≡_};
 ghost use lib.ListN.{length};
 ghost use Rattle.meaning.specs.Unfold.{unfoldFile};
-ghost use Rattle.meaning.specs.Table.{textUnfolded};
+ghost use Rattle.meaning.specs.Answer.{textUnfolded};
 ghost use Rattle.bench_exports.specs.Measured.{numberFor};
 use unfold::Answer;
 

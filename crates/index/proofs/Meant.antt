@@ -17,7 +17,7 @@ use Rattle.meaning.specs.Reading.{Object, cellAt, objectAt, objectsOf, isUsed}
 use Rattle.meaning.specs.Table.{findObject}
 use Rattle.meaning.proofs.Same.{identification-alike}
 use Rattle.index.specs.Objects.{identificationOf, isNamed, lastOf, lastNamed, inTable, Unique}
-use Rattle.index.proofs.Last.{last-hit, last-miss, last-le, last-passes, last-none}
+use Rattle.index.proofs.Last.{last-le, last-passes, last-none}
 
 -- ## Objects in a row
 
@@ -110,7 +110,17 @@ find-append t k i (o ∷ a) b = go (eqb (o .table) t && sameIdentification (o .i
     go true h r = rw h
     go false h r = let e : (k + 1) + length a ≡ k + suc (length a) = omega arith in rw h (r ∙ ap (λ (m : ℕ). orElse (findObject t (k + 1) i a) (findObject t m i b)) e)
 
-pub unique-less : (ids : ℕ → List ℕ) (n : ℕ) → Unique ids (suc n) → Unique ids n
+-- what a reference names is one of the objects
+pub found-lt : (t k : ℕ) (i : List ℕ) (os : List Object) (o : ℕ) → findObject t k i os ≡ found o → o < k + length os
+unfolding findObject choose
+found-lt t k i [] o e = let z : _≡_ {A = ℕ} 0 1 = cc in absurd (omega arith)
+found-lt t k i (x ∷ os) o e = go (eqb (x .table) t && sameIdentification (x .identification) i) refl (found-lt t (k + 1) i os o)
+  where
+    go : (y : Bool) → (eqb (x .table) t && sameIdentification (x .identification) i) ≡ y → (findObject t (k + 1) i os ≡ found o → o < (k + 1) + length os) → o < k + suc (length os)
+    go true h r = let f : found k ≡ found o = rw h at e in let q : k ≡ o = cc in omega arith
+    go false h r = omega (arith, r (rw h at e))
+
+unique-less : (ids : ℕ → List ℕ) (n : ℕ) → Unique ids (suc n) → Unique ids n
 unique-less ids n u = record { apart = λ o p a b. u .apart o p a (omega arith) }
 
 -- of unique identifications one object at most has this one
@@ -131,6 +141,10 @@ module _ (text rows : List ℕ) (cells : List ℤ) (t : ℕ) (i : List ℕ) wher
 
   abbrev one : ℕ → Found
   one n = choose (eqb (cellAt cells (getD rows n 0)) t && isNamed ids i n) (found n) missing
+
+  -- where one is named among the first n rows, it is one of the n
+  pub object-lt : (n o : ℕ) → n ≤ length rows → findObject t 0 i (objectsOf text cells (take n rows)) ≡ found o → o < n
+  object-lt n o l e = omega (arith, found-lt t 0 i (objectsOf text cells (take n rows)) o e, length-objects text cells (take n rows), length-take-le n rows l)
 
   find-more : (n : ℕ) → n < length rows → findObject t 0 i (objectsOf text cells (take (suc n) rows)) ≡ orElse (findObject t 0 i (objectsOf text cells (take n rows))) (one n)
   unfolding findObject objectAt identificationOf

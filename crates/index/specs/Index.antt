@@ -1,8 +1,8 @@
 -- The index: chains of objects whose identifications have the same head.
-use Prim.Native.Nat.{ℕ, zero, suc, _+_, _*_, _-_, _/_, _%_, _≤_, _<_}
+use Prim.Native.Nat.{ℕ, zero, suc, _+_, _*_, _-_, _/_, _%_, _<_}
 use mathlib.Core.Path.{_≡_}
 use mathlib.Core.List.{List, [], _∷_}
-use mathlib.Core.Bool.{Bool, true, false, _&&_}
+use mathlib.Core.Bool.{Bool, true, _&&_}
 use lib.Dec.{eqb, ltb}
 use lib.IntN.{ℤ}
 use lib.ListN.{length, getD, set}
@@ -20,7 +20,7 @@ hashFrom k h (b ∷ s) = hashFrom k (mixOf k h b) s
 
 unfoldable pub hashOf : ℕ → List ℕ → ℕ
 unfolding hashFrom
-hashOf seed i = hashFrom (seed % 1073741824 + 1) 1 i
+hashOf seed i = hashFrom ((seed % 1073741824 + 663608941) % 1073741824 + 1) 1 i
 
 -- the head that an identification belongs to, of so many
 abbrev pub headOf : ℕ → ℕ → List ℕ → ℕ

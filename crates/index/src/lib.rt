@@ -7,7 +7,6 @@ ghost use lib.Dec.{T};
 ghost use lib.IntN.{pos};
 ghost use lib.Signed.{nonNeg};
 ghost use lib.ListN.{length, getD, take, replicate};
-ghost use Rattle.meaning.specs.Value.{sameIdentification};
 ghost use Rattle.meaning.specs.Reading.{stretch, cellAt, objectsOf, isUsed};
 ghost use Rattle.meaning.specs.Table.{findObject};
 ghost use Rattle.index.specs.Objects.{identificationOf, isNamed, lastNamed, inTable, Row, Listed};
@@ -20,13 +19,6 @@ pub enum Found {
     Nothing,
 }
 
-// The one comparison of two identifications.
-fn same_identification(a: &[u8], b: &[u8]) -> bool
-    ensures { λ r. ⌜ r ≡ sameIdentification (now (a .entry)) (now (b .entry)) ⌝ }
-{
-    text::compare::same_bytes(a, b)
-}
-
 // A cell that is not below zero.
 fn cell_at(cells: &[i64], cell: usize) -> usize
     requires { ⌜ cell < length (now cells) ⌝ }
@@ -36,16 +28,16 @@ fn cell_at(cells: &[i64], cell: usize) -> usize
     cells[cell] as usize
 }
 
-// Whether object o has this identification.
-fn is_named(text: &[u8], rows: &[u64], cells: &[i64], o: usize, identification: &[u8]) -> bool
-    requires { ⌜ o < length (now rows) ⌝ }
-    requires { ⌜ Row (now text) (now cells) (getD (now rows) o 0) ⌝ }
-    ensures { λ r. ⌜ r ≡ isNamed (identificationOf (now (text .entry)) (now (rows .entry)) (now (cells .entry))) (now (identification .entry)) o ⌝ }
+// Whether an object has this identification.
+fn is_named(text: &[u8], rows: &[u64], cells: &[i64], object: usize, identification: &[u8]) -> bool
+    requires { ⌜ object < length (now rows) ⌝ }
+    requires { ⌜ Row (now text) (now cells) (getD (now rows) object 0) ⌝ }
+    ensures { λ r. ⌜ r ≡ isNamed (identificationOf (now (text .entry)) (now (rows .entry)) (now (cells .entry))) (now (identification .entry)) object ⌝ }
 {
-    let row = rows[o] as usize;
+    let row = rows[object] as usize;
     let start = cell_at(cells, row + 1);
     let end = start + cell_at(cells, row + 2);
-    same_identification(&text[start..end], identification)
+    value::stretches::same_identification(&text[start..end], identification)
 }
 
 // One byte more in the hash: no product wraps, as the factor is at most 2 ^ 30.
@@ -59,12 +51,13 @@ fn mix(k: u64, h: u64, b: u8) -> u64
     x / 2147483648 + x % 2147483648
 }
 
-// The hash of an identification. With a seed that no one can guess, no file can be made to fill one chain.
+// The hash of an identification. With a seed that no one can guess, no file can be made to fill one chain. What is added to
+// the seed keeps a small one, as 0, from making a small factor, under which ordinary identifications would share their hashes.
 pub fn hash(identification: &[u8], seed: u64) -> u64
     ensures { λ r. ⌜ r ≡ hashOf seed (now (identification .entry)) ⌝ }
     ensures { λ r. ⌜ r < 4294967296 ⌝ }
 {
-    let k = seed % 1073741824 + 1;
+    let k = (seed % 1073741824 + 663608941) % 1073741824 + 1;
     let mut h: u64 = 1;
     let mut i: usize = 0;
     while i < identification.len() {
@@ -75,13 +68,13 @@ pub fn hash(identification: &[u8], seed: u64) -> u64
 }
 
 // Where the head of a hash stands in the index, behind a link for each row.
-fn head_at(h: u64, rows: usize, index: usize) -> usize
+fn head_at(hash: u64, rows: usize, index: usize) -> usize
     requires { ⌜ rows < index ⌝ }
-    ensures { λ r. ⌜ r ≡ rows + h % (index - rows) ⌝ }
+    ensures { λ r. ⌜ r ≡ rows + hash % (index - rows) ⌝ }
     ensures { λ r. ⌜ r < index ⌝ }
 {
     let heads = index - rows;
-    rows + h as usize % heads
+    rows + hash as usize % heads
 }
 
 // Whether the object that a word leads to has this identification: hashes first.
@@ -89,20 +82,20 @@ fn is_led(
     text: &[u8],
     rows: &[u64],
     cells: &[i64],
-    o: usize,
+    object: usize,
     identification: &[u8],
     word: u64,
-    h: u64,
+    hash: u64,
 ) -> bool
-    requires { ⌜ o < length (now rows) ⌝ }
-    requires { ⌜ Row (now text) (now cells) (getD (now rows) o 0) ⌝ }
-    requires { ⌜ ((word / 4294967296 ≡ h → ⊥) → isNamed (identificationOf (now text) (now rows) (now cells)) (now identification) o ≡ false) ⌝ }
-    ensures { λ r. ⌜ r ≡ isNamed (identificationOf (now (text .entry)) (now (rows .entry)) (now (cells .entry))) (now (identification .entry)) o ⌝ }
+    requires { ⌜ object < length (now rows) ⌝ }
+    requires { ⌜ Row (now text) (now cells) (getD (now rows) object 0) ⌝ }
+    requires { ⌜ ((word / 4294967296 ≡ hash → ⊥) → isNamed (identificationOf (now text) (now rows) (now cells)) (now identification) object ≡ false) ⌝ }
+    ensures { λ r. ⌜ r ≡ isNamed (identificationOf (now (text .entry)) (now (rows .entry)) (now (cells .entry))) (now (identification .entry)) object ⌝ }
 {
-    if word / 4294967296 != h {
+    if word / 4294967296 != hash {
         return false;
     }
-    is_named(text, rows, cells, o, identification)
+    is_named(text, rows, cells, object, identification)
 }
 
 // Whether there is a link for each row, and a head.
@@ -124,21 +117,21 @@ fn find_chained(
     index: &[u64],
     objects: usize,
     seed: u64,
-    h: u64,
+    hash: u64,
     identification: &[u8],
 ) -> usize
     requires { ⌜ Listed (now text) (now rows) (now cells) objects ⌝ }
     requires { ⌜ usableOf (length (now rows)) (length (now index)) ≡ true ⌝ }
     requires { ⌜ Chained seed (identificationOf (now text) (now rows) (now cells)) (length (now rows)) (now index) objects ⌝ }
-    requires { ⌜ h ≡ hashOf seed (now identification) ⌝ }
+    requires { ⌜ hash ≡ hashOf seed (now identification) ⌝ }
     ensures { λ r. ⌜ r ≡ lastNamed (now (text .entry)) (now (rows .entry)) (now (cells .entry)) (now (identification .entry)) objects ⌝ }
 {
-    let p = head_at(h, rows.len(), index.len());
-    let mut word = index[p];
+    let head = head_at(hash, rows.len(), index.len());
+    let mut word = index[head];
     while 0 < word {
         let at = (word % 4294967296) as usize;
         let o = at - 1;
-        if is_led(text, rows, cells, o, identification, word, h) {
+        if is_led(text, rows, cells, o, identification, word, hash) {
             return at;
         }
         word = index[o];
@@ -176,16 +169,25 @@ fn find_hashed(
     index: &[u64],
     objects: usize,
     seed: u64,
-    h: u64,
+    hash: u64,
     identification: &[u8],
 ) -> usize
     requires { ⌜ Listed (now text) (now rows) (now cells) objects ⌝ }
     requires { ⌜ Indexed seed (now text) (now rows) (now cells) (now index) objects ⌝ }
-    requires { ⌜ h ≡ hashOf seed (now identification) ⌝ }
+    requires { ⌜ hash ≡ hashOf seed (now identification) ⌝ }
     ensures { λ r. ⌜ r ≡ lastNamed (now (text .entry)) (now (rows .entry)) (now (cells .entry)) (now (identification .entry)) objects ⌝ }
 {
     if is_usable(rows.len(), index.len()) {
-        find_chained(text, rows, cells, index, objects, seed, h, identification)
+        find_chained(
+            text,
+            rows,
+            cells,
+            index,
+            objects,
+            seed,
+            hash,
+            identification,
+        )
     } else {
         find_scanned(text, rows, cells, objects, identification)
     }
@@ -199,14 +201,23 @@ pub fn is_used(
     index: &[u64],
     objects: usize,
     seed: u64,
-    h: u64,
+    hash: u64,
     identification: &[u8],
 ) -> bool
     requires { ⌜ Known seed (now text) (now rows) (now cells) (now index) objects ⌝ }
-    requires { ⌜ h ≡ hashOf seed (now identification) ⌝ }
+    requires { ⌜ hash ≡ hashOf seed (now identification) ⌝ }
     ensures { λ r. ⌜ r ≡ isUsed (now (identification .entry)) (objectsOf (now (text .entry)) (now (cells .entry)) (take objects (now (rows .entry)))) ⌝ }
 {
-    let at = find_hashed(text, rows, cells, index, objects, seed, h, identification);
+    let at = find_hashed(
+        text,
+        rows,
+        cells,
+        index,
+        objects,
+        seed,
+        hash,
+        identification,
+    );
     0 < at
 }
 
@@ -239,13 +250,13 @@ pub fn find_reference(
     seed: u64,
     table: usize,
     start: usize,
-    len: usize,
+    size: usize,
 ) -> Found
     requires { ⌜ Known seed (now text) (now rows) (now cells) (now index) objects ⌝ }
-    requires { ⌜ start + len ≤ length (now text) ⌝ }
-    ensures { λ r. ⌜ foundOf r ≡ findObject table 0 (stretch (now (text .entry)) start len) (objectsOf (now (text .entry)) (now (cells .entry)) (take objects (now (rows .entry)))) ⌝ }
+    requires { ⌜ start + size ≤ length (now text) ⌝ }
+    ensures { λ r. ⌜ foundOf r ≡ findObject table 0 (stretch (now (text .entry)) start size) (objectsOf (now (text .entry)) (now (cells .entry)) (take objects (now (rows .entry)))) ⌝ }
 {
-    let end = start + len;
+    let end = start + size;
     let h = hash(&text[start..end], seed);
     let at = find_hashed(
         text,
@@ -260,27 +271,27 @@ pub fn find_reference(
     find_in_table(rows, cells, at, table)
 }
 
-// Puts object o, whose identification has the hash h, in front of the chain whose head is at p.
-fn chain(index: &mut [u64], p: usize, o: usize, h: u64)
-    requires { ⌜ p < length (now index) ⌝ }
-    requires { ⌜ o < length (now index) ⌝ }
-    requires { ⌜ o < 4294967295 ⌝ }
-    requires { ⌜ h < 4294967296 ⌝ }
-    ensures { λ _. ⌜ now (index .exit) ≡ chainOf (now (index .entry)) p o h ⌝ }
+// Puts an object, with the hash of its identification, in front of the chain that this head leads to.
+fn chain(index: &mut [u64], head: usize, object: usize, hash: u64)
+    requires { ⌜ head < length (now index) ⌝ }
+    requires { ⌜ object < length (now index) ⌝ }
+    requires { ⌜ object < 4294967295 ⌝ }
+    requires { ⌜ hash < 4294967296 ⌝ }
+    ensures { λ _. ⌜ now (index .exit) ≡ chainOf (now (index .entry)) head object hash ⌝ }
 {
-    index[o] = index[p];
-    index[p] = o as u64 + 1 + 4294967296 * h;
+    index[object] = index[head];
+    index[head] = object as u64 + 1 + 4294967296 * hash;
 }
 
-// Object o, behind the o objects that the index has; `rows` is the length of the lent row list.
-pub fn insert(index: &mut [u64], rows: usize, o: usize, h: u64)
-    requires { ⌜ o < rows ⌝ }
-    requires { ⌜ h < 4294967296 ⌝ }
-    ensures { λ _. ⌜ now (index .exit) ≡ insertOf (now (index .entry)) rows o h ⌝ }
+// Puts an object behind those that the index has, with the hash of its identification; `rows` is the row list's length.
+pub fn insert(index: &mut [u64], rows: usize, object: usize, hash: u64)
+    requires { ⌜ object < rows ⌝ }
+    requires { ⌜ hash < 4294967296 ⌝ }
+    ensures { λ _. ⌜ now (index .exit) ≡ insertOf (now (index .entry)) rows object hash ⌝ }
 {
     if is_usable(rows, index.len()) {
-        let p = head_at(h, rows, index.len());
-        chain(index, p, o, h);
+        let head = head_at(hash, rows, index.len());
+        chain(index, head, object, hash);
     }
 }
 

@@ -1,7 +1,7 @@
--- Laws of equal bytes, and of equal identifications. Assumes nothing.
+-- Equal bytes: the test `same` and equality are one; and equal identifications. Assumes nothing.
 use Prim.Native.Nat.{ℕ}
 use mathlib.Core.Path.{_≡_, refl, sym, ap, _∙_}
-use mathlib.Core.Bool.{Bool, true, false, _&&_}
+use mathlib.Core.Bool.{Bool, true, false}
 use mathlib.Core.List.{List, [], _∷_}
 use lib.Dec.{eqb}
 use borrow.Author.Tests.{eq-eqb, eqb-true}
@@ -23,6 +23,14 @@ same-is (a ∷ s) (b ∷ t) h = go (eqb a b) refl (same-is s t)
     go : (x : Bool) → eqb a b ≡ x → (same s t ≡ true → s ≡ t) → (a ∷ s) ≡ (b ∷ t)
     go true e k = let q : a ≡ b = eqb-true a b e in let r : s ≡ t = k (rw e at h) in cc
     go false e k = let z : _≡_ {A = Bool} false true = rw e at h in cc
+
+-- lists that are not equal
+pub same-not : (s t : List ℕ) → (s ≡ t → ⊥) → same s t ≡ false
+same-not s t n = go (same s t) refl
+  where
+    go : (x : Bool) → same s t ≡ x → same s t ≡ false
+    go true e = absurd (n (same-is s t e))
+    go false e = e
 
 -- two identifications that equal a third are equal
 pub identification-alike : (i j k : List ℕ) → sameIdentification i k ≡ true → sameIdentification j k ≡ true → sameIdentification i j ≡ true

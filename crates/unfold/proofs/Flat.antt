@@ -6,12 +6,13 @@ use native.Mathlib.Nat.{add-sub-cancel-left}
 use mathlib.Core.Path.{_≡_, refl, sym, ap, _∙_}
 use mathlib.Core.Bool.{Bool, true, false}
 use mathlib.Core.List.{List, [], _∷_, _++_, append-assoc, append-nil}
-use lib.ListN.{length, take, drop, replicate, length-append, length-drop}
+use lib.ListN.{length, take, drop, length-append, length-drop}
 use lib.Seq.{length-take-le, drop-drop}
 use lib.Dec.{ltb}
 use borrow.Author.Tests.{lt-ltb, le-ltb}
-use Rattle.meaning.specs.Unfold.{refuse, Unfolded, lines, fault, physical, put, next, unfoldLines, unfoldFile}
-use Rattle.meaning.specs.Table.{accepted, unfoldedText, TextResult, filled, textRefused, textUnfolded}
+use Rattle.meaning.specs.Unfold.{refuse, Unfolded, lines, fault, physical, put, next, unfoldLines}
+use Rattle.meaning.specs.Unfold.{unfoldedText}
+use Rattle.meaning.specs.Answer.{accepted, TextResult, filled, textRefused, textUnfolded}
 use Rattle.unfold.specs.Step.{Parted}
 use Rattle.unfold.specs.Turn.{Flat, good, bad, closing, flat, prepend, overfull}
 

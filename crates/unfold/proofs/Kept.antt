@@ -1,23 +1,22 @@
 -- What the loop over the physical lines keeps: a turn that goes on, and the two in which it ends.
 -- Assumes nothing.
-use Prim.Native.Nat.{ℕ, _+_, _-_, _<_, _≤_}
+use Prim.Native.Nat.{ℕ, _+_, _<_, _≤_}
 use native.Mathlib.Omega.{arith}
-use mathlib.Core.Path.{_≡_, refl, sym, ap, _∙_}
+use mathlib.Core.Path.{_≡_, refl, ap, _∙_}
 use mathlib.Core.Bool.{Bool, true, false}
 use mathlib.Core.List.{List, [], _∷_, _++_, append-assoc}
 use lib.ListN.{length, take, drop, replicate, length-append}
 use lib.Seq.{length-take-le}
 use lib.Dec.{ltb}
 use borrow.Author.Tests.{ltb-true, ltb-false}
-use Rattle.meaning.specs.Unfold.{Unfolded, lines, fault, physical, next, unfoldLines, unfoldFile}
-use Rattle.meaning.specs.Table.{accepted, TextResult, filled, textRefused, textUnfolded}
-use Rattle.unfold.specs.Answer.{answerOf, Within}
+use Rattle.meaning.specs.Unfold.{lines, physical, next, unfoldLines, unfoldFile}
+use Rattle.meaning.specs.Answer.{textRefused, textUnfolded}
 use Rattle.unfold.specs.Step.{Parted, Refused}
-use Rattle.unfold.specs.Turn.{Flat, flat, prepend, overfull, Put, Finished, Ready, Ended}
+use Rattle.unfold.specs.Turn.{overfull, Put, Finished, Ready, Ended}
 use Rattle.unfold.specs.declared.Answer.{Answer}
-use Rattle.unfold.specs.declared.Answer.the-variants.{Text, Fault, NoRoom}
+use Rattle.unfold.specs.declared.Answer.the-variants.{Fault}
 use Rattle.unfold.specs.declared.State.{State}
-use Rattle.unfold.proofs.Flat.{ended, prepend-nil, step-within, next-flat, next-full, part-length, grown-full, result-bad, result-done, nothing-left}
+use Rattle.unfold.proofs.Flat.{ended, step-within, next-flat, next-full, part-length, grown-full, result-bad, result-done, nothing-left}
 
 -- one part put behind another
 pub put-both : (used : ℕ) (p q text mid exit : List ℕ) (r t : ℕ) → length mid ≡ length text → Put used p text mid r → Put r q mid exit t → Put used (p ++ q) text exit t

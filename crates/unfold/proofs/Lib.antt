@@ -3,3 +3,4 @@ mod Physical
 mod Judged
 mod Flat
 mod Kept
+pub mod Claims

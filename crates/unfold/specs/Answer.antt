@@ -1,7 +1,7 @@
 -- The answer of unfolding, in 01's numbers.
 use Prim.Native.Nat.{ℕ, _+_, _≤_}
-use Rattle.meaning.specs.Table.{accepted, refusal}
-use Rattle.meaning.specs.Table as table
+use Rattle.meaning.specs.Answer.{accepted, refusal}
+use Rattle.meaning.specs.Answer as table
 use Rattle.unfold.specs.declared.Answer.{Answer}
 use Rattle.unfold.specs.declared.Answer.the-variants.{Text, Fault, NoRoom}
 

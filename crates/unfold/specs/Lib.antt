@@ -2,3 +2,4 @@ pub mod Answer
 pub mod First
 pub mod Step
 pub mod Turn
+pub mod Claims

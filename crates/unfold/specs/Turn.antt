@@ -5,7 +5,8 @@ use mathlib.Core.Bool.{Bool, true, false}
 use mathlib.Core.List.{List, [], _∷_, _++_}
 use lib.ListN.{length, take, drop, replicate}
 use Rattle.meaning.specs.Unfold.{Unfolded, lines, fault, physical, unfoldLines, unfoldFile}
-use Rattle.meaning.specs.Table.{unfoldedText, TextResult, textRefused, textUnfolded}
+use Rattle.meaning.specs.Unfold.{unfoldedText}
+use Rattle.meaning.specs.Answer.{TextResult, textRefused, textUnfolded}
 use Rattle.unfold.specs.Answer.{answerOf, Within}
 use Rattle.unfold.specs.declared.Answer.{Answer}
 use Rattle.unfold.specs.declared.Answer.the-variants.{Text, NoRoom}

@@ -7,7 +7,7 @@ ghost use mathlib.Core.List.{[], _∷_};
 ghost use Prim.Native.Nat.{_+_, _≤_, _<_, _^_};
 ghost use lib.ListN.{length, take};
 ghost use Rattle.meaning.specs.Unfold.{unfoldFile};
-ghost use Rattle.meaning.specs.Table.{textUnfolded};
+ghost use Rattle.meaning.specs.Answer.{textUnfolded};
 ghost use Rattle.unfold.specs.Answer.{answerOf, Within};
 ghost use Rattle.unfold.specs.Turn.{Put, Finished, Ready, Turned};
 use crate::steps::Step;

@@ -8,12 +8,10 @@ use mathlib.Core.Bool.{Bool, true, false}
 use mathlib.Core.List.{List, [], _∷_, _++_, append-assoc, append-nil}
 use lib.Dec.{ltb}
 use lib.IntN.{ℤ, pos, natAbs}
-use lib.Signed.{ltZ}
 use lib.ListN.{length, take, drop, getD, set, length-set, length-append, length-drop, drop-of-length-le}
 use lib.Seq.{sets, sets-eq, length-sets, drop-cons, drop-set-lt, getD-set-same, append-snoc, length-take-le, take-suc, take-at, drop-at, set-at, drop-append-add, drop-drop}
 use borrow.Rule.Slice.PartMut.{putMid, midOf, mid-len, post-is}
 use borrow.Author.Tests.{ltb-true, ltb-false}
-use Rattle.meaning.specs.Bytes.{choose}
 use Rattle.meaning.specs.Digits.{lastDigits, digitsOf, pointed, signOf}
 use Rattle.meaning.proofs.Digits.{last-length}
 use Rattle.meaning.proofs.Shortest.{div-tens, last-pointed}
@@ -134,14 +132,6 @@ pointed-size (suc d) s h =
 pub point-most : (d : ℕ) → pointSize d ≤ 1
 point-most zero = omega arith
 point-most (suc d) = omega arith
-
-pub sign-most : (v : ℤ) → length (signOf v) ≤ 1
-unfolding signOf choose
-sign-most v = go (ltZ v (pos 0))
-  where
-    go : (t : Bool) → length {A = ℕ} (choose t (0x2d ∷ []) []) ≤ 1
-    go true = omega arith
-    go false = omega arith
 
 -- a sign in front, then p in the part from s to e
 pub signed-put : (xs ys p sign : List ℕ) (s e : ℕ) → s ≡ length sign → e ≡ s + length p → e ≤ length xs → ys ≡ sets xs 0 sign

@@ -9,7 +9,7 @@ ghost use Rattle.meaning.specs.Digits.{lastDigits, digitsOf, signOf, pointed, n
 ghost use Rattle.value.specs.Written.{pointSize, valueBytes};
 
 // The value without its sign; -2^63 has one too.
-fn magnitude(v: i64) -> u64
+pub fn magnitude(v: i64) -> u64
     ensures { λ r. ⌜ r ≡ natAbs v ⌝ }
 {
     if v < 0 {
@@ -96,6 +96,7 @@ fn put_sign(v: i64, out: &mut [u8]) -> usize
 fn put_value(v: i64, least: usize, decimals: usize, out: &mut [u8]) -> usize
     requires { ⌜ (decimals < least) × (least ≤ 19) × (21 ≤ length (now out)) ⌝ }
     ensures size { λ r. ⌜ r ≡ length (valueBytes least decimals v) ⌝ }
+    ensures few { λ r. ⌜ r ≤ 21 ⌝ }
     ensures bytes { λ r. ⌜ now (out .exit) ≡ sets (now (out .entry)) 0 (valueBytes least decimals v) ⌝ }
 {
     let sign = put_sign(v, out);
@@ -110,6 +111,7 @@ fn put_value(v: i64, least: usize, decimals: usize, out: &mut [u8]) -> usize
 pub fn put_number(v: i64, decimals: u8, out: &mut [u8]) -> usize
     requires { ⌜ (decimals ≤ 9) × (21 ≤ length (now out)) ⌝ }
     ensures size { λ r. ⌜ r ≡ length (numberBytes decimals v) ⌝ }
+    ensures few { λ r. ⌜ r ≤ 21 ⌝ }
     ensures bytes { λ r. ⌜ now (out .exit) ≡ sets (now (out .entry)) 0 (numberBytes decimals v) ⌝ }
 {
     put_value(v, decimals as usize + 1, decimals as usize, out)
@@ -119,6 +121,7 @@ pub fn put_number(v: i64, decimals: u8, out: &mut [u8]) -> usize
 pub fn put_date(v: i64, out: &mut [u8]) -> usize
     requires { ⌜ 21 ≤ length (now out) ⌝ }
     ensures size { λ r. ⌜ r ≡ length (dateBytes v) ⌝ }
+    ensures few { λ r. ⌜ r ≤ 21 ⌝ }
     ensures bytes { λ r. ⌜ now (out .exit) ≡ sets (now (out .entry)) 0 (dateBytes v) ⌝ }
 {
     put_value(v, 8, 0, out)
@@ -128,6 +131,7 @@ pub fn put_date(v: i64, out: &mut [u8]) -> usize
 pub fn put_enumeration(v: i64, out: &mut [u8]) -> usize
     requires { ⌜ 21 ≤ length (now out) ⌝ }
     ensures size { λ r. ⌜ r ≡ length (numberBytes 0 v) ⌝ }
+    ensures few { λ r. ⌜ r ≤ 21 ⌝ }
     ensures bytes { λ r. ⌜ now (out .exit) ≡ sets (now (out .entry)) 0 (numberBytes 0 v) ⌝ }
 {
     put_value(v, 1, 0, out)

@@ -1,11 +1,10 @@
-use Prim.Native.Nat.{ℕ, zero, suc, _+_, _*_, _-_, _/_, _%_, _≤_, _<_}
-use mathlib.Core.Path.{_≡_, refl, sym, ap, _∙_}
-use mathlib.Core.Bool.{Bool, true, false}
-use mathlib.Core.List.{List}
+-- `index::find_chained` meets its contract. The loop's invariant: what is looked for stands on the chain from this word on, or nowhere.
+-- The measure is the word's object, as a link leads to an earlier one. Assumes nothing.
+use Prim.Native.Nat.{ℕ, suc, _+_, _-_, _%_, _<_}
+use mathlib.Core.Path.{_≡_, sym, ap, _∙_}
 use native.Mathlib.Omega.{arith}
-use lib.ListN.{length, getD}
-use Rattle.index.specs.Objects.{identificationOf, lastNamed}
-use Rattle.index.specs.Index.{headOf, hashOf}
+use lib.ListN.{length}
+use Rattle.index.specs.Objects.{identificationOf}
 use Rattle.index.proofs.Walk.{Along, along-start, along-next, along-some, along-other, link-le}
 use Rattle.index.proofs.Grown.{usable-lt}
 use Rattle.index.proofs.Last.{scan-hit, scan-end}
@@ -13,10 +12,10 @@ use Rattle.index.proofs.find_chained.Statement.{statement}
 use Rattle.index.proofs.find_chained.Tie as tie
 
 abbrev Inv-loop : tie.InvT-loop
-Inv-loop text rows cells index objects seed h identification p word₀ word = Along seed (length index - length rows) (identificationOf text rows cells) objects identification word
+Inv-loop text rows cells index objects seed hash identification head word₀ word = Along seed (length index - length rows) (identificationOf text rows cells) objects identification word
 
 abbrev μ-loop : tie.MeasureT-loop
-μ-loop text rows cells index objects seed h identification p word₀ word = word % 4294967296
+μ-loop text rows cells index objects seed hash identification head word₀ word = word % 4294967296
 
 -- the room
 links-lt : (s : tie.Start Inv-loop μ-loop) → (length (s .args .rows .now) < length (s .args .index .now)) × (length (s .args .rows .now) < 4294967295)

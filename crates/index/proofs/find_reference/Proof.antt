@@ -1,5 +1,6 @@
-use Prim.Native.Nat.{ℕ, suc, _+_, _-_, _%_, _≤_, _<_}
-use mathlib.Core.Path.{_≡_, refl, sym, ap, _∙_}
+-- `index::find_reference` meets its contract: the only object with the identification, if it is of the table. Assumes nothing.
+use Prim.Native.Nat.{ℕ, _-_}
+use mathlib.Core.Path.{sym, ap, _∙_}
 use mathlib.Core.List.{List}
 use native.Mathlib.Omega.{arith}
 use lib.ListN.{take}
@@ -55,7 +56,7 @@ returns c =
     c .find-in-table .ensures
     ∙ ap (inTable (a .rows .now) (a .cells .now) (a .table)) (c .before .find-hashed .ensures)
     ∙ sym (find-last (a .text .now) (a .rows .now) (a .cells .now) (a .table) _ (a .objects) (k .listed .in-rows) (k .unique))
-    ∙ ap (λ (i : List ℕ). findObject (a .table) 0 i (objectsOf (a .text .now) (a .cells .now) (take (a .objects) (a .rows .now)))) (part-is (a .text .now) (a .start) (a .len))
+    ∙ ap (λ (i : List ℕ). findObject (a .table) 0 i (objectsOf (a .text .now) (a .cells .now) (take (a .objects) (a .rows .now)))) (part-is (a .text .now) (a .start) (a .size))
 
 pub find-reference-spec : {M : Type 1} → statement M
 find-reference-spec =

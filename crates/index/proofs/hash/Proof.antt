@@ -1,9 +1,9 @@
-use Prim.Native.Nat.{ℕ, zero, suc, _+_, _*_, _-_, _%_, _≤_, _<_}
-use mathlib.Core.Path.{_≡_, refl, sym, ap, _∙_}
-use mathlib.Core.Bool.{Bool, true, false, _&&_}
+-- `index::hash` meets its contract: the rest at i, hashed on, gives the hash of the whole. Assumes nothing.
+use Prim.Native.Nat.{_-_, _≤_, _<_}
+use mathlib.Core.Path.{_≡_, refl, sym, _∙_}
 use native.Mathlib.Omega.{arith}
 use lib.ListN.{length, drop}
-use Rattle.index.specs.Index.{hashFrom, hashOf, mixOf}
+use Rattle.index.specs.Index.{hashFrom, hashOf}
 use Rattle.index.proofs.Hashes.{hash-more, hash-ends}
 use Rattle.index.proofs.hash.Statement.{statement}
 use Rattle.index.proofs.hash.Tie as tie
@@ -16,6 +16,9 @@ abbrev μ-loop : tie.MeasureT-loop
 
 add-k : tie.Need-add-k Inv-loop μ-loop
 add-k c = omega arith
+
+add-k-2 : tie.Need-add-k-2 Inv-loop μ-loop
+add-k-2 c = omega arith
 
 loop-holds : tie.Need-loop-holds Inv-loop μ-loop
 loop-holds c = (omega arith, omega arith, refl)
@@ -48,6 +51,7 @@ hash-spec =
     Inv-loop
     μ-loop
     add-k
+    add-k-2
     loop-holds
     shared-slice-read-mix
     mix-requires

@@ -1,6 +1,6 @@
-use Prim.Native.Nat.{ℕ, suc, _+_, _-_, _%_, _≤_, _<_}
-use mathlib.Core.Path.{_≡_, refl, sym, ap, _∙_}
-use mathlib.Core.List.{List}
+-- `index::insert` meets its contract: an index that can be used gets the object, any other stays. Assumes nothing.
+use Prim.Native.Nat.{ℕ}
+use mathlib.Core.Path.{sym, ap, _∙_}
 use native.Mathlib.Omega.{arith}
 use lib.ListN.{length}
 use Rattle.index.specs.Index.{chainOf}
@@ -28,12 +28,12 @@ returns : tie.Need-returns
 returns c =
     let a = c .before .before .before .before .before .before .before .before .args in
     let u = sym (c .before .before .before .before .before .before .is-usable .ensures) ∙ c .before .before .before .before .before .if1 .taken in
-    c .before .before .chain .ensures ∙ ap (λ (p : ℕ). chainOf (a .index .now) p (a .o) (a .h)) (c .before .before .before .before .head-at .ensures .0) ∙ sym (insert-used (a .index .now) (a .rows) (a .o) (a .h) u)
+    c .before .before .chain .ensures ∙ ap (λ (p : ℕ). chainOf (a .index .now) p (a .object) (a .hash)) (c .before .before .before .before .head-at .ensures .0) ∙ sym (insert-used (a .index .now) (a .rows) (a .object) (a .hash) u)
 
 returns-2 : tie.Need-returns-2
 returns-2 c =
     let a = c .before .before .before .args in
-    sym (insert-unused (a .index .now) (a .rows) (a .o) (a .h) (sym (c .before .is-usable .ensures) ∙ c .if1 .left))
+    sym (insert-unused (a .index .now) (a .rows) (a .object) (a .hash) (sym (c .before .is-usable .ensures) ∙ c .if1 .left))
 
 pub insert-spec : {M : Type 1} → statement M
 insert-spec =

@@ -1,7 +1,7 @@
-use Prim.Native.Nat.{ℕ, suc, _+_, _-_, _%_, _≤_, _<_}
-use mathlib.Core.Path.{_≡_, refl, sym, ap, _∙_}
+-- `index::is_named` meets its contract: the part of the text that the row's second and third cell say is compared. Assumes nothing.
+use Prim.Native.Nat.{ℕ}
+use mathlib.Core.Path.{ap, _∙_}
 use mathlib.Core.List.{List}
-use native.Mathlib.Omega.{arith}
 use Rattle.meaning.specs.Value.{sameIdentification}
 use Rattle.index.proofs.Parts.{part-named}
 use borrow.Author.Needs.{needs}
@@ -44,7 +44,7 @@ same-identification-requires c κs = search needs
 returns : tie.Need-returns
 returns c =
     let a = c .before .before .before .before .before .before .before .before .args in
-    c .same-identification .ensures ∙ ap (λ (s : List ℕ). sameIdentification s (a .identification .now)) (part-named (a .text .now) (a .rows .now) (a .cells .now) (a .o) _ _ (c .before .before .before .cell-at .ensures) (c .before .before .cell-at2 .ensures))
+    c .same-identification .ensures ∙ ap (λ (s : List ℕ). sameIdentification s (a .identification .now)) (part-named (a .text .now) (a .rows .now) (a .cells .now) (a .object) _ _ (c .before .before .before .cell-at .ensures) (c .before .before .cell-at2 .ensures))
 
 pub is-named-spec : {M : Type 1} → statement M
 is-named-spec =

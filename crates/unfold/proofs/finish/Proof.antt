@@ -1,5 +1,5 @@
 -- `unfold::finish` meets its contract. Assumes nothing.
-use mathlib.Core.Path.{refl, _∙_}
+use mathlib.Core.Path.{refl}
 use Rattle.text.proofs.Fill.{cleared}
 use borrow.Author.Needs.{needs}
 use native.Mathlib.Omega.{arith}

@@ -3,7 +3,7 @@ use Prim.Native.Nat.{_-_}
 use mathlib.Core.Path.{_≡_, refl, subst, _∙_}
 use lib.ListN.{length}
 use Rattle.meaning.specs.Unfold.{unfoldFile}
-use Rattle.unfold.specs.Turn.{Ready, Turned, Ended}
+use Rattle.unfold.specs.Turn.{Ready, Turned}
 use Rattle.unfold.proofs.Flat.{prepend-nil}
 use borrow.Author.Needs.{needs}
 use native.Mathlib.Omega.{arith}
