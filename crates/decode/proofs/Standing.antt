@@ -3,7 +3,7 @@
 use Prim.Native.Nat.{ℕ, zero, suc, _+_, _-_, _≤_, _<_}
 use native.Mathlib.Omega.{arith}
 use native.Mathlib.Numerals.{add-one}
-use mathlib.Core.Path.{_≡_, refl, sym, ap, _∙_}
+use mathlib.Core.Path.{_≡_, refl, sym, ap, _∙_, subst}
 use mathlib.Core.Bool.{Bool, true, false}
 use mathlib.Core.List.{List, [], _∷_}
 use lib.Dec.{eqb, leb}
@@ -15,7 +15,7 @@ use Rattle.meaning.specs.Model.{Records, finish, overrun, entry, Table, Model, 
 use Rattle.meaning.specs.Check.{good, special, isFlag, keepsTransfer, keepsTopic, keepsTable, keepsAttribute, keeps, see, nothingSeen, checkRecords, checkModel}
 use Rattle.meaning.proofs.Cuts.{both}
 use Rattle.decode.specs.Records.{recordsAt, kindAt, payloadAt, nextAt, attributesAt}
-use Rattle.decode.specs.Standing.{Standing, Here, TopicHere, TableHere, AttributeNext, EndHere, Beginning}
+use Rattle.decode.specs.Standing.{Standing, Here, TopicHere, TableHere, AttributeNext, EndHere, Beginning, Under}
 use Rattle.decode.proofs.Types.{payload-room}
 use Rattle.decode.proofs.Checked.{holds, begun, Turn, turn, behind-nothing, behind-transfer, in-order, at-end}
 
@@ -126,6 +126,7 @@ module _ (m : Model) (b : List ℕ) (at k t : ℕ) (s : Standing m b at k t) whe
           topicCount = omega arith;
           tableCount = s .tableCount;
           earlier = λ n q. omega (arith, s .earlier n q);
+          counted = omega (arith, s .counted);
         };
       }
 
@@ -165,6 +166,7 @@ module _ (m : Model) (b : List ℕ) (at k t : ℕ) (s : Standing m b at k t) whe
           topicCount = s .topicCount;
           tableCount = omega arith;
           earlier = λ n q. earlier-too g (ap (λ (x : Table). x .topic) i) n q (leb t n) refl;
+          counted = omega (arith, s .counted);
         };
       }
 
@@ -189,6 +191,7 @@ module _ (m : Model) (b : List ℕ) (at k t : ℕ) (s : Standing m b at k t) whe
           topicCount = s .topicCount;
           tableCount = s .tableCount;
           earlier = s .earlier;
+          counted = omega (arith, s .counted);
         };
       }
 
@@ -284,8 +287,16 @@ module _ (m : Model) (b : List ℕ) (ok : checkModel b ≡ good m) where
           topicCount = omega arith;
           tableCount = omega arith;
           earlier = λ n q. absurd (omega arith);
+          counted = omega arith;
         };
       }
 
   pub start : Standing m b (nextAt b (nextAt b 0)) 0 0
   start = beginning .topics
+
+-- what holds of a good model holds of any model that the check finds
+pub under : (b : List ℕ) (P : Model → Type 0) → Under b P → (m : Model) → checkModel b ≡ good m → P m
+under b P u m ok =
+    let e : good (u .model) ≡ good m = sym (u .good) ∙ ok in
+    let f : u .model ≡ m = cc in
+    subst P f (u .holds)
