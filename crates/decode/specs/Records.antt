@@ -3,11 +3,15 @@ use Prim.Native.Nat.{ℕ, _+_}
 use mathlib.Core.List.{List}
 use lib.ListN.{take, drop}
 use Rattle.meaning.specs.Bytes.{u16At}
-use Rattle.meaning.specs.Model.{Records, recordsFrom, Attribute, attributesOf}
+use Rattle.meaning.specs.Model.{Records, recordsFrom, Attribute, attributesOf, Model, modelOf}
 use Rattle.meaning.specs.Row.{Pair, pairsOf}
 
 abbrev pub recordsAt : (b : List ℕ) (at : ℕ) → Records
 recordsAt b at = recordsFrom 0 at (drop at b)
+
+-- the model that the bytes say, where they are good
+abbrev pub modelAt : (b : List ℕ) → Model
+modelAt b = modelOf (recordsAt b 0)
 
 -- the kind and the payload of the record at a byte, and the byte of the next record
 abbrev pub kindAt : (b : List ℕ) (at : ℕ) → ℕ

@@ -1,11 +1,11 @@
 -- Laws of the last number below a bound that passes a test. Assumes nothing.
-use Prim.Native.Nat.{ℕ, zero, suc, _+_, _-_, _≤_, _<_}
+use Prim.Native.Nat.{ℕ, zero, suc, _≤_, _<_}
 use mathlib.Core.Path.{_≡_, refl, sym, ap, _∙_}
 use mathlib.Core.Bool.{Bool, true, false}
 use mathlib.Core.Logic.{⊎-elim}
 use native.Mathlib.Omega.{arith}
 use native.Mathlib.Nat.{eq-or-lt-of-le, le-of-suc-le-suc}
-use Rattle.index.specs.Objects.{pickNumber, lastOf}
+use Rattle.index.specs.Objects.{lastOf}
 
 pub last-hit : (p : ℕ → Bool) (o : ℕ) → p o ≡ true → lastOf p (suc o) ≡ suc o
 unfolding lastOf

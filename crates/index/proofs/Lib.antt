@@ -4,3 +4,5 @@ pub mod Parts
 pub mod Walk
 pub mod Grown
 pub mod Meant
+pub mod Kept
+pub mod More

@@ -17,7 +17,7 @@ use Rattle.meaning.specs.Reading.{Object, cellAt, objectAt, objectsOf, isUsed}
 use Rattle.meaning.specs.Table.{findObject}
 use Rattle.meaning.proofs.Same.{identification-alike}
 use Rattle.index.specs.Objects.{identificationOf, isNamed, lastOf, lastNamed, inTable, Unique}
-use Rattle.index.proofs.Last.{last-hit, last-miss, last-le, last-passes, last-none}
+use Rattle.index.proofs.Last.{last-le, last-passes, last-none}
 
 -- ## Objects in a row
 

@@ -1,11 +1,10 @@
-use Prim.Native.Nat.{ℕ, zero, suc, _+_, _*_, _-_, _/_, _%_, _≤_, _<_}
-use mathlib.Core.Path.{_≡_, refl, sym, ap, _∙_}
-use mathlib.Core.Bool.{Bool, true, false}
-use mathlib.Core.List.{List}
+-- `index::find_chained` meets its contract. The loop's invariant: what is looked for stands on the chain from this word on, or nowhere.
+-- The measure is the word's object, as a link leads to an earlier one. Assumes nothing.
+use Prim.Native.Nat.{ℕ, suc, _+_, _-_, _%_, _<_}
+use mathlib.Core.Path.{_≡_, sym, ap, _∙_}
 use native.Mathlib.Omega.{arith}
-use lib.ListN.{length, getD}
-use Rattle.index.specs.Objects.{identificationOf, lastNamed}
-use Rattle.index.specs.Index.{headOf, hashOf}
+use lib.ListN.{length}
+use Rattle.index.specs.Objects.{identificationOf}
 use Rattle.index.proofs.Walk.{Along, along-start, along-next, along-some, along-other, link-le}
 use Rattle.index.proofs.Grown.{usable-lt}
 use Rattle.index.proofs.Last.{scan-hit, scan-end}

@@ -1,3 +1,4 @@
+-- `index::find_hashed` meets its contract: both ways of finding give the same. Assumes nothing.
 use mathlib.Core.Path.{sym, _∙_}
 use borrow.Author.Needs.{needs}
 use Rattle.index.proofs.find_hashed.Statement.{statement}

@@ -1,6 +1,6 @@
-use Prim.Native.Nat.{ℕ, suc, _+_, _-_, _%_, _≤_, _<_}
-use mathlib.Core.Path.{_≡_, refl, sym, ap, _∙_}
-use mathlib.Core.List.{List}
+-- `index::find_in_table` meets its contract: the table's test, in the code's shape. Assumes nothing.
+use Prim.Native.Nat.{_<_}
+use mathlib.Core.Path.{sym, _∙_}
 use native.Mathlib.Omega.{arith}
 use Rattle.index.proofs.Meant.{in-table-none, in-table-hit, in-table-miss}
 use borrow.Author.Needs.{needs}

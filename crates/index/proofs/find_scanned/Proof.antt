@@ -1,10 +1,8 @@
-use Prim.Native.Nat.{ℕ, zero, suc, _+_, _*_, _-_, _%_, _≤_, _<_}
-use mathlib.Core.Path.{_≡_, refl, sym, ap, _∙_}
-use mathlib.Core.Bool.{Bool, true, false, _&&_}
-use mathlib.Core.List.{List}
+-- `index::find_scanned` meets its contract: what is looked for stands before `at`, or nowhere. Assumes nothing.
+use Prim.Native.Nat.{_-_, _≤_, _<_}
+use mathlib.Core.Path.{_≡_, refl, sym, _∙_}
 use native.Mathlib.Omega.{arith}
-use lib.ListN.{length, getD}
-use Rattle.index.specs.Objects.{identificationOf, lastNamed}
+use Rattle.index.specs.Objects.{lastNamed}
 use Rattle.index.proofs.Last.{scan-hit, scan-miss, scan-end}
 use Rattle.index.proofs.find_scanned.Statement.{statement}
 use Rattle.index.proofs.find_scanned.Tie as tie

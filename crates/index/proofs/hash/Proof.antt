@@ -1,9 +1,9 @@
-use Prim.Native.Nat.{ℕ, zero, suc, _+_, _*_, _-_, _%_, _≤_, _<_}
-use mathlib.Core.Path.{_≡_, refl, sym, ap, _∙_}
-use mathlib.Core.Bool.{Bool, true, false, _&&_}
+-- `index::hash` meets its contract: the rest at i, hashed on, gives the hash of the whole. Assumes nothing.
+use Prim.Native.Nat.{_-_, _≤_, _<_}
+use mathlib.Core.Path.{_≡_, refl, sym, _∙_}
 use native.Mathlib.Omega.{arith}
 use lib.ListN.{length, drop}
-use Rattle.index.specs.Index.{hashFrom, hashOf, mixOf}
+use Rattle.index.specs.Index.{hashFrom, hashOf}
 use Rattle.index.proofs.Hashes.{hash-more, hash-ends}
 use Rattle.index.proofs.hash.Statement.{statement}
 use Rattle.index.proofs.hash.Tie as tie

@@ -1,7 +1,7 @@
-use Prim.Native.Nat.{ℕ, suc, _+_, _-_, _%_, _≤_, _<_}
-use mathlib.Core.Path.{_≡_, refl, sym, ap, _∙_}
+-- `index::is_named` meets its contract: the part of the text that the row's second and third cell say is compared. Assumes nothing.
+use Prim.Native.Nat.{ℕ}
+use mathlib.Core.Path.{ap, _∙_}
 use mathlib.Core.List.{List}
-use native.Mathlib.Omega.{arith}
 use Rattle.meaning.specs.Value.{sameIdentification}
 use Rattle.index.proofs.Parts.{part-named}
 use borrow.Author.Needs.{needs}

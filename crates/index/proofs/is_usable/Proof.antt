@@ -1,8 +1,4 @@
-use Prim.Native.Nat.{ℕ, zero, suc, _+_, _*_, _-_, _%_, _≤_, _<_}
-use mathlib.Core.Path.{_≡_, refl, sym, ap, _∙_}
-use mathlib.Core.Bool.{Bool, true, false, _&&_}
-use native.Mathlib.Omega.{arith}
-use lib.Dec.{ltb}
+-- `index::is_usable` meets its contract: the two tests in turn. Assumes nothing.
 use borrow.Author.Tests.{lt-ltb, le-ltb}
 use Rattle.index.proofs.is_usable.Statement.{statement}
 use Rattle.index.proofs.is_usable.Tie as tie

@@ -1,3 +1,4 @@
+-- `index::is_used` meets its contract: an identification is used exactly where an object is found. Assumes nothing.
 use mathlib.Core.Path.{sym, ap, _∙_}
 use lib.Dec.{ltb}
 use Rattle.index.proofs.Meant.{used-last}

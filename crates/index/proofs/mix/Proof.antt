@@ -1,9 +1,8 @@
-use Prim.Native.Nat.{ℕ, zero, suc, _+_, _*_, _-_, _/_, _%_, _≤_, _<_}
-use mathlib.Core.Path.{_≡_, refl, sym, ap, _∙_}
-use mathlib.Core.Bool.{Bool, true, false}
-use mathlib.Core.List.{List}
+-- `index::mix` meets its contract: the product stays below 2 ^ 62, and what is left of it below 2 ^ 32. Assumes nothing.
+use Prim.Native.Nat.{ℕ, _*_, _≤_, _<_}
+use mathlib.Core.Path.{refl}
 use native.Mathlib.Omega.{arith}
-use native.Mathlib.Nat.{mul-le-mul-right, mul-le-mul-left}
+use native.Mathlib.Nat.{mul-le-mul-left}
 use Rattle.index.specs.Index.{mixOf}
 use Rattle.index.proofs.mix.Statement.{statement}
 use Rattle.index.proofs.mix.Tie as tie

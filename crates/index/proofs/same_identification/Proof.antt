@@ -1,3 +1,4 @@
+-- `index::same_identification` meets its contract: equal means equal bytes. Assumes nothing.
 use Rattle.meaning.specs.Value.{sameIdentification}
 use borrow.Author.Needs.{needs}
 use Rattle.index.proofs.same_identification.Statement.{statement}
