@@ -3,7 +3,7 @@
 use Prim.Native.Nat.{ℕ, zero, suc, _+_, _-_, _≤_, _<_}
 use native.Mathlib.Omega.{arith}
 use native.Mathlib.Numerals.{add-one}
-use mathlib.Core.Path.{_≡_, refl, sym, ap, _∙_, subst}
+use mathlib.Core.Path.{_≡_, refl, sym, ap, _∙_}
 use mathlib.Core.Bool.{Bool, true, false}
 use mathlib.Core.List.{List, [], _∷_}
 use lib.Dec.{eqb, leb}
@@ -14,8 +14,8 @@ use Rattle.meaning.specs.Bytes.{choose, byteAt, u16At}
 use Rattle.meaning.specs.Model.{Records, finish, overrun, entry, Table, Model, noTable, tableAt, flagOf, attributeOf, attributesOf, tablesOf, topicsOf, nameOf, modelOf}
 use Rattle.meaning.specs.Check.{good, special, isFlag, keepsTransfer, keepsTopic, keepsTable, keepsAttribute, keeps, see, nothingSeen, checkRecords, checkModel}
 use Rattle.meaning.proofs.Cuts.{both}
-use Rattle.decode.specs.Records.{recordsAt, kindAt, payloadAt, nextAt, attributesAt}
-use Rattle.decode.specs.Standing.{Standing, Here, TopicHere, TableHere, AttributeNext, EndHere, Beginning, Under}
+use Rattle.decode.specs.Records.{recordsAt, kindAt, payloadAt, nextAt, attributesAt, modelAt}
+use Rattle.decode.specs.Standing.{Standing, Here, TopicHere, TableHere, AttributeNext, EndHere, Beginning}
 use Rattle.decode.proofs.Types.{payload-room}
 use Rattle.decode.proofs.Checked.{holds, begun, Turn, turn, behind-nothing, behind-transfer, in-order, at-end}
 
@@ -294,9 +294,6 @@ module _ (m : Model) (b : List ℕ) (ok : checkModel b ≡ good m) where
   pub start : Standing m b (nextAt b (nextAt b 0)) 0 0
   start = beginning .topics
 
--- what holds of a good model holds of any model that the check finds
-pub under : (b : List ℕ) (P : Model → Type 0) → Under b P → (m : Model) → checkModel b ≡ good m → P m
-under b P u m ok =
-    let e : good (u .model) ≡ good m = sym (u .good) ∙ ok in
-    let f : u .model ≡ m = cc in
-    subst P f (u .holds)
+-- the model that the check finds good is the one that the bytes say
+pub good-model : (m : Model) (b : List ℕ) → checkModel b ≡ good m → modelAt b ≡ m
+good-model m b ok = begun m b ok .model

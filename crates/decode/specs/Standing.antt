@@ -6,7 +6,7 @@ use mathlib.Core.List.{List, [], _∷_}
 use lib.ListN.{length, drop, getD}
 use Rattle.meaning.specs.Bytes.{byteAt}
 use Rattle.meaning.specs.Model.{Model, tableAt, flagOf, attributeOf, topicsOf, tablesOf}
-use Rattle.meaning.specs.Check.{Seen, Checked, good, isType, isName, checkRecords, checkModel}
+use Rattle.meaning.specs.Check.{Seen, Checked, good, isType, isName, checkRecords}
 use Rattle.decode.specs.Records.{recordsAt, kindAt, payloadAt, nextAt, attributesAt}
 
 -- at the byte `at` of the bytes b of the good model m a record begins, behind k topics and t tables
@@ -26,12 +26,6 @@ pub record Standing (m : Model) (b : List ℕ) (at k t : ℕ) : Type 0 where
   pub tableCount : t ≤ length (m .tables)
   pub earlier : (n : ℕ) → n < t → tableAt (m .tables) n .topic < k
   pub counted : k + t ≤ at
-
--- b is a good model, of which this holds
-pub record Under (b : List ℕ) (P : Model → Type 0) : Type 0 where
-  pub model : Model
-  pub good : checkModel b ≡ good model
-  pub holds : P model
 
 -- a record lies in the model
 pub record Here (b : List ℕ) (at : ℕ) : Type 0 where
