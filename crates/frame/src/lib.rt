@@ -1,0 +1,3 @@
+// The lines outside objects: what each makes of what is due.
+pub mod codes;
+pub mod lines;
