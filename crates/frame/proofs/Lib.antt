@@ -2,3 +2,4 @@ pub mod Words
 pub mod Heads
 pub mod Moves
 pub mod Finds
+pub mod Walks

@@ -124,3 +124,12 @@ module _ (b : List ℕ) (c : Content) (name : List ℕ) (fs : List Field) (due :
   pub named-holds : (m : Model) → MovedHolds m b (To due) → MovedHolds m b (namedIn name fs due)
   unfolding namedIn
   named-holds m h = holds-refuse m b _ _ _ tt (holds-refuse m b _ _ _ tt (holds-refuse m b _ _ _ tt h))
+
+-- ## A line by its code
+
+module _ (l : List ℕ) (h : Head) (o : HeadOf l h) (i : ℕ) (b : i < 16) (s : ℕ) where
+  pub has-code : h .code ≡ i + 1 → hasCode (getD codes i []) (fieldsOf s l) ≡ true
+  has-code e = o .code i b s ∙ eq-eqb (h .code) (i + 1) e
+
+  pub has-not : (h .code ≡ i + 1 → ⊥) → hasCode (getD codes i []) (fieldsOf s l) ≡ false
+  has-not n = o .code i b s ∙ ne-eqb (h .code) (i + 1) n
