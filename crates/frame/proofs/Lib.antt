@@ -3,3 +3,4 @@ pub mod Heads
 pub mod Moves
 pub mod Finds
 pub mod Walks
+pub mod Rows

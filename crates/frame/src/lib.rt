@@ -3,4 +3,5 @@ pub mod beginning;
 pub mod codes;
 pub mod lines;
 pub mod names;
+pub mod tables;
 pub mod topics;
