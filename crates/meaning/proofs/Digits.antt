@@ -29,7 +29,7 @@ is-digit : (n : ℕ) → n < 10 → digit (0x30 + n) ≡ true
 unfolding digit
 is-digit n h = rw (le-leb 0x30 (0x30 + n) (omega arith), le-leb (0x30 + n) 0x39 (omega arith))
 
-after-append : (n : ℕ) (s t : List ℕ) → digitsAfter n (s ++ t) ≡ digitsAfter (digitsAfter n s) t
+pub after-append : (n : ℕ) (s t : List ℕ) → digitsAfter n (s ++ t) ≡ digitsAfter (digitsAfter n s) t
 unfolding digitsAfter
 after-append n [] t = refl
 after-append n (b ∷ s) t = after-append _ s t
