@@ -1,0 +1,3 @@
+pub mod Stores
+pub mod Pairs
+pub mod Steps

@@ -1,0 +1,92 @@
+-- How a row is filled: what the fields that are left mean for it, and what a step leaves.
+-- Short names as in the meaning: u the undefined byte, place the number of a field on its line, fs the fields from that place on, ps the pairs that are left.
+use Prim.Native.Nat.{ℕ, zero, suc, _+_, _≤_, _<_, _^_}
+use mathlib.Core.Bool.{Bool, true, false, not, _&&_, _||_}
+use mathlib.Core.Path.{_≡_}
+use mathlib.Core.List.{List, [], _∷_, _++_}
+use lib.Dec.{eqb}
+use lib.IntN.{ℤ, pos}
+use lib.ListN.{length, drop}
+use lib.Seq.{sets}
+use Rattle.meaning.specs.Bytes.{choose, refuse}
+use Rattle.meaning.specs.Model.{Component, AttributeType, Reference, Number, Text, Date, Enumeration, Line}
+use Rattle.meaning.specs.Field.{Field, fieldsOf}
+use Rattle.meaning.specs.Value.{valueOf, isUndefined, isUndefinedTwice}
+use Rattle.meaning.specs.Row.{Pair, Cells, cells, refused, putPair, definedOr, hasMandatory, pairCells}
+use Rattle.row.specs.declared.filling.Filling.{Filling}
+use Rattle.row.specs.declared.filling.Filled.{Filled}
+use Rattle.row.specs.declared.filling.Filled.the-variants.{On, Rest, No}
+
+-- the cells of so many undefined pairs
+unfoldable pub zeros : ℕ → List ℤ
+zeros zero = []
+zeros (suc n) = pos 0 ∷ pos 0 ∷ zeros n
+
+-- cells before those of what follows
+unfoldable pub prefixed : List ℤ → Cells → Cells
+prefixed vs (refused n f) = refused n f
+prefixed vs (cells cs) = cells (vs ++ cs)
+
+-- two undefined bytes at a place, over so many pairs and those of ps behind them
+unfoldable pub coveredCells : (place count : ℕ) → List Field → Cells
+coveredCells place count [] = cells (zeros count)
+coveredCells place count (f ∷ fs) = refused 11 (place + 1)
+
+unfoldable pub covered : (place count : ℕ) → List Pair → List Field → Cells
+covered place count ps fs = refuse (hasMandatory ps) (refused 12 place) (coveredCells place (count + length ps) fs)
+
+-- the type of a field by its attribute's number; every number without a field is taken for a line
+unfoldable pub typeAsked : (kind number : ℕ) → Component → AttributeType
+typeAsked kind number c =
+    choose (eqb kind 1) (Reference number)
+    (choose (eqb kind 4) (Number c)
+    (choose (eqb kind 5) (Text number)
+    (choose (eqb kind 6) Date
+    (choose (eqb kind 7) (Enumeration number)
+    (Line number [])))))
+
+-- a field that is due, and the pairs behind it: an attribute's own field must be defined where the attribute is mandatory, a further component
+-- must be defined where the first one is, and undefined where that one is
+unfoldable pub dueCells : (u : ℕ) (needed barred : Bool) (place : ℕ) → AttributeType → List Pair → List Field → Cells
+dueCells u needed barred place type ps [] = refused 11 place
+dueCells u needed barred place type ps (f ∷ fs) =
+    let defined : Bool = not (isUndefined u f) in
+    choose (isUndefinedTwice u f)
+    (refuse (needed || hasMandatory ps) (refused 12 place)
+    (coveredCells place (1 + length ps) fs))
+    (refuse (needed && not defined || barred && defined) (refused 12 place)
+    (putPair place (definedOr defined (valueOf type f)) (pairCells u defined (place + 1) ps fs)))
+
+-- the fields that are left
+abbrev pub left : (start : ℕ) → List ℕ → Filling → List Field
+left start rest s = fieldsOf (start + s .at) (drop (s .at) rest)
+
+-- a row may be filled on, by so many cells
+pub record Ready (start : ℕ) (rest : List ℕ) (most : ℕ) (s : Filling) : Type 0 where
+  pub short : start + length rest < 2 ^ 62
+  pub within : s .at ≤ length rest
+  pub placed : s .place ≤ s .at + 3
+  pub room : s .used + most < 2 ^ 64
+
+-- a row filled from s to t: whatever pairs follow, what it meant at s is the values stored and what it means at t
+pub record Steps (rest : List ℕ) (most : ℕ) (whole after : List Pair → Cells) (s t : Filling) (entry exit : List ℤ) : Type 0 where
+  pub values : List ℤ
+  pub meant : (ps : List Pair) → whole ps ≡ prefixed values (after ps)
+  pub used : t .used ≡ s .used + length values
+  pub stored : exit ≡ sets entry (s .used) values
+  pub few : length values ≤ most
+  pub within : t .at ≤ length rest
+  pub placed : t .place ≤ t .at + 3
+
+-- what the rest of the row means at a state
+abbrev pub going : (u start : ℕ) → List ℕ → Filling → List Pair → Cells
+going u start rest s ps = pairCells u (s .before) (s .place) ps (left start rest s)
+
+-- what it means where two undefined bytes stood before, over so many pairs of the attribute
+abbrev pub covering : (start : ℕ) → List ℕ → Filling → ℕ → List Pair → Cells
+covering start rest s count ps = covered (s .place) count ps (left start rest s)
+
+abbrev pub Fills : (u start : ℕ) (rest : List ℕ) (most : ℕ) (whole : List Pair → Cells) (s : Filling) (entry exit : List ℤ) → Filled → Type 0
+Fills u start rest most whole s entry exit (On t) = Steps rest most whole (going u start rest t) s t entry exit
+Fills u start rest most whole s entry exit (Rest t count) = (t .used + (count + count) ≤ s .used + most) × Steps rest most whole (covering start rest t count) s t entry exit
+Fills u start rest most whole s entry exit (No k f) = (ps : List Pair) → whole ps ≡ refused k f
