@@ -1,3 +1,4 @@
 pub mod Stores
 pub mod Pairs
 pub mod Steps
+pub mod Due

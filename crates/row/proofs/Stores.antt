@@ -6,7 +6,7 @@ use native.Mathlib.Numerals.{add-one}
 use mathlib.Core.Path.{_≡_, refl, sym, ap, _∙_}
 use mathlib.Core.List.{List, [], _∷_, _++_, append-assoc, append-nil}
 use lib.IntN.{ℤ, pos}
-use lib.ListN.{length, set, drop, length-append, replicate}
+use lib.ListN.{length, set, take, drop, length-append, length-take, replicate}
 use lib.Seq.{sets, sets-eq, length-sets}
 use Rattle.row.specs.Filled.{zeros}
 
@@ -57,3 +57,6 @@ part-size at len = omega arith
 
 pub pair-stored : {A : Type 0} (l m x : List A) (at : ℕ) (a b : A) → m ≡ set l at a → x ≡ set m (at + 1) b → x ≡ sets l at (a ∷ b ∷ [])
 pair-stored l m x at a b e g = g ∙ rw (e, add-one at)
+
+pub part-most : (at len : ℕ) (l : List ℕ) → length (take (at + len - at) l) ≤ len
+part-most at len l = rw (part-size at len, length-take len l) (omega arith)

@@ -11,9 +11,11 @@ use lib.Seq.{sets}
 use Rattle.meaning.specs.Bytes.{choose, refuse}
 use Rattle.meaning.specs.Model.{Component, AttributeType, Reference, Number, Text, Date, Enumeration, Line}
 use Rattle.meaning.specs.Field.{Field, fieldsOf}
-use Rattle.meaning.specs.Value.{valueOf, isUndefined, isUndefinedTwice}
+use Rattle.meaning.specs.Value.{Value, pair, wrong, valueOf, isUndefined, isUndefinedTwice}
 use Rattle.meaning.specs.Row.{Pair, Cells, cells, refused, putPair, definedOr, hasMandatory, pairCells}
+use Rattle.component.specs.Meant.{componentOf}
 use Rattle.row.specs.declared.filling.Filling.{Filling}
+use Rattle.row.specs.declared.filling.Asked.{Asked}
 use Rattle.row.specs.declared.filling.Filled.{Filled}
 use Rattle.row.specs.declared.filling.Filled.the-variants.{On, Rest, No}
 
@@ -57,6 +59,13 @@ dueCells u needed barred place type ps (f ∷ fs) =
     (refuse (needed && not defined || barred && defined) (refused 12 place)
     (putPair place (definedOr defined (valueOf type f)) (pairCells u defined (place + 1) ps fs)))
 
+-- the state behind a field that ends at a byte of the rest, and behind its pair
+abbrev pub moved : Filling → ℕ → Filling
+moved s at = record { at = at; place = s .place; used = s .used; before = false }
+
+abbrev pub filled : Filling → Bool → Filling
+filled s before = record { at = s .at; place = s .place + 1; used = s .used + 2; before = before }
+
 -- the fields that are left
 abbrev pub left : (start : ℕ) → List ℕ → Filling → List Field
 left start rest s = fieldsOf (start + s .at) (drop (s .at) rest)
@@ -85,6 +94,23 @@ going u start rest s ps = pairCells u (s .before) (s .place) ps (left start rest
 -- what it means where two undefined bytes stood before, over so many pairs of the attribute
 abbrev pub covering : (start : ℕ) → List ℕ → Filling → ℕ → List Pair → Cells
 covering start rest s count ps = covered (s .place) count ps (left start rest s)
+
+-- a value's pair stored, at a state behind its field
+pub record PutsPair (v : Value) (s t : Filling) (entry exit : List ℤ) : Type 0 where
+  pub first : ℤ
+  pub second : ℤ
+  pub value : v ≡ pair first second
+  pub state : t ≡ filled s true
+  pub stored : exit ≡ sets entry (s .used) (first ∷ second ∷ [])
+
+abbrev pub Puts : Value → Filling → (entry exit : List ℤ) → Filled → Type 0
+Puts v s entry exit (On t) = PutsPair v s t entry exit
+Puts v s entry exit (Rest t count) = ⊥
+Puts v s entry exit (No k f) = (v ≡ wrong k) × (f ≡ s .place)
+
+-- what the rest of the row means where a field is due
+abbrev pub due : (u start : ℕ) → List ℕ → Asked → Filling → List Pair → Cells
+due u start rest asked s ps = dueCells u (asked .needed) (asked .barred) (s .place) (typeAsked (asked .kind) (asked .number) (componentOf (asked .component))) ps (left start rest s)
 
 abbrev pub Fills : (u start : ℕ) (rest : List ℕ) (most : ℕ) (whole : List Pair → Cells) (s : Filling) (entry exit : List ℤ) → Filled → Type 0
 Fills u start rest most whole s entry exit (On t) = Steps rest most whole (going u start rest t) s t entry exit

@@ -1,11 +1,15 @@
 // A row filled from its fields: one attribute after the other, the state by value.
 ghost use mathlib.Core.Path.{_≡_};
-ghost use Prim.Native.Nat.{_+_, _<_, _^_};
+ghost use mathlib.Core.Bool.{false};
+ghost use mathlib.Core.List.{[], _∷_};
+ghost use Prim.Native.Nat.{_+_, _≤_, _<_, _^_};
+ghost use lib.IntN.{pos};
 ghost use lib.ListN.{length};
+ghost use lib.Seq.{sets};
 ghost use Rattle.meaning.specs.Value.{valueOf};
 ghost use Rattle.component.specs.Meant.{componentOf};
 ghost use Rattle.value.specs.Meant.{valueMeant, fieldOf};
-ghost use Rattle.row.specs.Filled.{typeAsked, dueCells, Ready, Fills, left};
+ghost use Rattle.row.specs.Filled.{typeAsked, due, moved, filled, Ready, Puts, Fills};
 use crate::storing;
 use crate::taking;
 use crate::taking::Taken;
@@ -54,5 +58,100 @@ pub fn read_value(
         6 => value::dates::read_date(field),
         7 => value::dates::read_enumeration(field, number as u64),
         _ => Value::Wrong(13),
+    }
+}
+
+// The state behind a field, before its pair.
+fn behind(s: Filling, at: usize) -> Filling
+    ensures { λ r. ⌜ r ≡ moved s at ⌝ }
+{
+    Filling {
+        at,
+        place: s.place,
+        used: s.used,
+        before: false,
+    }
+}
+
+// An undefined field's pair, at a state behind it: "Undefined is 0 0".
+fn put_undefined(cells: &mut [i64], s: Filling) -> Filled
+    requires { ⌜ (s .place + 1 < 2 ^ 64) × (s .used + 2 < 2 ^ 64) ⌝ }
+    ensures answer { λ r. ⌜ r ≡ Filled.On (filled s false) ⌝ }
+    ensures stored { λ r. ⌜ now (cells .exit) ≡ sets (now (cells .entry)) (s .used) (pos 0 ∷ pos 0 ∷ []) ⌝ }
+{
+    storing::put_pair(cells, s.used, 0, 0);
+    Filled::On(Filling {
+        at: s.at,
+        place: s.place + 1,
+        used: s.used + 2,
+        before: false,
+    })
+}
+
+// A value's two cells, at a state behind its field; or its refusal.
+fn put_value(v: Value, cells: &mut [i64], s: Filling) -> Filled
+    requires { ⌜ (s .place + 1 < 2 ^ 64) × (s .used + 2 < 2 ^ 64) ⌝ }
+    ensures { λ r. ⌜ Puts (valueMeant v) s (now (cells .entry)) (now (cells .exit)) r ⌝ }
+{
+    match v {
+        Value::Pair(a, b) => {
+            storing::put_pair(cells, s.used, a, b);
+            Filled::On(Filling {
+                at: s.at,
+                place: s.place + 1,
+                used: s.used + 2,
+                before: true,
+            })
+        }
+        Value::Wrong(k) => Filled::No(k, s.place),
+    }
+}
+
+// A defined field, at a state behind it.
+fn put_defined(asked: Asked, field: &[u8], start: usize, cells: &mut [i64], s: Filling) -> Filled
+    requires { ⌜ start + (1 + length (now field)) < 2 ^ 63 ⌝ }
+    requires { ⌜ (s .place + 1 < 2 ^ 64) × (s .used + 2 < 2 ^ 64) ⌝ }
+    ensures { λ r. ⌜ Puts (valueOf (typeAsked (asked .kind) (asked .number) (componentOf (asked .component))) (fieldOf start (now (field .entry)))) s (now (cells .entry)) (now (cells .exit)) r ⌝ }
+{
+    let component = asked.component;
+    let v = read_value(asked.kind, asked.number, component, field, start);
+    put_value(v, cells, s)
+}
+
+// A field that is due, and its pair.
+pub fn put_field(
+    asked: Asked,
+    rest: &[u8],
+    start: usize,
+    undefined: u8,
+    cells: &mut [i64],
+    s: Filling,
+) -> Filled
+    requires { ⌜ Ready start (now rest) 2 s ⌝ }
+    ensures { λ r. ⌜ Fills undefined start (now (rest .entry)) 2 (due undefined start (now (rest .entry)) asked s) s (now (cells .entry)) (now (cells .exit)) r ⌝ }
+{
+    let at = s.at;
+    match taking::take_field(&rest[at..], undefined) {
+        Taken::Missing => Filled::No(11, s.place),
+        Taken::Defined(from, len) => {
+            if asked.barred {
+                return Filled::No(12, s.place);
+            }
+            let a = at + from;
+            let e = a + len;
+            put_defined(asked, &rest[a..e], start + a, cells, behind(s, e))
+        }
+        Taken::Undefined(from, len) => {
+            if asked.needed {
+                return Filled::No(12, s.place);
+            }
+            put_undefined(cells, behind(s, at + from + len))
+        }
+        Taken::Twice(from, len) => {
+            if asked.needed {
+                return Filled::No(12, s.place);
+            }
+            Filled::Rest(behind(s, at + from + len), 1)
+        }
     }
 }
