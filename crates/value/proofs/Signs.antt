@@ -3,7 +3,7 @@ use Prim.Native.Nat.{ℕ, zero, suc, _+_, _-_, _<_, _≤_, _^_}
 use mathlib.Core.Path.{_≡_, refl, sym, ap, _∙_, subst}
 use mathlib.Core.Bool.{Bool, true, false, not, _&&_}
 use native.Mathlib.Omega.{arith}
-use lib.IntN.{ℤ, pos, negsuc, negℤ, natAbs, _+ℤ_, _-ℤ_, +ℤ-idl}
+use lib.IntN.{ℤ, pos, negsuc, negℤ, natAbs, _+ℤ_, _-ℤ_, +ℤ-idl, +ℤ-one}
 use lib.Signed.{mag, leZ, ltZ, nonNeg}
 use lib.Dec.{T}
 use mathlib.Core.List.{List, [], _∷_}
@@ -66,3 +66,57 @@ unsigned-sign s h (inr e) = rw (begins-first 0x2b s h, begins-first 0x2d s h, ne
 pub unsigned-plain : (s : List ℕ) → 0 < length s → (getD s 0 0 ≡ 0x2b → ⊥) → (getD s 0 0 ≡ 0x2d → ⊥) → s ≡ unsigned s
 unfolding unsigned choose
 unsigned-plain s h e f = rw (begins-first 0x2b s h, begins-first 0x2d s h, ne-eqb (getD s 0 0) 0x2b e, ne-eqb (getD s 0 0) 0x2d f)
+
+-- ## The value without its sign, for -2^63 too
+
+up-one : (z : ℤ) → ltZ z (pos 0) ≡ true → z +ℤ pos 1 ≡ negℤ (pos (natAbs z - 1))
+up-one (pos n) h = absurd (omega (arith, ltb-true n 0 h))
+up-one (negsuc zero) h = refl
+up-one (negsuc (suc n)) h = let e : suc (suc n) - 1 ≡ suc n = omega arith in +ℤ-one (negsuc (suc n)) ∙ rw e
+
+neg-neg : (n : ℕ) → pos 0 -ℤ negℤ (pos n) ≡ pos n
+neg-neg zero = refl
+neg-neg (suc n) = +ℤ-idl (pos (suc n))
+
+abs-small : (z : ℤ) → ltZ z (pos 0) ≡ true → mag z < 2 ^ 63 → (1 ≤ natAbs z) × (natAbs z ≤ 2 ^ 63)
+abs-small (pos n) h g = absurd (omega (arith, ltb-true n 0 h))
+abs-small (negsuc n) h g = (omega arith, omega arith)
+
+module _ (z : ℤ) (fits : SFits w64 z) (below : ltZ (toZ w64 (ofZ w64 z)) (toZ w64 (ofZ w64 (pos 0))) ≡ true) where
+  is-below : ltZ z (pos 0) ≡ true
+  is-below = plain z (pos 0) true fits (record { sfits = omega arith }) below
+
+  bounds : (1 ≤ natAbs z) × (natAbs z ≤ 2 ^ 63)
+  bounds = abs-small z is-below (fits .sfits)
+
+  up-read : toZ w64 (ofZ w64 z) +ℤ pos 1 ≡ negℤ (pos (natAbs z - 1))
+  up-read = ap (λ (x : ℤ). x +ℤ pos 1) (toZ-ofZ w64 z fits) ∙ up-one z is-below
+
+  pub up-fits : SFits w64 (toZ w64 (ofZ w64 z) +ℤ pos 1)
+  up-fits = rw up-read (record { sfits = omega (arith, neg-mag (natAbs z - 1), bounds) })
+
+  flip-read : pos 0 -ℤ toZ w64 (ofZ w64 (toZ w64 (ofZ w64 z) +ℤ pos 1)) ≡ pos (natAbs z - 1)
+  flip-read = ap (λ (x : ℤ). pos 0 -ℤ x) (toZ-ofZ w64 _ up-fits ∙ up-read) ∙ neg-neg (natAbs z - 1)
+
+  pub flip-fits : SFits w64 (pos 0 -ℤ toZ w64 (ofZ w64 (toZ w64 (ofZ w64 z) +ℤ pos 1)))
+  flip-fits = rw flip-read (record { sfits = omega (arith, bounds) })
+
+  pub flipped : toZ w64 (ofZ w64 (pos 0 -ℤ toZ w64 (ofZ w64 (toZ w64 (ofZ w64 z) +ℤ pos 1)))) ≡ pos (natAbs z - 1)
+  flipped = toZ-ofZ w64 _ flip-fits ∙ flip-read
+
+  pub flip-cast : T (nonNeg (pos (natAbs z - 1))) × Fits w64 (natAbs (pos (natAbs z - 1)))
+  flip-cast = (tt, record { fits = omega (arith, bounds) })
+
+  pub flip-add : Fits w64 (natAbs (pos (natAbs z - 1)) + 1)
+  flip-add = record { fits = omega (arith, bounds) }
+
+  pub flip-is : natAbs (pos (natAbs z - 1)) + 1 ≡ natAbs z
+  flip-is = omega (arith, bounds)
+
+pub not-below : (z : ℤ) → ltZ z (pos 0) ≡ false → T (nonNeg z)
+not-below (pos n) h = tt
+not-below (negsuc n) h = subst T h tt
+
+pub abs-mag : (z : ℤ) → natAbs z ≤ mag z + 1
+abs-mag (pos n) = omega arith
+abs-mag (negsuc n) = omega arith

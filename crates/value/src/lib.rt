@@ -3,6 +3,7 @@ pub mod dates;
 pub mod digits;
 pub mod numbers;
 pub mod stretches;
+pub mod written;
 
 // The two cells of a defined field, or the number of its refusal.
 pub enum Value {

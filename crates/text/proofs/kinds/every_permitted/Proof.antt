@@ -19,11 +19,11 @@ abbrev μ-loop : tie.MeasureT-loop
 loop-holds : tie.Need-loop-holds Inv-loop μ-loop
 loop-holds c = (omega arith, refl)
 
-shared-slice-read-is-permitted : tie.Need-shared-slice-read-is-permitted Inv-loop μ-loop
-shared-slice-read-is-permitted c = omega arith
+shared-slice-read-tests-permitted : tie.Need-shared-slice-read-tests-permitted Inv-loop μ-loop
+shared-slice-read-tests-permitted c = omega arith
 
-is-permitted-requires : tie.Need-is-permitted-requires Inv-loop μ-loop
-is-permitted-requires c κs = search needs
+tests-permitted-requires : tie.Need-tests-permitted-requires Inv-loop μ-loop
+tests-permitted-requires c κs = search needs
 
 both-requires : tie.Need-both-requires Inv-loop μ-loop
 both-requires c κs = search needs
@@ -37,7 +37,7 @@ loop-less c = omega arith
 loop-again : tie.Need-loop-again Inv-loop μ-loop
 loop-again c =
     let at = c .before .before .before .before in
-    (omega arith, rw (c .both .ensures, c .before .is-permitted .ensures) (every-turn permitted (at .before .before .args .l .now) (at .loop .i) (at .loop .all) (omega arith) (at .loop .inv .1)))
+    (omega arith, rw (c .both .ensures, c .before .tests-permitted .ensures) (every-turn permitted (at .before .before .args .l .now) (at .loop .i) (at .loop .all) (omega arith) (at .loop .inv .1)))
 
 returns : tie.Need-returns Inv-loop μ-loop
 returns c =
@@ -51,8 +51,8 @@ every-permitted-spec =
     Inv-loop
     μ-loop
     loop-holds
-    shared-slice-read-is-permitted
-    is-permitted-requires
+    shared-slice-read-tests-permitted
+    tests-permitted-requires
     both-requires
     add-i
     loop-less

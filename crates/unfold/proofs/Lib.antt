@@ -1,0 +1,5 @@
+mod Leading
+mod Physical
+mod Judged
+mod Flat
+mod Kept

@@ -1,0 +1,4 @@
+pub mod Answer
+pub mod First
+pub mod Step
+pub mod Turn
