@@ -11,7 +11,7 @@ use lib.Seq.{sets}
 use Rattle.meaning.specs.Row.{Pair, Cells}
 use Rattle.row.specs.Filled.{prefixed, Steps}
 use Rattle.row.specs.declared.filling.Filling.{Filling}
-use Rattle.row.proofs.Stores.{sets-append}
+use Rattle.row.proofs.Stores.{sets-append, same-sets}
 use Rattle.row.proofs.Pairs.{prefixed-none, prefixed-both}
 
 -- no step
@@ -72,3 +72,6 @@ module _ {rest : List ℕ} {m : ℕ} {whole after : List Pair → Cells} {s t : 
   -- a refusal behind a step is the whole's
   pub refuses : (c : Cells) → ((ps : List Pair) → after ps ≡ c) → ((vs : List ℤ) → prefixed vs c ≡ c) → Steps rest m whole after s t entry exit → (ps : List Pair) → whole ps ≡ c
   refuses c e g a ps = a .meant ps ∙ ap (prefixed (a .values)) (e ps) ∙ g (a .values)
+
+  pub same-length : Steps rest m whole after s t entry exit → length exit ≡ length entry
+  same-length a = same-sets entry exit (a .values) (s .used) (a .stored)

@@ -12,8 +12,11 @@ use Rattle.meaning.specs.Bytes.{choose, refuse}
 use Rattle.meaning.specs.Model.{Component, AttributeType, Reference, Number, Text, Date, Enumeration, Line}
 use Rattle.meaning.specs.Field.{Field, fieldsOf}
 use Rattle.meaning.specs.Value.{Value, pair, wrong, valueOf, isUndefined, isUndefinedTwice}
-use Rattle.meaning.specs.Row.{Pair, Cells, cells, refused, putPair, definedOr, hasMandatory, pairCells}
+use Rattle.meaning.specs.Row.{Pair, OfAttribute, Cells, cells, refused, putPair, definedOr, hasMandatory, pairCells}
+use Rattle.component.specs.declared.Component as declared
 use Rattle.component.specs.Meant.{componentOf}
+use Rattle.decode.specs.declared.Attribute.{Attribute}
+use Rattle.decode.specs.Meant.{firstOf}
 use Rattle.row.specs.declared.filling.Filling.{Filling}
 use Rattle.row.specs.declared.filling.Asked.{Asked}
 use Rattle.row.specs.declared.filling.Filled.{Filled}
@@ -66,6 +69,28 @@ moved s at = record { at = at; place = s .place; used = s .used; before = false 
 abbrev pub filled : Filling → Bool → Filling
 filled s before = record { at = s .at; place = s .place + 1; used = s .used + 2; before = before }
 
+-- the state behind a line attribute's pair
+abbrev pub passed : Filling → Filling
+passed s = record { at = s .at; place = s .place; used = s .used + 2; before = s .before }
+
+-- what a further component has to be
+abbrev pub furtherAsked : Bool → declared.Component → Asked
+furtherAsked before c = record { needed = before; barred = not before; kind = 4; number = 0; component = c }
+
+-- what an attribute's own field has to be, and a coordinate's first component
+abbrev pub ownAsked : Bool → ℕ → ℕ → declared.Component → Asked
+ownAsked optional kind number c = record { needed = not optional; barred = false; kind = kind; number = number; component = c }
+
+-- the pair of an attribute with one field of its own
+abbrev pub ownPairs : Attribute → List Pair
+ownPairs a = OfAttribute (a .optional) (typeAsked (a .kind) (a .number) (componentOf (firstOf (a .components .items)))) ∷ []
+
+-- an attribute has the components of its type
+pub record Counted (a : Attribute) : Type 0 where
+  pub room : length (a .components .items) ≡ 3
+  pub most : a .components .count ≤ 3
+  pub least : 2 ≤ a .kind → a .kind ≤ 3 → 1 ≤ a .components .count
+
 -- the fields that are left
 abbrev pub left : (start : ℕ) → List ℕ → Filling → List Field
 left start rest s = fieldsOf (start + s .at) (drop (s .at) rest)
@@ -90,6 +115,10 @@ pub record Steps (rest : List ℕ) (most : ℕ) (whole after : List Pair → Cel
 -- what the rest of the row means at a state
 abbrev pub going : (u start : ℕ) → List ℕ → Filling → List Pair → Cells
 going u start rest s ps = pairCells u (s .before) (s .place) ps (left start rest s)
+
+-- the same, over an attribute's pairs and those that follow
+abbrev pub goingOver : (u start : ℕ) → List ℕ → List Pair → Filling → List Pair → Cells
+goingOver u start rest own s ps = going u start rest s (own ++ ps)
 
 -- what it means where two undefined bytes stood before, over so many pairs of the attribute
 abbrev pub covering : (start : ℕ) → List ℕ → Filling → ℕ → List Pair → Cells
