@@ -4,3 +4,5 @@ pub mod Steps
 pub mod Due
 pub mod Coordinates
 pub mod Attributes
+pub mod Records
+pub mod Ends
