@@ -56,7 +56,7 @@ goodComponents (c ∷ cs) = goodComponent c && goodComponents cs
 unfoldable pub isDimension : ℕ → Bool
 isDimension n = eqb n 2 || eqb n 3
 
--- "text (u16 longest length, at least 1)", "enumeration (u16 count of leaves, at least 1)", "line (u8 forms: 1 straight, 2 arc, 3 both)"
+-- a text's longest length and an enumeration's count of leaves are "at least 1"; a line's forms are "1 straight, 2 arc, 3 both"
 unfoldable pub goodType : AttributeType → Bool
 goodType (Reference t) = true
 goodType (Coordinate cs) = allOf (isDimension (length cs) ∷ goodComponents cs ∷ [])

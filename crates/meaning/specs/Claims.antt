@@ -17,21 +17,21 @@ use Rattle.meaning.specs.Width.{cutLines}
 
 -- (a) a cut of lines is unfolded to exactly those lines
 abbrev pub CutUnfolds : Type 0
-CutUnfolds = (m : ℕ) → Mark m → (ls : List (List ℕ)) (f : List ℕ) → Cut m ls f → unfoldFile m f ≡ lines ls
+CutUnfolds = (mark : ℕ) → Mark mark → (ls : List (List ℕ)) (f : List ℕ) → Cut mark ls f → unfoldFile mark f ≡ lines ls
 
 -- (b) a file without a fault of unfolding is a cut of its lines, and their bytes are permitted
 abbrev pub UnfoldsCut : Type 0
-UnfoldsCut = (m : ℕ) → Mark m → (ls : List (List ℕ)) (f : List ℕ) → unfoldFile m f ≡ lines ls → Cut m ls f × Permitted ls
+UnfoldsCut = (mark : ℕ) → Mark mark → (ls : List (List ℕ)) (f : List ℕ) → unfoldFile mark f ≡ lines ls → Cut mark ls f × Permitted ls
 
 -- f is a cut of ls, and of no other lines
-pub record OnlyCut (m : ℕ) (f : List ℕ) : Type 0 where
+pub record OnlyCut (mark : ℕ) (f : List ℕ) : Type 0 where
   pub of : List (List ℕ)
-  pub cut : Cut m of f
-  pub only : (ks : List (List ℕ)) → Cut m ks f → ks ≡ of
+  pub cut : Cut mark of f
+  pub only : (ks : List (List ℕ)) → Cut mark ks f → ks ≡ of
 
 -- (c) "every file without a fault of unfolding is a cut of exactly one list of lines"
 abbrev pub OneCut : Type 0
-OneCut = (m : ℕ) → Mark m → (f : List ℕ) → ((number line : ℕ) → unfoldFile m f ≡ fault number line → ⊥) → OnlyCut m f
+OneCut = (mark : ℕ) → Mark mark → (f : List ℕ) → ((number line : ℕ) → unfoldFile mark f ≡ fault number line → ⊥) → OnlyCut mark f
 
 -- ## The model
 
@@ -45,7 +45,7 @@ GoodMark = (model : List ℕ) (m : Model) → checkModel model ≡ good m → Ma
 
 -- ## Demand 3
 
--- a cut within the size limit is read as its lines: the answer and every buffer are those that demand 2 defines for the lines
+-- a cut within the size limit is read as its lines: the answer and every buffer are those that reading defines for the lines
 abbrev pub CutReadsAsLines : Type 0
 CutReadsAsLines =
     (model : List ℕ) (m : Model) (ls : List (List ℕ)) (f : List ℕ) (rooms : Rooms) → checkModel model ≡ good m → length f ≤ 16777216 → Cut (m .mark) ls f

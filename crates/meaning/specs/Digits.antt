@@ -31,7 +31,7 @@ unfoldable pub pointed : ℕ → List ℕ → List ℕ
 pointed zero s = s
 pointed (suc d) s = take (length s - suc d) s ++ (0x2e ∷ drop (length s - suc d) s)
 
--- a number has one digit before its point: numberBytes 2 of -5 is -0.05
+-- a number has at least one digit before its point: numberBytes 2 of -5 is -0.05
 unfoldable pub numberBytes : ℕ → ℤ → List ℕ
 numberBytes decimals v = signOf v ++ pointed decimals (digitsOf (decimals + 1) (natAbs v))
 

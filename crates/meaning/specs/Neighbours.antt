@@ -7,11 +7,13 @@ use lib.IntN.{ℤ, pos}
 use lib.ListN.{take}
 use Rattle.meaning.specs.Bytes.{bytesOf}
 use Rattle.meaning.specs.Answer.{Answer, accepted, refusal}
+use Rattle.meaning.specs.Reading.{Rooms}
+use Rattle.meaning.specs.Table.{Result}
 use Rattle.meaning.specs.Writing.{Lent}
 use Rattle.meaning.specs.Width.{Written}
 use Rattle.meaning.specs.Listing.{listingRooms}
-use Rattle.meaning.specs.Compute.{computeListing, computeWrite}
-use Rattle.meaning.specs.Sample.{recordBytes}
+use Rattle.meaning.specs.Compute.{computeListing, computeRead, computeWrite}
+use Rattle.meaning.specs.Sample.{recordBytes, sampleModel, with7}
 
 -- ## A model of one table: a mandatory date D, an optional text X and a mandatory text Y of 4 bytes; its topic's name has 24 bytes
 
@@ -91,7 +93,7 @@ pub own-mark : writesAs (pos 3) 16 76 ≡ record { answer = accepted 75 0 0; out
 unfolding writesAs
 own-mark = refl
 
--- "In writing: 2, 20, 19, 21": a stretch outside the lent text is 19, a width of 15 is 20, and 74 bytes are one too few
+-- "In writing: 2, 20, 19, 21": a stretch outside the lent text is 19, a width of 15 is 20, and no room at all is 21
 pub writing-refused : (writesAs (pos 4) 16 2 ∷ writesAs (pos 4) 15 2 ∷ writesAs (pos 3) 16 0 ∷ []) ≡
     (record { answer = refusal 19 0 0; output = 0 ∷ 0 ∷ [] }
     ∷ record { answer = refusal 20 0 0; output = 0 ∷ 0 ∷ [] }
@@ -100,6 +102,28 @@ pub writing-refused : (writesAs (pos 4) 16 2 ∷ writesAs (pos 4) 15 2 ∷ write
 unfolding writesAs
 writing-refused = refl
 
+-- the file has 75 bytes, so 74 are one too few
 pub one-byte-short : writesAs (pos 3) 16 74 .answer ≡ refusal 21 0 0
 unfolding writesAs
 one-byte-short = refl
+
+-- ## Reading: all that the sample leaves in the buffers, in just enough room and one byte, mark, row, cell and point cell more
+
+unfoldable pub readsSample : Rooms → Result
+unfolding computeRead sampleModel
+readsSample rooms = computeRead sampleModel (with7 "OBJE k1 A_1 10.0 20.5") rooms
+
+abbrev pub oneMore : Rooms
+oneMore = record { text = 170; marks = 4; rows = 3; cells = 19; points = 13 }
+
+pub whole-table : readsSample oneMore ≡ record {
+  answer = accepted 2 18 3;
+  text = with7 "OBJE k1 A_1 10.0 20.5" ++ (0 ∷ []);
+  marks = 1 ∷ 1 ∷ 1 ∷ 0 ∷ [];
+  rows = 0 ∷ 9 ∷ 0 ∷ [];
+  cells = pos 0 ∷ pos 51 ∷ pos 2 ∷ pos 4 ∷ pos 54 ∷ pos 1 ∷ pos 100 ∷ pos 1 ∷ pos 205
+      ∷ pos 1 ∷ pos 91 ∷ pos 2 ∷ pos 1 ∷ pos 0 ∷ pos 0 ∷ pos 0 ∷ pos 4 ∷ pos 0 ∷ pos 0 ∷ [];
+  points = pos 0 ∷ pos 100 ∷ pos 205 ∷ pos 0 ∷ pos 2 ∷ pos 110 ∷ pos 210 ∷ pos 0 ∷ pos 1 ∷ pos 120 ∷ pos 205 ∷ pos 0 ∷ pos 0 ∷ [];
+}
+unfolding readsSample
+whole-table = refl

@@ -18,7 +18,6 @@ use Rattle.meaning.specs.Writing.{Lent, countsFit, contentOf, stretchByt
 
 -- ## Tables without the starts of their texts
 
--- is a pair's second cell the start of a text, where its first cell is a?
 unfoldable pub isText : AttributeType → Bool
 isText (Reference t) = false
 isText (Coordinate cs) = false
@@ -28,6 +27,7 @@ isText Date = false
 isText (Enumeration leaves) = false
 isText (Line forms cs) = false
 
+-- is a pair's second cell the start of a text, where its first cell is a?
 unfoldable pub hasStart : Pair → (a : ℤ) → Bool
 hasStart (OfAttribute o type) a = isText type && not (eqb (natAbs a) 0)
 hasStart (OfComponent c) a = false
@@ -74,7 +74,8 @@ sameTexts [] (b ∷ k) = false
 sameTexts (a ∷ l) [] = false
 sameTexts (a ∷ l) (b ∷ k) = allOf (same a b ∷ sameTexts l k ∷ [])
 
--- "row list, cells, points and marks must be exactly those of a reading", starts aside; texts and identifications compare by their bytes
+-- "row list, cells, points and marks must be exactly those of a reading", starts aside; texts and identifications compare by their bytes.
+-- text and c are the table that was read, text′ and c′ the one that was lent
 unfoldable pub sameTable : Model → (text : List ℕ) → Content → (text′ : List ℕ) → Content → Bool
 sameTable m text c text′ c′ = allOf
     (same (c .marks) (c′ .marks)

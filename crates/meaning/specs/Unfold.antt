@@ -18,7 +18,8 @@ unfoldable pub add : ℕ → Physical → Physical
 add b (tail l) = tail (b ∷ l)
 add b (line l p) = line (b ∷ l) p
 
--- a byte before a file whose lines are p: an LF is an empty line's end, a CR before an LF is left out, and any other byte stands in the first line
+-- a byte before a file whose lines are p: an LF ends a line that is empty so far, a CR before an LF is left out, and any other byte stands in the
+-- first line. From the back, `a` LF is first LF before nothing, an empty line; then `a` before that, the line `a`
 unfoldable pub byte : Bool → Bool → ℕ → Physical → Physical
 byte true cr b p = line [] p
 byte false true b p = p
@@ -41,7 +42,8 @@ pub data Unfolded : Type 0 where
   lines : List (List ℕ) → Unfolded
   fault : ℕ → ℕ → Unfolded
 
--- a part of a line before what the rest of the file is unfolded to: of the same line where it is continued, and a line of its own where not
+-- a part of a line before what the rest of the file is unfolded to: of the same line where it is continued (there is one then), and a line of
+-- its own where not
 unfoldable pub put : Bool → List ℕ → Unfolded → Unfolded
 put continued p (fault k n) = fault k n
 put false p (lines ls) = lines (p ∷ ls)
@@ -61,21 +63,21 @@ unfoldable pub next : Bool → ℕ → ℕ
 next true n = n
 next false n = n + 1
 
--- the physical lines p from logical line n on, whose first continues line n or not
-unfoldable pub unfoldLines : ℕ → ℕ → Bool → Physical → Unfolded
-unfoldLines m n true (tail []) = fault 3 n
-unfoldLines m n false (tail []) = lines []
-unfoldLines m n continues (tail (b ∷ l)) = fault 3 n
-unfoldLines m n continues (line l p) =
-    let continued : Bool = ends m l in
-    let others : Unfolded = unfoldLines m (next continued n) continued p in
+-- the physical lines p from logical line n on, whose first continues line n or not; where a line continues another and none is left, 3 was given before
+unfoldable pub unfoldLines : (mark n : ℕ) (continues : Bool) → Physical → Unfolded
+unfoldLines mark n true (tail []) = fault 3 n
+unfoldLines mark n false (tail []) = lines []
+unfoldLines mark n continues (tail (b ∷ l)) = fault 3 n
+unfoldLines mark n continues (line l p) =
+    let continued : Bool = ends mark l in
+    let others : Unfolded = unfoldLines mark (next continued n) continued p in
     refuse (continued && none p) (fault 3 n)
     (refuse (continues && not (prefix cont l)) (fault 5 n)
     (refuse (not (allPermitted l)) (fault 4 n)
     (put continued (withoutLastIf continued (dropIf continues 5 l)) others)))
 
-unfoldable pub unfoldFile : ℕ → List ℕ → Unfolded
-unfoldFile m f = unfoldLines m 1 false (physical f)
+unfoldable pub unfoldFile : (mark : ℕ) → List ℕ → Unfolded
+unfoldFile mark f = unfoldLines mark 1 false (physical f)
 
 -- "The unfolded text is each logical line followed by one LF"
 unfoldable pub unfoldedText : List (List ℕ) → List ℕ

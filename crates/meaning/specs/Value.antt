@@ -67,7 +67,7 @@ numberOf c s =
 
 -- ## Date and enumeration
 
--- "month 01 to 12, day 01 to 31"
+-- "month 01 to 12, day 01 to 31"; the year does not count
 unfoldable pub isDay : (year month day : ℕ) → Bool
 isDay year month day = leb 1 month && leb month 12 && leb 1 day && leb day 31
 
