@@ -16,7 +16,8 @@ use Rattle.meaning.specs.Model.{Component}
 use Rattle.meaning.specs.Check.{isBound, goodComponent}
 use Rattle.meaning.specs.Value.{pair, digitsAfter, isDigits, unsigned, signed, wholeSize, isNumber, numberDigits, within, numberOf, enumerationOf}
 use Rattle.meaning.specs.Digits.{lastDigits, shortened, digitsOf, signOf, pointed, numberBytes}
-use Rattle.meaning.proofs.Cuts.{both}
+use Rattle.meaning.proofs.Refuse.{both}
+pub use Rattle.meaning.proofs.Refuse.{holds}
 
 -- ## Digits
 
@@ -194,13 +195,6 @@ first-digit (suc d) n c (b ∷ s) r l =
     let low : suc d + 1 ≤ suc (length s) = r .low in
     let e : suc (length s) - suc d ≡ suc (length s - suc d) = omega arith in
     rw e (no-sign b c _ (both (digit b) _ (r .digits) .0) l)
-
--- one of the tests that all hold
-pub holds : (ts : List Bool) (n : ℕ) → allOf ts ≡ true → getD ts n true ≡ true
-unfolding allOf
-holds [] n h = refl
-holds (t ∷ ts) zero h = both t _ h .0
-holds (t ∷ ts) (suc n) h = holds ts n (both t _ h .1)
 
 pub sign-pos : (n : ℕ) → signOf (pos n) ≡ []
 unfolding signOf choose
