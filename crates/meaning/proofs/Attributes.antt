@@ -113,12 +113,12 @@ module _ (m : Model) (rooms : Rooms) (own : List ℕ) (P : Content → Type 0) (
       let c₀ : Content = withCells d (front ++ (x ∷ y ∷ xs)) (take (4 * k) (c .points)) in
       let size : length (take (4 * k) (c .points)) ≡ 4 * k = rw (length-take (4 * k) (c .points)) (omega arith) in
       let all : take (4 * k) (c .points) ++ take (4 * n) ps ≡ take (4 * (k + n)) (c .points) =
-          let z : 4 * (k + n) ≡ 4 * k + 4 * n = omega arith in rw z (sym (take-add (4 * k) (4 * n) (c .points))) in
+      let z : 4 * (k + n) ≡ 4 * k + 4 * n = omega arith in rw z (sym (take-add (4 * k) (4 * n) (c .points))) in
       let count : length (take (4 * (k + n)) (c .points)) / 4 ≡ k + n = rw (length-take (4 * (k + n)) (c .points)) (omega arith) in
       let more : k + n - k ≡ n = omega arith in
       let cells : set (set (front ++ (x ∷ y ∷ xs)) (a .cell) (pos (1 + n))) (a .cell + 1) (pos k) ≡ front ++ (pos (1 + n) ∷ pos k ∷ xs) = rw (← at) (set-pair front x y xs (pos (1 + n)) (pos k)) in
       let ended : Reads m rooms own P (lineOf (withState reached w)) (withPoint (take (4 * n) ps) c₀) ((ELIN ∷ []) ∷ (attributeLines c others ++ ks)) =
-          rw all (reads-ended m rooms own P (withState reached w) (withCells d (front ++ (x ∷ y ∷ xs)) (take (4 * (k + n)) (c .points))) _ refl (rw (count, more, cells) r)) in
+      rw all (reads-ended m rooms own P (withState reached w) (withCells d (front ++ (x ∷ y ∷ xs)) (take (4 * (k + n)) (c .points))) _ refl (rw (count, more, cells) r)) in
       rw (lines-drawn c a others n k e f (omega arith), append-assoc (pointLines (a .components) n ps) ((ELIN ∷ []) ∷ attributeLines c others) ks)
       (points-read m rooms own P w _ c₀ points (rw size (omega arith)) ended)
 
@@ -131,37 +131,37 @@ module _ (m : Model) (rooms : Rooms) (own : List ℕ) (P : Content → Type 0) (
   attributes-read (absent r) (also {x = x} {y = y} {xs = xs} p l) d cell front e at then =
       rw (moved front x y xs) at
       (attributes-read r l d (cell + 2) (front ++ (x ∷ y ∷ [])) (moved-length front x y xs ∙ rw e) (cells-behind (c .cells) cell at)
-        (λ ys q. rw (moved front x y ys) (then (x ∷ y ∷ ys) (also (attribute-drawn p) q))))
+      (λ ys q. rw (moved front x y ys) (then (x ∷ y ∷ ys) (also (attribute-drawn p) q))))
   attributes-read (plain h g z w v r) (also {x = x} {y = y} {xs = xs} p l) d cell front e at then =
       rw (moved front x y xs) at
       (attributes-read r l d (cell + 2) (front ++ (x ∷ y ∷ [])) (moved-length front x y xs ∙ rw e) (cells-behind (c .cells) cell at)
-        (λ ys q. rw (moved front x y ys) (then (x ∷ y ∷ ys) (also (attribute-drawn p) q))))
+      (λ ys q. rw (moved front x y ys) (then (x ∷ y ∷ ys) (also (attribute-drawn p) q))))
   attributes-read (word f w v h s r) (also {x = x} {y = y} {xs = xs} p l) d cell front e at then =
       rw (moved front x y xs) at
       (attributes-read r l d (cell + 2) (front ++ (x ∷ y ∷ [])) (moved-length front x y xs ∙ rw e) (cells-behind (c .cells) cell at)
-        (λ ys q. rw (moved front x y ys) (then (x ∷ y ∷ ys) (also (attribute-drawn p) q))))
+      (λ ys q. rw (moved front x y ys) (then (x ∷ y ∷ ys) (also (attribute-drawn p) q))))
   attributes-read (name f w v s h r) (also {x = x} {y = y} {xs = xs} p l) d cell front e at then =
       rw (moved front x y xs) at
       (attributes-read r l d (cell + 2) (front ++ (x ∷ y ∷ [])) (moved-length front x y xs ∙ rw e) (cells-behind (c .cells) cell at)
-        (λ ys q. rw (moved front x y ys) (then (x ∷ y ∷ ys) (also (attribute-drawn p) q))))
+      (λ ys q. rw (moved front x y ys) (then (x ∷ y ∷ ys) (also (attribute-drawn p) q))))
   attributes-read (without r) (also {x = x} {y = y} {xs = xs} p l) d cell front e at then =
       rw (moved front x y xs) at
       (attributes-read r l d (cell + 2) (front ++ (x ∷ y ∷ [])) (moved-length front x y xs ∙ rw e) (cells-behind (c .cells) cell at)
-        (λ ys q. rw (moved front x y ys) (then (x ∷ y ∷ ys) (also (component-drawn p) q))))
+      (λ ys q. rw (moved front x y ys) (then (x ∷ y ∷ ys) (also (component-drawn p) q))))
   attributes-read (along w r) (also {x = x} {y = y} {xs = xs} p l) d cell front e at then =
       rw (moved front x y xs) at
       (attributes-read r l d (cell + 2) (front ++ (x ∷ y ∷ [])) (moved-length front x y xs ∙ rw e) (cells-behind (c .cells) cell at)
-        (λ ys q. rw (moved front x y ys) (then (x ∷ y ∷ ys) (also (component-drawn p) q))))
+      (λ ys q. rw (moved front x y ys) (then (x ∷ y ∷ ys) (also (component-drawn p) q))))
   attributes-read {k = k} (noLine {forms = forms} {ks = comps} {ps = ps} r) (also {xs = xs} undrawn l) d cell front e at then =
       undefined-read (record { cell = cell; optional = true; forms = forms; components = comps }) (lineAttributes (cell + 2) ps) k _ (first-cell (c .cells) cell at) refl
       (rw (moved front (pos 0) (pos 0) xs) at
       (attributes-read r l d (cell + 2) (front ++ (pos 0 ∷ pos 0 ∷ [])) (moved-length front (pos 0) (pos 0) xs ∙ rw e) (cells-behind (c .cells) cell at)
-        (λ ys q. rw (moved front (pos 0) (pos 0) ys) (then (pos 0 ∷ pos 0 ∷ ys) (also isDrawn q)))))
+      (λ ys q. rw (moved front (pos 0) (pos 0) ys) (then (pos 0 ∷ pos 0 ∷ ys) (also isDrawn q)))))
   attributes-read (noLine r) (also (alike h) l) d cell front e at then = absurd (line-plain _ _ _ _ h)
   attributes-read (line n room points r) (also (alike h) l) d cell front e at then = absurd (line-plain _ _ _ _ h)
   attributes-read {k = k} (line {o = o} {forms = forms} {ks = comps} {ps = ps} n room points r) (also {xs = xs} undrawn l) d cell front e at then =
       drawn-read (record { cell = cell; optional = o; forms = forms; components = comps }) (lineAttributes (cell + 2) ps) k (suc n) d front xs (pos 0) (pos 0)
-        (first-cell (c .cells) cell at) (second-cell (c .cells) cell at) e room points
+      (first-cell (c .cells) cell at) (second-cell (c .cells) cell at) e room points
       (rw (moved front (pos (1 + suc n)) (pos k) xs) at
       (attributes-read r l d (cell + 2) (front ++ (pos (1 + suc n) ∷ pos k ∷ [])) (moved-length front (pos (1 + suc n)) (pos k) xs ∙ rw e) (cells-behind (c .cells) cell at)
-        (λ ys q. rw (moved front (pos (1 + suc n)) (pos k) ys) (then (pos (1 + suc n) ∷ pos k ∷ ys) (also isDrawn q)))))
+      (λ ys q. rw (moved front (pos (1 + suc n)) (pos k) ys) (then (pos (1 + suc n) ∷ pos k ∷ ys) (also isDrawn q)))))
