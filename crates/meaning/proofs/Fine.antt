@@ -1,0 +1,228 @@
+-- What was read is fine: from the lines that were not refused, back to the table. Assumes nothing.
+use Prim.Native.Nat.{ℕ, zero, suc, _+_, _*_, _-_, _/_, _≤_, _<_}
+use native.Mathlib.Omega.{arith}
+use native.Mathlib.Numerals.{add-one}
+use mathlib.Core.Path.{_≡_, refl, sym, ap, ap₂, subst, _∙_}
+use mathlib.Core.Bool.{Bool, true, false, not, _&&_, _||_, true≢false, false≢true}
+use mathlib.Core.List.{List, [], _∷_, _++_, append-assoc, append-nil}
+use lib.Dec.{eqb, leb, ltb}
+use lib.IntN.{ℤ, pos, natAbs}
+use lib.ListN.{length, take, drop, getD, set, replicate, length-append, length-set, drop-of-length-le}
+use lib.Seq.{drop-cons, getD-set-same, getD-set-other, drop-append-add, drop-append-seam}
+use borrow.Author.Tests.{eq-eqb, ne-eqb, eqb-true, ltb-true, ltb-false}
+use Rattle.meaning.specs.Bytes.{choose}
+use Rattle.meaning.specs.Unfold.{unfoldedText}
+use Rattle.meaning.specs.Model.{Found, found, missing, Table, Model, tableAt, noTable}
+use Rattle.meaning.specs.Check.{special, GoodModel}
+use Rattle.meaning.specs.Field.{Field, fieldsOf, fieldAt, moreThan}
+use Rattle.meaning.specs.Row.{Pair, pairsOf, Cells, cells, pairCells}
+use Rattle.meaning.specs.Reading.{lineAttributes, Due, topicFrom, tableFrom, objectOf, closing, nothing, dueLines, Content, State, behind, withMark, withRow, pointCount, Rooms, findTopic, findTable, mandatoryBetween, Object, stretch, cellAt, objectsOf, isUsed}
+use Rattle.meaning.specs.Lines.{Step, go, no, lineDue, Run, ran, stopped, run}
+use Rattle.meaning.specs.Writing.{identificationBytes, rowsOfTable, rowsBehindTable, rowsBehindTopic, isDelivered}
+use Rattle.meaning.proofs.Same.{same-refl}
+use Rattle.meaning.proofs.Fields.{Solid}
+use Rattle.meaning.proofs.Standing.{AllStand, text-behind, line-stands}
+use Rattle.meaning.proofs.Numerals.{Defined}
+use Rattle.meaning.proofs.Valid.{RowOk, lentObjects, IdentificationOk, ObjectOk, Place, topicsFrom, tablesFrom, objects, Rest, finished, topicOut, topicIn, topicEnd, tableOut, tableIn, object, tableEnd}
+use Rattle.meaning.proofs.Given.{Given, AllAre, fields-are, pairs-given}
+use Rattle.meaning.proofs.Drawn.{Drawing, FirstStep, first-step, ObjectEnd, AttributesEnd, object-ends}
+use Rattle.meaning.proofs.Resolve.{Row, rowCells, flatRows, rowStarts, objectsOfRows, flat-append, starts-append, table-at, size-at, row-identification, objects-flat, lent-flat, ResolvedTo, resolved-length, pairsIn, AllLong, ResolvedRows, nomore, more}
+use Rattle.meaning.proofs.Back.{PairsGood, lines-good, row-ok}
+use Rattle.meaning.proofs.Steps.{TopicStep, emod, topi, TableStep, etop, tabl, ObjectGiven, ObjectStep, etab, obje, topic-step, table-step, object-step, closing-step, TopicFound, topic-found, TableFound, table-found}
+use Rattle.meaning.proofs.GoodModels.{pairs-good, topic-solid, table-solid}
+
+-- table t of topic q stands before table n of topic p, or not
+pub data Passed (p n q t : ℕ) : Type 0 where
+  topicBefore : q < p → Passed p n q t
+  tableBefore : q ≡ p → t < n → Passed p n q t
+
+pub data Ahead (p n q t : ℕ) : Type 0 where
+  topicAfter : p < q → Ahead p n q t
+  tableAfter : q ≡ p → n ≤ t → Ahead p n q t
+
+-- what may follow: topic `from` or a later one, table `from` of topic p or a later one, an object of table t
+pub data Next : Type 0 where
+  topicNext : (from : ℕ) → Next
+  tableNext : (p from : ℕ) → Next
+  objectNext : (t : ℕ) → Next
+
+module _ (m : Model) where
+  abbrev topicOf : ℕ → ℕ
+  topicOf t = tableAt (m .tables) t .topic
+
+  abbrev topicCount : ℕ
+  topicCount = length (m .topics)
+
+  unfoldable pub dueOf : Next → Due
+  dueOf (topicNext from) = topicFrom from
+  dueOf (tableNext p from) = tableFrom p from
+  dueOf (objectNext t) = objectOf t
+
+  unfoldable pub placeOf : Next → Place
+  placeOf (topicNext from) = topicsFrom from from (drop from (m .topics))
+  placeOf (tableNext p from) = tablesFrom p from from (drop from (m .tables)) (drop (p + 1) (m .topics))
+  placeOf (objectNext t) = objects (topicOf t) t (drop (t + 1) (m .tables)) (drop (topicOf t + 1) (m .topics))
+
+  -- the topics below this one are passed; the tables before this one of this topic are passed; the next row is of this table or of a later one
+  unfoldable pub topicBound : Next → ℕ
+  topicBound (topicNext from) = from
+  topicBound (tableNext p from) = p + 1
+  topicBound (objectNext t) = topicOf t + 1
+
+  unfoldable pub inTopic : Next → ℕ
+  inTopic (topicNext from) = from
+  inTopic (tableNext p from) = p
+  inTopic (objectNext t) = topicOf t
+
+  unfoldable pub tableBound : Next → ℕ
+  tableBound (topicNext from) = 0
+  tableBound (tableNext p from) = from
+  tableBound (objectNext t) = t + 1
+
+  unfoldable pub rowBound : Next → ℕ
+  rowBound (topicNext from) = 0
+  rowBound (tableNext p from) = from
+  rowBound (objectNext t) = t
+
+  -- what is not passed has no mark yet
+  record Unmarked (a : Next) (marks : List ℕ) : Type 0 where
+    size : length marks ≡ topicCount + length (m .tables)
+    within : tableBound a ≤ length (m .tables)
+    topics : (j : ℕ) → topicBound a ≤ j → j < topicCount → getD marks j 0 ≡ 0
+    tables : (t : ℕ) → t < length (m .tables) → Ahead (inTopic a) (tableBound a) (topicOf t) t → getD marks (topicCount + t) 0 ≡ 0
+
+  -- the first of these rows is ahead
+  abbrev FirstAhead : (p n : ℕ) → List Row → Type 0
+  FirstAhead p n [] = Unit {0}
+  FirstAhead p n (r ∷ rs) = Ahead p n (topicOf (r .table)) (r .table)
+
+-- what is known of the marks of a table that is read to its end
+delivered-not : (marks : List ℕ) (j : ℕ) → getD marks j 0 ≡ 0 → not (eqb (getD marks j 0) 0) ≡ false
+delivered-not marks j e = rw e
+
+delivered-is : (marks : List ℕ) (j : ℕ) → getD marks j 0 ≡ 1 → not (eqb (getD marks j 0) 0) ≡ true
+delivered-is marks j e = rw e
+
+drop-next : {A : Type 0} (l : List A) (i : ℕ) (d : A) → i < length l → drop i l ≡ getD l i d ∷ drop (i + 1) l
+drop-next l i d h = rw (add-one i) (drop-cons l i d h)
+
+module _ (m : Model) (text : List ℕ) (c : Content) {marks before : List ℕ} {at k : ℕ} {rows : List ℕ} where
+  -- topics that are left out
+  topics-out : (from i p d : ℕ) → i + d ≡ p → p ≤ length (m .topics) → ((j : ℕ) → i ≤ j → j < p → isDelivered c j ≡ false)
+      → Rest m text c (topicsFrom from p (drop p (m .topics))) marks before at k rows → Rest m text c (topicsFrom from i (drop i (m .topics))) marks before at k rows
+  topics-out from i p zero e l out r = let z : i ≡ p = omega arith in rw z r
+  topics-out from i p (suc d) e l out r =
+      rw (drop-next (m .topics) i [] (omega arith))
+      (topicOut (out i (omega arith) (omega arith)) (topics-out from (i + 1) p d (omega arith) l (λ j a b. out j (omega arith) b) r))
+
+  -- tables that are left out
+  tables-out : (p from i n d : ℕ) (names : List (List ℕ)) → i + d ≡ n → n ≤ length (m .tables)
+      → ((j : ℕ) → i ≤ j → j < n → (eqb (tableAt (m .tables) j .topic) p && isDelivered c (length (m .topics) + j)) ≡ false)
+      → Rest m text c (tablesFrom p from n (drop n (m .tables)) names) marks before at k rows → Rest m text c (tablesFrom p from i (drop i (m .tables)) names) marks before at k rows
+  tables-out p from i n zero names e l out r = let z : i ≡ n = omega arith in rw z r
+  tables-out p from i n (suc d) names e l out r =
+      rw (drop-next (m .tables) i noTable (omega arith))
+      (tableOut (out i (omega arith) (omega arith)) (tables-out p from (i + 1) n d names (omega arith) l (λ j a b. out j (omega arith) b) r))
+
+and-out : (a p : ℕ) (b : Bool) → (a ≡ p → b ≡ false) → (eqb a p && b) ≡ false
+and-out a p b h = by (eqb a p) refl
+  where
+    by : (x : Bool) → eqb a p ≡ x → (x && b) ≡ false
+    by true e = h (eqb-true a p e)
+    by false e = refl
+
+-- a later topic is ahead of an earlier one
+ahead-earlier : (from p n q t : ℕ) → from ≤ p → Ahead p n q t → Ahead from 0 q t
+ahead-earlier from p n q t l (topicAfter h) = topicAfter (omega arith)
+ahead-earlier from p n q t l (tableAfter e h) = by (ltb from p) refl
+  where
+    by : (x : Bool) → ltb from p ≡ x → Ahead from 0 q t
+    by true y = topicAfter (omega (arith, ltb-true from p y))
+    by false y = tableAfter (omega (arith, ltb-false from p y)) (omega arith)
+
+-- the objects and places of rows do not change when references are resolved
+module _ (text : List ℕ) (os : List Object) (ts : List Table) where
+  resolved-flat : {rs qs : List Row} → ResolvedRows text os ts rs qs → length (flatRows qs) ≡ length (flatRows rs)
+  unfolding flatRows
+  resolved-flat nomore = refl
+  resolved-flat (more {xs = xs} {ys = ys} {rs = rs} {qs = qs} r rest) =
+      let a = resolved-length text os r in
+      let ih = resolved-flat rest in
+      let p = length-append ys (flatRows qs) in
+      let q = length-append xs (flatRows rs) in
+      omega arith
+
+  resolved-starts : {rs qs : List Row} (base : ℕ) → ResolvedRows text os ts rs qs → rowStarts base qs ≡ rowStarts base rs
+  unfolding rowStarts
+  resolved-starts base nomore = refl
+  resolved-starts base (more {t = t} {start = start} {size = size} {xs = xs} {ys = ys} {rs = rs} {qs = qs} r rest) =
+      let z : length (rowCells (record { table = t; start = start; size = size; pairs = ys })) ≡ length (rowCells (record { table = t; start = start; size = size; pairs = xs })) =
+          (let a = resolved-length text os r in omega arith) in
+      rw z (ap (λ (l : List ℕ). base ∷ l) (resolved-starts _ rest))
+
+  resolved-objects : {rs qs : List Row} → ResolvedRows text os ts rs qs → objectsOfRows text qs ≡ objectsOfRows text rs
+  unfolding objectsOfRows
+  resolved-objects nomore = refl
+  resolved-objects (more r rest) = rw (resolved-objects rest)
+
+  resolved-append : {rs qs rs′ qs′ : List Row} → ResolvedRows text os ts rs qs → ResolvedRows text os ts rs′ qs′ → ResolvedRows text os ts (rs ++ rs′) (qs ++ qs′)
+  resolved-append nomore s = s
+  resolved-append (more r rest) s = more r (resolved-append rest s)
+
+  -- the table of the row that follows
+  first-table : {rs₀ qs₀ rs qs : List Row} (r : Row) (cs : List ℤ) → ResolvedRows text os ts rs₀ qs₀ → ResolvedRows text os ts (r ∷ rs) qs → cs ≡ flatRows qs₀ ++ flatRows qs
+      → getD cs (length (flatRows rs₀)) (pos 0) ≡ pos (r .table)
+  unfolding flatRows
+  first-table {qs₀ = qs₀} r cs before (more {t = t} {start = start} {size = size} {ys = ys} {qs = qs} s rest) e =
+      rw (e, ← resolved-flat before) (table-at (flatRows qs₀) (record { table = t; start = start; size = size; pairs = ys }) (flatRows qs))
+
+module _ (m : Model) (good : GoodModel m) (rooms : Rooms) (text : List ℕ) (final : State) (complete : final .due ≡ nothing) (cs : List ℤ) where
+  abbrev os : List Object
+  os = objectsOf text (final .content .cells) (final .content .rows)
+
+  -- the table that is read, its references resolved
+  abbrev table : Content
+  table = record { marks = final .content .marks; rows = final .content .rows; cells = cs; points = final .content .points }
+
+  pub record Fine (a : Next) (marks : List ℕ) (rs₀ : List Row) (points : List ℤ) (k : ℕ) : Type 0 where
+    pub rs : List Row
+    pub rows : final .content .rows ≡ rowStarts 0 (rs₀ ++ rs)
+    pub cells : final .content .cells ≡ flatRows (rs₀ ++ rs)
+    pub long : AllLong text os (m .tables) rs
+    pub others : List ℤ
+    pub points′ : final .content .points ≡ points ++ others
+    pub keptTopics : (j : ℕ) → j < topicBound m a → j < topicCount m → getD (final .content .marks) j 0 ≡ getD marks j 0
+    pub keptTables : (t : ℕ) → t < length (m .tables) → Passed (inTopic m a) (tableBound m a) (topicOf m t) t
+        → getD (final .content .marks) (topicCount m + t) 0 ≡ getD marks (topicCount m + t) 0
+    pub first : FirstAhead m (inTopic m a) (rowBound m a) rs
+    pub rest : (qs₀ qs : List Row) → ResolvedRows text os (m .tables) rs₀ qs₀ → ResolvedRows text os (m .tables) rs qs → cs ≡ flatRows qs₀ ++ flatRows qs
+        → lentObjects text cs (final .content .rows) ≡ os
+        → Rest m text table (placeOf m a) marks (rowStarts 0 rs₀) (length (flatRows rs₀)) k (rowStarts (length (flatRows rs₀)) rs)
+
+  not-complete : (s : State) → (s .due ≡ nothing → ⊥) → ran s ≡ ran final → ⊥
+  not-complete s h e = let q : s ≡ final = cc in h (rw q complete)
+
+  -- behind EMOD: ENDE, and nothing
+  nothing-end : (ls : List (List ℕ)) (line start : ℕ) (c : Content) → run m rooms text (record { line = line; start = start; due = nothing; content = c }) ls ≡ ran final → final .content ≡ c
+  unfolding run lineDue
+  nothing-end [] line start c e = let q : record { line = line; start = start; due = nothing; content = c } ≡ final = cc in rw (← q)
+  nothing-end (l ∷ ls) line start c e =
+      let f = first-step m rooms text l ls (record { line = line; start = start; due = nothing; content = c }) final e in
+      absurd (never 7 1 (f .due) (f .content) (f .goes))
+    where
+      never : (number field : ℕ) (due : Due) (c : Content) → no number field ≡ go due c → ⊥
+      never number field due c h = let z : _≡_ {A = ℕ} 0 1 = cc in omega arith
+
+  closing-nothing : closing ≡ nothing → ⊥
+  closing-nothing h = let z : _≡_ {A = ℕ} 0 1 = cc in omega arith
+
+  closing-end : (ls : List (List ℕ)) (line start : ℕ) (c : Content) → run m rooms text (record { line = line; start = start; due = closing; content = c }) ls ≡ ran final → final .content ≡ c
+  unfolding run lineDue
+  closing-end [] line start c e = absurd (not-complete (record { line = line; start = start; due = closing; content = c }) closing-nothing e)
+  closing-end (l ∷ ls) line start c e =
+      let f = first-step m rooms text l ls (record { line = line; start = start; due = closing; content = c }) final e in
+      let g = closing-step m rooms text (fieldsOf start l) c (f .due) (f .content) (f .goes) in
+      let d : f .due ≡ nothing = cc in
+      let x : f .content ≡ c = cc in
+      nothing-end ls (line + 1) (start + length l + 1) c (subst (λ (y : Content). run m rooms text (record { line = line + 1; start = start + length l + 1; due = nothing; content = y }) ls ≡ ran final) x
+        (subst (λ (y : Due). run m rooms text (record { line = line + 1; start = start + length l + 1; due = y; content = f .content }) ls ≡ ran final) d (f .runs)))
