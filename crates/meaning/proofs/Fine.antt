@@ -88,6 +88,7 @@ module _ (m : Model) where
   record Unmarked (a : Next) (marks : List ℕ) : Type 0 where
     size : length marks ≡ topicCount + length (m .tables)
     within : tableBound a ≤ length (m .tables)
+    among : topicBound a ≤ topicCount
     topics : (j : ℕ) → topicBound a ≤ j → j < topicCount → getD marks j 0 ≡ 0
     tables : (t : ℕ) → t < length (m .tables) → Ahead (inTopic a) (tableBound a) (topicOf t) t → getD marks (topicCount + t) 0 ≡ 0
 
@@ -226,3 +227,190 @@ module _ (m : Model) (good : GoodModel m) (rooms : Rooms) (text : List ℕ) (fin
       let x : f .content ≡ c = cc in
       nothing-end ls (line + 1) (start + length l + 1) c (subst (λ (y : Content). run m rooms text (record { line = line + 1; start = start + length l + 1; due = nothing; content = y }) ls ≡ ran final) x
         (subst (λ (y : Due). run m rooms text (record { line = line + 1; start = start + length l + 1; due = y; content = f .content }) ls ≡ ran final) d (f .runs)))
+
+  abbrev soFar : List ℕ → List Row → List ℤ → Content
+  soFar marks rs₀ points = record { marks = marks; rows = rowStarts 0 rs₀; cells = flatRows rs₀; points = points }
+
+  -- ## EMOD
+
+  fine-end : (from : ℕ) (marks : List ℕ) (rs₀ : List Row) (points : List ℤ) (k : ℕ) → final .content ≡ soFar marks rs₀ points → Unmarked m (topicNext from) marks → 4 * k ≡ length points
+      → Fine (topicNext from) marks rs₀ points k
+  unfolding topicBound inTopic tableBound rowBound placeOf rowStarts flatRows
+  fine-end from marks rs₀ points k e un count =
+      let marks-e : final .content .marks ≡ marks = ap (λ (c : Content). c .marks) e in
+      let rows-e : final .content .rows ≡ rowStarts 0 rs₀ = ap (λ (c : Content). c .rows) e in
+      let points-e : final .content .points ≡ points = ap (λ (c : Content). c .points) e in
+      let among : from ≤ topicCount m = un .among in
+      record {
+        rs = [];
+        rows = rw (append-nil rs₀) rows-e;
+        cells = rw (append-nil rs₀) (ap (λ (c : Content). c .cells) e);
+        long = tt;
+        others = [];
+        points′ = points-e ∙ sym (append-nil points);
+        keptTopics = λ j l n. ap (λ (x : List ℕ). getD x j 0) marks-e;
+        keptTables = λ t l p. ap (λ (x : List ℕ). getD x (topicCount m + t) 0) marks-e;
+        first = tt;
+        rest = λ qs₀ qs r s c same.
+            topics-out m text table from from (topicCount m) (topicCount m - from) (omega arith) (omega arith)
+              (λ j a b. delivered-not (final .content .marks) j (ap (λ (x : List ℕ). getD x j 0) marks-e ∙ un .topics j a b))
+              (rw (drop-of-length-le (m .topics) {i = topicCount m} (omega arith))
+                (finished (sym marks-e) (sym rows-e) (last-cell qs₀ qs r s c) (count ∙ ap length (sym points-e))));
+      }
+    where
+      last-cell : {rs₀ : List Row} (qs₀ qs : List Row) → ResolvedRows text os (m .tables) rs₀ qs₀ → ResolvedRows text os (m .tables) [] qs → cs ≡ flatRows qs₀ ++ flatRows qs → length (flatRows rs₀) ≡ length cs
+      last-cell qs₀ _ r nomore c = rw (c, append-nil (flatRows qs₀)) (sym (resolved-flat text os (m .tables) r))
+
+  -- ## TOPI
+
+  fine-topic : (from p : ℕ) (name : List ℕ) (marks : List ℕ) (rs₀ : List Row) (points : List ℤ) (k : ℕ) → TopicFound from 0 name (m .topics) p → Unmarked m (topicNext from) marks
+      → Fine (tableNext p 0) (set marks p 1) rs₀ points k → Fine (topicNext from) marks rs₀ points k
+  unfolding topicBound inTopic tableBound rowBound placeOf
+  fine-topic from p name marks rs₀ points k f un q =
+      let after : from ≤ p = f .after in
+      let size = f .size in
+      let size-m = un .size in
+      let below : p < topicCount m = omega arith in
+      let same-p : p - 0 ≡ p = omega arith in
+      let own : findTopic from 0 (getD (m .topics) p []) (m .topics) ≡ found p = rw same-p at (f .own) in
+      let kept : (j : ℕ) → j < from → j < topicCount m → getD (final .content .marks) j 0 ≡ getD marks j 0 =
+          λ j a b. q .keptTopics j (omega arith) b ∙ getD-set-other marks p j 1 0 (λ z. omega arith) in
+      let none : (j : ℕ) → from ≤ j → j < p → getD (final .content .marks) j 0 ≡ 0 =
+          λ j a b. q .keptTopics j (omega arith) (omega arith) ∙ (getD-set-other marks p j 1 0 (λ z. omega arith) ∙ un .topics j a (omega arith)) in
+      let this : getD (final .content .marks) p 0 ≡ 1 = q .keptTopics p (omega arith) below ∙ getD-set-same marks p 1 0 (omega arith) in
+      record {
+        rs = q .rs; rows = q .rows; cells = q .cells; long = q .long; others = q .others; points′ = q .points′;
+        keptTopics = kept;
+        keptTables = λ t l a. q .keptTables t l (passed-later t a) ∙ getD-set-other marks p (topicCount m + t) 1 0 (λ z. omega arith);
+        first = first-later (q .rs) (q .first);
+        rest = λ qs₀ qs r s c same.
+            topics-out m text table from from p (p - from) (omega arith) (omega arith) (λ j a b. delivered-not (final .content .marks) j (none j a b))
+              (rw (drop-next (m .topics) p [] below) (topicIn (delivered-is (final .content .marks) p this) (topic-solid m good p below) own (q .rest qs₀ qs r s c same)));
+      }
+    where
+      passed-later : (t : ℕ) → Passed from 0 (topicOf m t) t → Passed p 0 (topicOf m t) t
+      passed-later t (topicBefore h) = topicBefore (omega (arith, f .after))
+      passed-later t (tableBefore e h) = absurd (omega arith)
+
+      first-later : (rs : List Row) → FirstAhead m p 0 rs → FirstAhead m from 0 rs
+      first-later [] h = tt
+      first-later (r ∷ rs) h = ahead-earlier from p 0 _ _ (f .after) h
+
+  -- ## ETOP
+
+  -- the rows that follow are of later topics, or of later tables
+  behind-topic : (p : ℕ) (rs₀ qs₀ rs qs : List Row) → ResolvedRows text os (m .tables) rs₀ qs₀ → ResolvedRows text os (m .tables) rs qs → cs ≡ flatRows qs₀ ++ flatRows qs → FirstAhead m (p + 1) 0 rs
+      → rowsBehindTopic (m .tables) p cs (rowStarts (length (flatRows rs₀)) rs) ≡ rowStarts (length (flatRows rs₀)) rs
+  unfolding rowStarts rowsBehindTopic choose
+  behind-topic p rs₀ qs₀ [] qs r s c h = refl
+  behind-topic p rs₀ qs₀ (x ∷ rs) qs r s c h =
+      rw (first-table text os (m .tables) x cs r s c, ne-eqb (topicOf m (x .table)) p (λ e. later e h))
+    where
+      later : topicOf m (x .table) ≡ p → Ahead (p + 1) 0 (topicOf m (x .table)) (x .table) → ⊥
+      later e (topicAfter l) = omega arith
+      later e (tableAfter z l) = omega arith
+
+  fine-topic-end : (p from : ℕ) (marks : List ℕ) (rs₀ : List Row) (points : List ℤ) (k : ℕ) → mandatoryBetween p from (length (m .tables)) 0 (m .tables) ≡ false → Unmarked m (tableNext p from) marks
+      → Fine (topicNext (p + 1)) marks rs₀ points k → Fine (tableNext p from) marks rs₀ points k
+  unfolding topicBound inTopic tableBound rowBound placeOf
+  fine-topic-end p from marks rs₀ points k g un q =
+      let within : from ≤ length (m .tables) = un .within in
+      record {
+        rs = q .rs; rows = q .rows; cells = q .cells; long = q .long; others = q .others; points′ = q .points′;
+        keptTopics = q .keptTopics;
+        keptTables = λ t l a. q .keptTables t l (passed-later t a);
+        first = first-later (q .rs) (q .first);
+        rest = λ qs₀ qs r s c same.
+            tables-out m text table p from from (length (m .tables)) (length (m .tables) - from) (drop (p + 1) (m .topics)) (omega arith) (omega arith)
+              (λ j a b. and-out (topicOf m j) p _ (λ e. delivered-not (final .content .marks) (topicCount m + j)
+                (q .keptTables j b (topicBefore (omega arith)) ∙ un .tables j b (tableAfter e a))))
+              (rw (drop-of-length-le (m .tables) {i = length (m .tables)} (omega arith))
+                (topicEnd g (behind-topic p rs₀ qs₀ (q .rs) qs r s c (q .first)) (q .rest qs₀ qs r s c same)));
+      }
+    where
+      passed-later : (t : ℕ) → Passed p from (topicOf m t) t → Passed (p + 1) 0 (topicOf m t) t
+      passed-later t (topicBefore h) = topicBefore (omega arith)
+      passed-later t (tableBefore e h) = topicBefore (omega arith)
+
+      first-later : (rs : List Row) → FirstAhead m (p + 1) 0 rs → FirstAhead m p from rs
+      first-later [] h = tt
+      first-later (r ∷ rs) (topicAfter h) = topicAfter (omega arith)
+      first-later (r ∷ rs) (tableAfter e h) = topicAfter (omega arith)
+
+  -- ## TABL
+
+  fine-table : (p from t : ℕ) (name : List ℕ) (marks : List ℕ) (rs₀ : List Row) (points : List ℤ) (k : ℕ) → TableFound p from 0 name (m .tables) t → mandatoryBetween p from t 0 (m .tables) ≡ false
+      → Unmarked m (tableNext p from) marks → Fine (objectNext t) (set marks (topicCount m + t) 1) rs₀ points k → Fine (tableNext p from) marks rs₀ points k
+  unfolding topicBound inTopic tableBound rowBound placeOf
+  fine-table p from t name marks rs₀ points k f g un q =
+      let after : from ≤ t = f .after in
+      let size = f .size in
+      let size-m = un .size in
+      let below : t < length (m .tables) = omega arith in
+      let same-t : t - 0 ≡ t = omega arith in
+      let topic : topicOf m t ≡ p = rw same-t at (f .inTopic) in
+      let own : findTable p from 0 (tableAt (m .tables) t .name) (m .tables) ≡ found t = rw same-t at (f .own) in
+      let i : ℕ = topicCount m + t in
+      let this : getD (final .content .marks) i 0 ≡ 1 = q .keptTables t below (tableBefore refl (omega arith)) ∙ getD-set-same marks i 1 0 (omega arith) in
+      record {
+        rs = q .rs; rows = q .rows; cells = q .cells; long = q .long; others = q .others; points′ = q .points′;
+        keptTopics = λ j l n. q .keptTopics j (omega arith) n ∙ getD-set-other marks i j 1 0 (λ z. omega arith);
+        keptTables = λ j l a. q .keptTables j l (passed-later topic j a) ∙ getD-set-other marks i (topicCount m + j) 1 0 (λ z. not-this topic j a (omega arith));
+        first = first-later topic (q .rs) (q .first);
+        rest = λ qs₀ qs r s c same.
+            tables-out m text table p from from t (t - from) (drop (p + 1) (m .topics)) (omega arith) (omega arith)
+              (λ j a b. and-out (topicOf m j) p _ (λ e. delivered-not (final .content .marks) (topicCount m + j)
+                (q .keptTables j (omega arith) (tableBefore (e ∙ sym topic) (omega arith))
+                 ∙ (getD-set-other marks i (topicCount m + j) 1 0 (λ z. omega arith) ∙ un .tables j (omega arith) (tableAfter e a)))))
+              (rw (drop-next (m .tables) t noTable below)
+                (tableIn {p = p} {n = t} {table = tableAt (m .tables) t} (rw (eq-eqb (topicOf m t) p topic, delivered-is (final .content .marks) i this)) refl (table-solid m good t below) own g
+                  (subst (λ (x : ℕ). Rest m text table (objects x t (drop (t + 1) (m .tables)) (drop (x + 1) (m .topics))) (set marks i 1) (rowStarts 0 rs₀) (length (flatRows rs₀)) k
+                    (rowStarts (length (flatRows rs₀)) (q .rs))) topic (q .rest qs₀ qs r s c same))));
+      }
+    where
+      passed-later : topicOf m t ≡ p → (j : ℕ) → Passed p from (topicOf m j) j → Passed (topicOf m t) (t + 1) (topicOf m j) j
+      passed-later e j (topicBefore h) = topicBefore (omega arith)
+      passed-later e j (tableBefore z h) = tableBefore (z ∙ sym e) (omega (arith, f .after))
+
+      not-this : topicOf m t ≡ p → (j : ℕ) → Passed p from (topicOf m j) j → j ≡ t → ⊥
+      not-this e j (topicBefore h) z = let same-topic : topicOf m j ≡ p = rw z e in omega arith
+      not-this e j (tableBefore y h) z = omega (arith, f .after)
+
+      first-later : topicOf m t ≡ p → (rs : List Row) → FirstAhead m (topicOf m t) t rs → FirstAhead m p from rs
+      first-later e [] h = tt
+      first-later e (r ∷ rs) (topicAfter h) = topicAfter (omega arith)
+      first-later e (r ∷ rs) (tableAfter z h) = tableAfter (z ∙ e) (omega (arith, f .after))
+
+  -- ## ETAB
+
+  no-more-rows : (t : ℕ) (rs₀ qs₀ rs qs : List Row) → ResolvedRows text os (m .tables) rs₀ qs₀ → ResolvedRows text os (m .tables) rs qs → cs ≡ flatRows qs₀ ++ flatRows qs
+      → FirstAhead m (topicOf m t) (t + 1) rs
+      → (rowsOfTable t cs (rowStarts (length (flatRows rs₀)) rs) ≡ []) × (rowsBehindTable t cs (rowStarts (length (flatRows rs₀)) rs) ≡ rowStarts (length (flatRows rs₀)) rs)
+  unfolding rowStarts rowsOfTable rowsBehindTable choose
+  no-more-rows t rs₀ qs₀ [] qs r s c h = (refl, refl)
+  no-more-rows t rs₀ qs₀ (x ∷ rs) qs r s c h =
+      let e = first-table text os (m .tables) x cs r s c in
+      let other = ne-eqb (x .table) t (λ z. later z h) in
+      (rw (e, other), rw (e, other))
+    where
+      later : x .table ≡ t → Ahead (topicOf m t) (t + 1) (topicOf m (x .table)) (x .table) → ⊥
+      later e (topicAfter l) = let same-topic : topicOf m (x .table) ≡ topicOf m t = rw e in omega arith
+      later e (tableAfter z l) = omega arith
+
+  fine-table-end : (t : ℕ) (marks : List ℕ) (rs₀ : List Row) (points : List ℤ) (k : ℕ) → Fine (tableNext (topicOf m t) (t + 1)) marks rs₀ points k → Fine (objectNext t) marks rs₀ points k
+  unfolding topicBound inTopic tableBound rowBound placeOf
+  fine-table-end t marks rs₀ points k q =
+      record {
+        rs = q .rs; rows = q .rows; cells = q .cells; long = q .long; others = q .others; points′ = q .points′;
+        keptTopics = q .keptTopics;
+        keptTables = q .keptTables;
+        first = first-later (q .rs) (q .first);
+        rest = λ qs₀ qs r s c same.
+            let none = no-more-rows t rs₀ qs₀ (q .rs) qs r s c (q .first) in
+            tableEnd refl (none .0) (none .1) (q .rest qs₀ qs r s c same);
+      }
+    where
+      first-later : (rs : List Row) → FirstAhead m (topicOf m t) (t + 1) rs → FirstAhead m (topicOf m t) t rs
+      first-later [] h = tt
+      first-later (r ∷ rs) (topicAfter h) = topicAfter h
+      first-later (r ∷ rs) (tableAfter e h) = tableAfter e (omega arith)
