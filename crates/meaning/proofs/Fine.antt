@@ -24,6 +24,8 @@ use Rattle.meaning.proofs.Fields.{Solid}
 use Rattle.meaning.proofs.Standing.{AllStand, text-behind, line-stands}
 use Rattle.meaning.proofs.Numerals.{Defined}
 use Rattle.meaning.proofs.Valid.{RowOk, lentObjects, IdentificationOk, ObjectOk, Place, topicsFrom, tablesFrom, objects, Rest, finished, topicOut, topicIn, topicEnd, tableOut, tableIn, object, tableEnd}
+use Rattle.meaning.proofs.Given as given
+use Rattle.meaning.proofs.Drawn as lines
 use Rattle.meaning.proofs.Given.{Given, AllAre, fields-are, pairs-given}
 use Rattle.meaning.proofs.Drawn.{Drawing, FirstStep, first-step, ObjectEnd, AttributesEnd, object-ends}
 use Rattle.meaning.proofs.Resolve.{Row, rowCells, flatRows, rowStarts, objectsOfRows, flat-append, starts-append, table-at, size-at, row-identification, objects-flat, lent-flat, ResolvedTo, resolved-length, pairsIn, AllLong, ResolvedRows, nomore, more}
@@ -414,3 +416,93 @@ module _ (m : Model) (good : GoodModel m) (rooms : Rooms) (text : List ℕ) (fin
       first-later [] h = tt
       first-later (r ∷ rs) (topicAfter h) = topicAfter h
       first-later (r ∷ rs) (tableAfter e h) = tableAfter e (omega arith)
+
+  -- ## OBJE
+
+  given-length : {u : ℕ} {before : Bool} {ps : List Pair} {xs : List ℤ} → Given u text before ps xs → length xs ≡ 2 * length ps
+  given-length given.done = refl
+  given-length (given.absent g) = let ih = given-length g in omega arith
+  given-length (given.present f a b s st v g) = let ih = given-length g in omega arith
+  given-length (given.without g) = let ih = given-length g in omega arith
+  given-length (given.along w g) = let ih = given-length g in omega arith
+  given-length (given.line g) = let ih = given-length g in omega arith
+
+  drawing-length : {u k k′ : ℕ} {ps : List Pair} {xs ys points : List ℤ} → Drawing u k ps xs ys points k′ → length ys ≡ length xs
+  drawing-length lines.stop = refl
+  drawing-length (lines.attribute d) = let ih = drawing-length d in omega arith
+  drawing-length (lines.component d) = let ih = drawing-length d in omega arith
+  drawing-length (lines.undrawn d) = let ih = drawing-length d in omega arith
+  drawing-length (lines.drawn n these p l d) = let ih = drawing-length d in omega arith
+
+  drawing-count : {u k k′ : ℕ} {ps : List Pair} {xs ys points : List ℤ} → Drawing u k ps xs ys points k′ → 4 * k′ ≡ 4 * k + length points
+  drawing-count lines.stop = omega arith
+  drawing-count (lines.attribute d) = drawing-count d
+  drawing-count (lines.component d) = drawing-count d
+  drawing-count (lines.undrawn d) = drawing-count d
+  drawing-count (lines.drawn {points = points} n these p l d) = let ih = drawing-count d in let z = length-append these points in omega arith
+
+  -- the second field, and those behind it
+  record SecondField (fs : List Field) : Type 0 where
+    stands : stretch text (fieldAt 2 fs .start) (length (fieldAt 2 fs .bytes)) ≡ fieldAt 2 fs .bytes
+    is : Solid (fieldAt 2 fs .bytes)
+    othersStand : AllStand text (drop 2 fs)
+    othersAre : AllAre (drop 2 fs)
+
+  second-field : (fs : List Field) → moreThan 1 fs ≡ true → AllStand text fs → AllAre fs → SecondField fs
+  second-field [] e st are = absurd (omega (arith, ltb-true 1 0 e))
+  second-field (f ∷ []) e st are = absurd (omega (arith, ltb-true 1 1 e))
+  second-field (f ∷ (g ∷ fs)) e st are = record { stands = st .1 .0; is = are .1 .0; othersStand = st .1 .1; othersAre = are .1 .1 }
+
+  -- what is known of an object that is read
+  record ObjectRead (t k k′ : ℕ) (rs₀ : List Row) (i : Field) (ys pointsBefore these : List ℤ) : Type 0 where
+    stands : stretch text (i .start) (length (i .bytes)) ≡ i .bytes
+    identification : IdentificationOk (m .undefined) (i .bytes)
+    fresh : isUsed (i .bytes) (objectsOf text (flatRows rs₀) (rowStarts 0 rs₀)) ≡ false
+    xs : List ℤ
+    given′ : Given (m .undefined) text true (pairsOf (tableAt (m .tables) t .attributes)) xs
+    drawing : Drawing (m .undefined) k (pairsOf (tableAt (m .tables) t .attributes)) xs ys these k′
+    count : 4 * k ≡ length pointsBefore
+
+  abbrev rowOf : ℕ → Field → List ℤ → Row
+  rowOf t i ys = record { table = t; start = i .start; size = length (i .bytes); pairs = ys }
+
+  module _ (t k k′ : ℕ) (rs₀ : List Row) (i : Field) (ys points these : List ℤ) (o : ObjectRead t k k′ rs₀ i ys points these) (more-points : List ℤ)
+      (all-points : final .content .points ≡ points ++ (these ++ more-points)) (qs₀ : List Row) (before : ResolvedRows text os (m .tables) rs₀ qs₀) (zs : List ℤ) (qs : List Row)
+      (to : ResolvedTo text os (pairsOf (tableAt (m .tables) t .attributes)) ys zs) (e : cs ≡ flatRows qs₀ ++ (rowCells (rowOf t i zs) ++ flatRows qs))
+      (same : lentObjects text cs (final .content .rows) ≡ os) where
+    at-e : length (flatRows qs₀) ≡ length (flatRows rs₀)
+    at-e = resolved-flat text os (m .tables) before
+
+    there : identificationBytes text cs (length (flatRows rs₀)) ≡ i .bytes
+    there = rw (e, ← at-e) (row-identification text (flatRows qs₀) (rowOf t i zs) (flatRows qs) ∙ o .stands)
+
+    fresh-there : isUsed (i .bytes) (lentObjects text cs (rowStarts 0 rs₀)) ≡ false
+    fresh-there =
+        let lent : lentObjects text cs (rowStarts 0 rs₀) ≡ objectsOfRows text rs₀ =
+            rw (e, ← resolved-starts text os (m .tables) 0 before) (lent-flat text qs₀ [] (rowCells (rowOf t i zs) ++ flatRows qs) ∙ resolved-objects text os (m .tables) before) in
+        let read : objectsOf text (flatRows rs₀) (rowStarts 0 rs₀) ≡ objectsOfRows text rs₀ = rw (append-nil (flatRows rs₀)) at (objects-flat text rs₀ [] []) in
+        rw lent (rw read at (o .fresh))
+
+    pairs-there : drop (length (flatRows rs₀) + 3) cs ≡ zs ++ flatRows qs
+    pairs-there = rw (e, ← at-e) (drop-append-add (flatRows qs₀) (rowCells (rowOf t i zs) ++ flatRows qs) 3)
+
+    points-there : drop (4 * k) (final .content .points) ≡ these ++ more-points
+    points-there = rw (all-points, o .count) (drop-append-seam points (these ++ more-points))
+
+    room-there : length (flatRows rs₀) + (3 + 2 * length (pairsOf (tableAt (m .tables) t .attributes))) ≤ length cs
+    room-there =
+        let a = at-e in
+        let b : length zs ≡ 2 * length (pairsOf (tableAt (m .tables) t .attributes)) = resolved-length text os to ∙ (drawing-length (o .drawing) ∙ given-length (o .given′)) in
+        let d = ap length e ∙ length-append (flatRows qs₀) (rowCells (rowOf t i zs) ++ flatRows qs) in
+        let f = length-append zs (flatRows qs) in
+        omega arith
+
+    object-fine : ObjectOk m text table t (rowStarts 0 rs₀) (length (flatRows rs₀)) k k′
+    object-fine = record {
+      table = rw (e, ← at-e) (table-at (flatRows qs₀) (rowOf t i zs) (flatRows qs));
+      size = rw there (rw (e, ← at-e) (size-at (flatRows qs₀) (rowOf t i zs) (flatRows qs)));
+      identification = rw there (o .identification);
+      fresh = rw there fresh-there;
+      row = rw pairs-there (row-ok (m .undefined) text table (good .undefined) os same (flatRows qs) (pairs-good m good t) (o .given′) (o .drawing) to more-points points-there);
+      room = room-there;
+    }
