@@ -506,3 +506,51 @@ module _ (m : Model) (good : GoodModel m) (rooms : Rooms) (text : List ℕ) (fin
       row = rw pairs-there (row-ok (m .undefined) text table (good .undefined) os same (flatRows qs) (pairs-good m good t) (o .given′) (o .drawing) to more-points points-there);
       room = room-there;
     }
+
+  object-rest : (t k k′ : ℕ) (marks : List ℕ) (rs₀ rs : List Row) (i : Field) (ys points these more-points : List ℤ) → ObjectRead t k k′ rs₀ i ys points these
+      → final .content .points ≡ points ++ (these ++ more-points) →
+      ((qs₀ qs : List Row) → ResolvedRows text os (m .tables) (rs₀ ++ (rowOf t i ys ∷ [])) qs₀ → ResolvedRows text os (m .tables) rs qs → cs ≡ flatRows qs₀ ++ flatRows qs
+        → lentObjects text cs (final .content .rows) ≡ os
+        → Rest m text table (objects (topicOf m t) t (drop (t + 1) (m .tables)) (drop (topicOf m t + 1) (m .topics))) marks (rowStarts 0 (rs₀ ++ (rowOf t i ys ∷ [])))
+            (length (flatRows (rs₀ ++ (rowOf t i ys ∷ [])))) k′ (rowStarts (length (flatRows (rs₀ ++ (rowOf t i ys ∷ [])))) rs))
+      → (qs₀ qs : List Row) → ResolvedRows text os (m .tables) rs₀ qs₀ → ResolvedRows text os (m .tables) (rowOf t i ys ∷ rs) qs → cs ≡ flatRows qs₀ ++ flatRows qs
+      → lentObjects text cs (final .content .rows) ≡ os
+      → Rest m text table (objects (topicOf m t) t (drop (t + 1) (m .tables)) (drop (topicOf m t + 1) (m .topics))) marks (rowStarts 0 rs₀) (length (flatRows rs₀)) k
+          (rowStarts (length (flatRows rs₀)) (rowOf t i ys ∷ rs))
+  unfolding rowStarts flatRows
+  object-rest t k k′ marks rs₀ rs i ys points these more-points o all-points ih qs₀ _ before (more {ys = zs} {qs = qs} to others) e same =
+      let r : Row = rowOf t i ys in
+      let q : Row = rowOf t i zs in
+      let at : ℕ = length (flatRows rs₀) in
+      let cells-e : cs ≡ flatRows (qs₀ ++ (q ∷ [])) ++ flatRows qs =
+          e ∙ (sym (append-assoc (flatRows qs₀) (rowCells q) (flatRows qs)) ∙ ap (λ (l : List ℤ). l ++ flatRows qs) (sym (flat-append qs₀ (q ∷ []) ∙ ap (λ (l : List ℤ). flatRows qs₀ ++ l) (append-nil (rowCells q))))) in
+      let next = ih (qs₀ ++ (q ∷ [])) qs (resolved-append text os (m .tables) before (more to nomore)) others cells-e same in
+      let rows-e : rowStarts 0 (rs₀ ++ (r ∷ [])) ≡ rowStarts 0 rs₀ ++ (at ∷ []) = let z : 0 + at ≡ at = omega arith in rw z at (starts-append 0 rs₀ (r ∷ [])) in
+      let long : length ys ≡ 2 * length (pairsOf (tableAt (m .tables) t .attributes)) = drawing-length (o .drawing) ∙ given-length (o .given′) in
+      let size : length (flatRows (rs₀ ++ (r ∷ []))) ≡ at + length (rowCells r) =
+          ap length (flat-append rs₀ (r ∷ []) ∙ ap (λ (l : List ℤ). flatRows rs₀ ++ l) (append-nil (rowCells r))) ∙ length-append (flatRows rs₀) (rowCells r) in
+      let size′ : at + length (rowCells r) ≡ at + (3 + 2 * length (pairsOf (tableAt (m .tables) t .attributes))) = omega arith in
+      let next′ : Rest m text table (objects (topicOf m t) t (drop (t + 1) (m .tables)) (drop (topicOf m t + 1) (m .topics))) marks (rowStarts 0 rs₀ ++ (at ∷ [])) (at + length (rowCells r)) k′
+            (rowStarts (at + length (rowCells r)) rs) = rw (rows-e, size) at next in
+      object (object-fine t k k′ rs₀ i ys points these o more-points all-points qs₀ before zs qs to e same) refl
+        (subst (λ (n : ℕ). Rest m text table (objects (topicOf m t) t (drop (t + 1) (m .tables)) (drop (topicOf m t + 1) (m .topics))) marks (rowStarts 0 rs₀ ++ (at ∷ [])) n k′
+            (rowStarts (at + length (rowCells r)) rs)) size′ next′)
+
+  fine-object : (t k k′ : ℕ) (marks : List ℕ) (rs₀ : List Row) (i : Field) (ys points these : List ℤ) → ObjectRead t k k′ rs₀ i ys points these
+      → Fine (objectNext t) marks (rs₀ ++ (rowOf t i ys ∷ [])) (points ++ these) k′ → Fine (objectNext t) marks rs₀ points k
+  unfolding topicBound inTopic tableBound rowBound placeOf
+  fine-object t k k′ marks rs₀ i ys points these o q =
+      let all-points : final .content .points ≡ points ++ (these ++ q .others) = q .points′ ∙ append-assoc points these (q .others) in
+      let long : length ys ≡ 2 * length (pairsOf (tableAt (m .tables) t .attributes)) = drawing-length (o .drawing) ∙ given-length (o .given′) in
+      record {
+        rs = rowOf t i ys ∷ q .rs;
+        rows = q .rows ∙ ap (rowStarts 0) (append-assoc rs₀ (rowOf t i ys ∷ []) (q .rs));
+        cells = q .cells ∙ ap flatRows (append-assoc rs₀ (rowOf t i ys ∷ []) (q .rs));
+        long = (long, q .long);
+        others = these ++ q .others;
+        points′ = all-points;
+        keptTopics = q .keptTopics;
+        keptTables = q .keptTables;
+        first = tableAfter refl (omega arith);
+        rest = object-rest t k k′ marks rs₀ (q .rs) i ys points these (q .others) o all-points (q .rest);
+      }
