@@ -554,3 +554,71 @@ module _ (m : Model) (good : GoodModel m) (rooms : Rooms) (text : List ℕ) (fin
         first = tableAfter refl (omega arith);
         rest = object-rest t k k′ marks rs₀ (q .rs) i ys points these (q .others) o all-points (q .rest);
       }
+
+  -- ## All lines
+
+  unfoldable FineAt : ℕ → Type 0
+  FineAt n = (a : Next) (ls : List (List ℕ)) (line start : ℕ) (marks : List ℕ) (rs₀ : List Row) (points : List ℤ) (k : ℕ) → length ls ≤ n → drop start text ≡ unfoldedText ls → 4 * k ≡ length points
+      → Unmarked m a marks → run m rooms text (record { line = line; start = start; due = dueOf m a; content = soFar marks rs₀ points }) ls ≡ ran final → Fine a marks rs₀ points k
+
+  due-not : (a : Next) → dueOf m a ≡ nothing → ⊥
+  unfolding dueOf
+  due-not (topicNext from) h = let z : _≡_ {A = ℕ} 0 1 = cc in omega arith
+  due-not (tableNext p from) h = let z : _≡_ {A = ℕ} 0 1 = cc in omega arith
+  due-not (objectNext t) h = let z : _≡_ {A = ℕ} 0 1 = cc in omega arith
+
+  topic-by : (n : ℕ) → FineAt n → (from : ℕ) (ls : List (List ℕ)) (line start : ℕ) (marks : List ℕ) (rs₀ : List Row) (points : List ℤ) (k : ℕ) → length ls ≤ n → drop start text ≡ unfoldedText ls
+      → 4 * k ≡ length points → Unmarked m (topicNext from) marks → (due : Due) (c : Content) → TopicStep m from (soFar marks rs₀ points) due c
+      → run m rooms text (record { line = line; start = start; due = due; content = c }) ls ≡ ran final → Fine (topicNext from) marks rs₀ points k
+  unfolding FineAt dueOf topicBound inTopic tableBound
+  topic-by n ih from ls line start marks rs₀ points k short stands count un _ _ emod r = fine-end from marks rs₀ points k (closing-end ls line start (soFar marks rs₀ points) r) un count
+  topic-by n ih from ls line start marks rs₀ points k short stands count un _ _ (topi p name f) r =
+      let t = topic-found from 0 name (m .topics) p f in
+      let after = t .after in
+      let size = t .size in
+      fine-topic from p name marks rs₀ points k t un
+      (ih (tableNext p 0) ls line start (set marks p 1) rs₀ points k short stands count
+        (record {
+          size = length-set marks p 1 ∙ un .size;
+          within = omega arith;
+          among = omega arith;
+          topics = λ j a b. getD-set-other marks p j 1 0 (λ z. omega arith) ∙ un .topics j (omega arith) b;
+          tables = λ j a b. getD-set-other marks p (topicCount m + j) 1 0 (λ z. omega arith) ∙ un .tables j a (ahead-earlier from p 0 _ _ (t .after) b);
+        }) r)
+
+  table-by : (n : ℕ) → FineAt n → (p from : ℕ) (ls : List (List ℕ)) (line start : ℕ) (marks : List ℕ) (rs₀ : List Row) (points : List ℤ) (k : ℕ) → length ls ≤ n → drop start text ≡ unfoldedText ls
+      → 4 * k ≡ length points → Unmarked m (tableNext p from) marks → (due : Due) (c : Content) → TableStep m p from (soFar marks rs₀ points) due c
+      → run m rooms text (record { line = line; start = start; due = due; content = c }) ls ≡ ran final → Fine (tableNext p from) marks rs₀ points k
+  unfolding FineAt dueOf topicBound inTopic tableBound
+  table-by n ih p from ls line start marks rs₀ points k short stands count un _ _ (etop g) r =
+      fine-topic-end p from marks rs₀ points k g un
+      (ih (topicNext (p + 1)) ls line start marks rs₀ points k short stands count
+        (record { size = un .size; within = omega arith; among = un .among; topics = un .topics; tables = λ j a b. un .tables j a (earlier j b) }) r)
+    where
+      earlier : (j : ℕ) → Ahead (p + 1) 0 (topicOf m j) j → Ahead p from (topicOf m j) j
+      earlier j (topicAfter h) = topicAfter (omega arith)
+      earlier j (tableAfter e h) = topicAfter (omega arith)
+  table-by n ih p from ls line start marks rs₀ points k short stands count un _ _ (tabl t name f g) r =
+      let q = table-found p from 0 name (m .tables) t f in
+      let after = q .after in
+      let size = q .size in
+      let same-t : t - 0 ≡ t = omega arith in
+      let topic : topicOf m t ≡ p = rw same-t at (q .inTopic) in
+      let among : p + 1 ≤ topicCount m = un .among in
+      fine-table p from t name marks rs₀ points k q g un
+      (ih (objectNext t) ls line start (set marks (topicCount m + t) 1) rs₀ points k short stands count
+        (record {
+          size = length-set marks (topicCount m + t) 1 ∙ un .size;
+          within = omega arith;
+          among = omega arith;
+          topics = λ j a b. getD-set-other marks (topicCount m + t) j 1 0 (λ z. omega arith) ∙ un .topics j (omega arith) b;
+          tables = λ j a b. getD-set-other marks (topicCount m + t) (topicCount m + j) 1 0 (λ z. not-this topic j b (omega arith)) ∙ un .tables j a (earlier topic (q .after) j b);
+        }) r)
+    where
+      earlier : topicOf m t ≡ p → from ≤ t → (j : ℕ) → Ahead (topicOf m t) (t + 1) (topicOf m j) j → Ahead p from (topicOf m j) j
+      earlier e l j (topicAfter h) = topicAfter (omega arith)
+      earlier e l j (tableAfter z h) = tableAfter (z ∙ e) (omega arith)
+
+      not-this : topicOf m t ≡ p → (j : ℕ) → Ahead (topicOf m t) (t + 1) (topicOf m j) j → j ≡ t → ⊥
+      not-this e j (topicAfter h) z = let same-topic : topicOf m j ≡ topicOf m t = rw z in omega arith
+      not-this e j (tableAfter y h) z = omega arith
