@@ -15,6 +15,7 @@ use Rattle.meaning.specs.Unfold.{unfoldedText}
 use Rattle.meaning.specs.Model.{Found, found, missing, Table, Model, tableAt, noTable}
 use Rattle.meaning.specs.Check.{special, GoodModel}
 use Rattle.meaning.specs.Field.{Field, fieldsOf, fieldAt, moreThan}
+use Rattle.meaning.specs.Value.{isUndefined, isUndefinedTwice}
 use Rattle.meaning.specs.Row.{Pair, pairsOf, Cells, cells, pairCells}
 use Rattle.meaning.specs.Reading.{lineAttributes, Due, topicFrom, tableFrom, objectOf, closing, nothing, dueLines, Content, State, behind, withMark, withRow, pointCount, Rooms, findTopic, findTable, mandatoryBetween, Object, stretch, cellAt, objectsOf, isUsed}
 use Rattle.meaning.specs.Lines.{Step, go, no, lineDue, Run, ran, stopped, run}
@@ -622,3 +623,76 @@ module _ (m : Model) (good : GoodModel m) (rooms : Rooms) (text : List ℕ) (fin
       not-this : topicOf m t ≡ p → (j : ℕ) → Ahead (topicOf m t) (t + 1) (topicOf m j) j → j ≡ t → ⊥
       not-this e j (topicAfter h) z = let same-topic : topicOf m j ≡ topicOf m t = rw z in omega arith
       not-this e j (tableAfter y h) z = omega arith
+
+  identification-ok : (t : ℕ) (fs : List Field) (c : Content) (xs : List ℤ) → ObjectGiven m text t fs c xs → SecondField fs → IdentificationOk (m .undefined) (fieldAt 2 fs .bytes)
+  unfolding isUndefined isUndefinedTwice
+  identification-ok t fs c xs g s = record { field = record { solid = s .is; one = g .one; two = g .two }; shape = g .shape }
+
+  -- the state behind an object
+  behind-object : (t : ℕ) (marks : List ℕ) (rs₀ : List Row) (i : Field) (ys points : List ℤ)
+      → record { marks = marks; rows = rowStarts 0 rs₀ ++ (length (flatRows rs₀) ∷ []); cells = (flatRows rs₀ ++ (pos t ∷ pos (i .start) ∷ pos (length (i .bytes)) ∷ [])) ++ ys; points = points }
+        ≡ soFar marks (rs₀ ++ (rowOf t i ys ∷ [])) points
+  unfolding rowStarts flatRows
+  behind-object t marks rs₀ i ys points =
+      let r : Row = rowOf t i ys in
+      let rows-e : rowStarts 0 (rs₀ ++ (r ∷ [])) ≡ rowStarts 0 rs₀ ++ (length (flatRows rs₀) ∷ []) =
+          let z : 0 + length (flatRows rs₀) ≡ length (flatRows rs₀) = omega arith in rw z at (starts-append 0 rs₀ (r ∷ [])) in
+      let cells-e : (flatRows rs₀ ++ (pos t ∷ pos (i .start) ∷ pos (length (i .bytes)) ∷ [])) ++ ys ≡ flatRows (rs₀ ++ (r ∷ [])) =
+          append-assoc (flatRows rs₀) (pos t ∷ pos (i .start) ∷ pos (length (i .bytes)) ∷ []) ys
+          ∙ sym (flat-append rs₀ (r ∷ []) ∙ ap (λ (l : List ℤ). flatRows rs₀ ++ l) (append-nil (rowCells r))) in
+      ap₂ (λ (x : List ℕ) (y : List ℤ). record { marks = marks; rows = x; cells = y; points = points }) (sym rows-e) cells-e
+
+  object-by : (n : ℕ) → FineAt n → (t : ℕ) (fs : List Field) → AllStand text fs → AllAre fs → (ls : List (List ℕ)) (line start : ℕ) (marks : List ℕ) (rs₀ : List Row) (points : List ℤ) (k : ℕ) → length ls ≤ n
+      → drop start text ≡ unfoldedText ls → 4 * k ≡ length points → Unmarked m (objectNext t) marks → (due : Due) (c : Content) → ObjectStep m text t fs (soFar marks rs₀ points) due c
+      → run m rooms text (record { line = line; start = start; due = due; content = c }) ls ≡ ran final → Fine (objectNext t) marks rs₀ points k
+  unfolding FineAt dueOf topicBound inTopic tableBound
+  object-by n ih t fs st are ls line start marks rs₀ points k short stands count un _ _ etab r =
+      fine-table-end t marks rs₀ points k
+      (ih (tableNext (topicOf m t) (t + 1)) ls line start marks rs₀ points k short stands count
+        (record { size = un .size; within = un .within; among = un .among; topics = un .topics; tables = un .tables }) r)
+  object-by n ih t fs st are ls line start marks rs₀ points k short stands count un _ _ (obje xs g) r =
+      let u : ℕ = m .undefined in
+      let ps : List Pair = pairsOf (tableAt (m .tables) t .attributes) in
+      let i : Field = fieldAt 2 fs in
+      let s = second-field fs (g .more) st are in
+      let head : List ℤ = pos t ∷ pos (i .start) ∷ pos (length (i .bytes)) ∷ [] in
+      let front : List ℤ = flatRows rs₀ ++ head in
+      let c₁ : Content = withRow (pos t ∷ pos (i .start) ∷ pos (length (i .bytes)) ∷ xs) (soFar marks rs₀ points) in
+      let given′ : Given u text true ps xs = pairs-given u text true 3 ps (drop 2 fs) xs (s .othersAre) (s .othersStand) (g .pairs) in
+      let at : length front ≡ length (flatRows rs₀) + 3 = length-append (flatRows rs₀) head in
+      let points-k : length points / 4 ≡ k = omega arith in
+      let e : AttributesEnd m rooms text (good .undefined) final complete t k ps c₁ front xs (length ls) =
+          object-ends m rooms text (good .undefined) final complete ls ps t k line start c₁ front xs (lines-good ps (pairs-good m good t)) (given-length given′)
+            (sym (append-assoc (flatRows rs₀) head xs)) count stands (rw at (rw points-k at r)) in
+      let o : ObjectRead t k (e .k′) rs₀ i (e .ys) points (e .points) =
+          record { stands = s .stands; identification = identification-ok t fs (soFar marks rs₀ points) xs g s; fresh = g .fresh; xs = xs; given′ = given′; drawing = e .drawing; count = count } in
+      let b = e .at in
+      let shorter = b .shorter in
+      let runs′ : run m rooms text (record { line = b .line; start = b .start; due = objectOf t; content = soFar marks (rs₀ ++ (rowOf t i (e .ys) ∷ [])) (points ++ e .points) }) (b .others) ≡ ran final =
+          subst (λ (c : Content). run m rooms text (record { line = b .line; start = b .start; due = objectOf t; content = c }) (b .others) ≡ ran final)
+            (behind-object t marks rs₀ i (e .ys) (points ++ e .points)) (b .runs) in
+      fine-object t k (e .k′) marks rs₀ i (e .ys) points (e .points) o
+      (ih (objectNext t) (b .others) (b .line) (b .start) marks (rs₀ ++ (rowOf t i (e .ys) ∷ [])) (points ++ e .points) (e .k′) (omega arith) (b .stands)
+        (drawing-count (e .drawing) ∙ (rw (length-append points (e .points)) (omega arith))) un runs′)
+
+  fine : (n : ℕ) → FineAt n
+  unfolding FineAt run dueOf lineDue
+  fine zero a [] line start marks rs₀ points k short stands count un r =
+      absurd (not-complete (record { line = line; start = start; due = dueOf m a; content = soFar marks rs₀ points }) (due-not a) r)
+  fine zero a (l ∷ ls) line start marks rs₀ points k short stands count un r = absurd (omega arith)
+  fine (suc n) a [] line start marks rs₀ points k short stands count un r =
+      absurd (not-complete (record { line = line; start = start; due = dueOf m a; content = soFar marks rs₀ points }) (due-not a) r)
+  fine (suc n) a (l ∷ ls) line start marks rs₀ points k short stands count un r =
+      by a un (first-step m rooms text l ls (record { line = line; start = start; due = dueOf m a; content = soFar marks rs₀ points }) final r) (fine n)
+    where
+      by : (a : Next) → Unmarked m a marks → FirstStep m rooms text l ls (record { line = line; start = start; due = dueOf m a; content = soFar marks rs₀ points }) final → FineAt n
+          → Fine a marks rs₀ points k
+      by (topicNext from) un f ih =
+          topic-by n ih from ls (line + 1) (start + length l + 1) marks rs₀ points k (omega arith) (text-behind text start l ls stands) count un (f .due) (f .content)
+            (topic-step m rooms text from (fieldsOf start l) (soFar marks rs₀ points) (f .due) (f .content) (f .goes)) (f .runs)
+      by (tableNext p from) un f ih =
+          table-by n ih p from ls (line + 1) (start + length l + 1) marks rs₀ points k (omega arith) (text-behind text start l ls stands) count un (f .due) (f .content)
+            (table-step m rooms text p from (fieldsOf start l) (soFar marks rs₀ points) (f .due) (f .content) (f .goes)) (f .runs)
+      by (objectNext t) un f ih =
+          object-by n ih t (fieldsOf start l) (line-stands text start l ls stands) (fields-are start l) ls (line + 1) (start + length l + 1) marks rs₀ points k (omega arith)
+            (text-behind text start l ls stands) count un (f .due) (f .content) (object-step m rooms text t (fieldsOf start l) (soFar marks rs₀ points) (f .due) (f .content) (f .goes)) (f .runs)
