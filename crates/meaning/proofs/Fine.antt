@@ -7,20 +7,20 @@ use mathlib.Core.Bool.{Bool, true, false, not, _&&_, _||_, true≢false, false�
 use mathlib.Core.List.{List, [], _∷_, _++_, append-assoc, append-nil}
 use lib.Dec.{eqb, leb, ltb}
 use lib.IntN.{ℤ, pos, natAbs}
-use lib.ListN.{length, take, drop, getD, set, replicate, length-append, length-set, drop-of-length-le}
+use lib.ListN.{length, take, drop, getD, set, replicate, length-append, length-set, drop-of-length-le, length-replicate, getD-replicate}
 use lib.Seq.{drop-cons, getD-set-same, getD-set-other, drop-append-add, drop-append-seam}
 use borrow.Author.Tests.{eq-eqb, ne-eqb, eqb-true, ltb-true, ltb-false}
-use Rattle.meaning.specs.Bytes.{choose}
+use Rattle.meaning.specs.Bytes.{choose, refuse, prefix}
 use Rattle.meaning.specs.Unfold.{unfoldedText}
 use Rattle.meaning.specs.Model.{Found, found, missing, Table, Model, tableAt, noTable}
 use Rattle.meaning.specs.Check.{special, GoodModel}
-use Rattle.meaning.specs.Field.{Field, fieldsOf, fieldAt, moreThan}
+use Rattle.meaning.specs.Field.{Field, fieldsOf, fieldAt, moreThan, hasCode, slashes}
 use Rattle.meaning.specs.Value.{isUndefined, isUndefinedTwice}
 use Rattle.meaning.specs.Row.{Pair, pairsOf, Cells, cells, pairCells}
-use Rattle.meaning.specs.Reading.{lineAttributes, Due, topicFrom, tableFrom, objectOf, closing, nothing, dueLines, Content, State, behind, withMark, withRow, pointCount, Rooms, findTopic, findTable, mandatoryBetween, Object, stretch, cellAt, objectsOf, isUsed}
-use Rattle.meaning.specs.Lines.{Step, go, no, lineDue, Run, ran, stopped, run}
+use Rattle.meaning.specs.Reading.{lineAttributes, Due, opening, description, transfer, modelName, topicFrom, tableFrom, objectOf, closing, nothing, dueLines, Content, State, behind, withMark, withRow, pointCount, Rooms, findTopic, findTable, mandatoryBetween, Object, stretch, cellAt, objectsOf, isUsed}
+use Rattle.meaning.specs.Lines.{Step, go, no, bare, named, openingLine, descriptionLine, transferLine, modelLine, lineDue, Run, ran, stopped, run}
 use Rattle.meaning.specs.Writing.{identificationBytes, rowsOfTable, rowsBehindTable, rowsBehindTopic, isDelivered}
-use Rattle.meaning.proofs.Same.{same-refl}
+use Rattle.meaning.proofs.Refuse.{passed}
 use Rattle.meaning.proofs.Fields.{Solid}
 use Rattle.meaning.proofs.Standing.{AllStand, text-behind, line-stands}
 use Rattle.meaning.proofs.Numerals.{Defined}
@@ -28,7 +28,7 @@ use Rattle.meaning.proofs.Valid.{RowOk, lentObjects, IdentificationOk, 
 use Rattle.meaning.proofs.Given as given
 use Rattle.meaning.proofs.Drawn as lines
 use Rattle.meaning.proofs.Given.{Given, AllAre, fields-are, pairs-given}
-use Rattle.meaning.proofs.Drawn.{Drawing, FirstStep, first-step, ObjectEnd, AttributesEnd, object-ends}
+use Rattle.meaning.proofs.Drawn.{Drawing, told-of, FirstStep, first-step, ObjectEnd, AttributesEnd, object-ends}
 use Rattle.meaning.proofs.Resolve.{Row, rowCells, flatRows, rowStarts, objectsOfRows, flat-append, starts-append, table-at, size-at, row-identification, objects-flat, lent-flat, ResolvedTo, resolved-length, pairsIn, AllLong, ResolvedRows, nomore, more}
 use Rattle.meaning.proofs.Back.{PairsGood, lines-good, row-ok}
 use Rattle.meaning.proofs.Steps.{TopicStep, emod, topi, TableStep, etop, tabl, ObjectGiven, ObjectStep, etab, obje, topic-step, table-step, object-step, closing-step, TopicFound, topic-found, TableFound, table-found}
@@ -696,3 +696,84 @@ module _ (m : Model) (good : GoodModel m) (rooms : Rooms) (text : List ℕ) (fin
       by (objectNext t) un f ih =
           object-by n ih t (fieldsOf start l) (line-stands text start l ls stands) (fields-are start l) ls (line + 1) (start + length l + 1) marks rs₀ points k (omega arith)
             (text-behind text start l ls stands) count un (f .due) (f .content) (object-step m rooms text t (fieldsOf start l) (soFar marks rs₀ points) (f .due) (f .content) (f .goes)) (f .runs)
+
+  -- ## The first lines
+
+  abbrev noMarks : List ℕ
+  noMarks = replicate (topicCount m + length (m .tables)) 0
+
+  none-marked : Unmarked m (topicNext 0) noMarks
+  unfolding tableBound topicBound
+  none-marked = record {
+    size = length-replicate (topicCount m + length (m .tables)) 0;
+    within = omega arith;
+    among = omega arith;
+    topics = λ j a b. getD-replicate (topicCount m + length (m .tables)) j 0 0 (omega arith);
+    tables = λ t a b. getD-replicate (topicCount m + length (m .tables)) (topicCount m + t) 0 0 (omega arith);
+  }
+
+  abbrev Begun : Type 0
+  Begun = Fine (topicNext 0) noMarks [] [] 0
+
+  -- a state with nothing read
+  abbrev at-first : ℕ → ℕ → Due → State
+  at-first line start due = record { line = line; start = start; due = due; content = soFar noMarks [] [] }
+
+  never : (number field : ℕ) (due : Due) (c : Content) → no number field ≡ go due c → ⊥
+  never number field due c h = let z : _≡_ {A = ℕ} 0 1 = cc in omega arith
+
+  -- a line that only changes what is due
+  on : (due due′ : Due) (c c′ : Content) (line start : ℕ) (ls : List (List ℕ)) → go due c ≡ go due′ c′ → run m rooms text (record { line = line; start = start; due = due′; content = c′ }) ls ≡ ran final
+      → run m rooms text (record { line = line; start = start; due = due; content = c }) ls ≡ ran final
+  on due due′ c c′ line start ls e r = told-of (λ d x. run m rooms text (record { line = line; start = start; due = d; content = x }) ls ≡ ran final) due′ due c′ c (sym e) r
+
+  model-begun : (ls : List (List ℕ)) (line start : ℕ) → drop start text ≡ unfoldedText ls → run m rooms text (at-first line start modelName) ls ≡ ran final → Begun
+  unfolding run lineDue modelLine named rowStarts flatRows FineAt dueOf
+  model-begun [] line start stands e = absurd (not-complete (at-first line start modelName) (λ h. let z : _≡_ {A = ℕ} 0 1 = cc in omega arith) e)
+  model-begun (l ∷ ls) line start stands e =
+      let f = first-step m rooms text l ls (at-first line start modelName) final e in
+      let d = f .due in
+      let c = f .content in
+      let g = passed _ _ _ _ (never 11 3 d c) (passed _ _ _ _ (never 9 2 d c) (passed _ _ _ _ (never 11 2 d c) (passed _ _ _ _ (never 7 1 d c) (f .goes) .1) .1) .1) .1 in
+      fine (length ls) (topicNext 0) ls (line + 1) (start + length l + 1) noMarks [] [] 0 (omega arith) (text-behind text start l ls stands) refl none-marked
+        (first-due (line + 1) (start + length l + 1) ls (on (topicFrom 0) d _ c (line + 1) (start + length l + 1) ls g (f .runs)))
+    where
+      first-due : (line start : ℕ) (ls : List (List ℕ)) → run m rooms text (at-first line start (topicFrom 0)) ls ≡ ran final → run m rooms text (at-first line start (dueOf m (topicNext 0))) ls ≡ ran final
+      first-due line start ls h = h
+
+  transfer-begun : (ls : List (List ℕ)) (line start : ℕ) → drop start text ≡ unfoldedText ls → run m rooms text (at-first line start transfer) ls ≡ ran final → Begun
+  unfolding run lineDue transferLine named rowStarts flatRows
+  transfer-begun [] line start stands e = absurd (not-complete (at-first line start transfer) (λ h. let z : _≡_ {A = ℕ} 0 1 = cc in omega arith) e)
+  transfer-begun (l ∷ ls) line start stands e =
+      let f = first-step m rooms text l ls (at-first line start transfer) final e in
+      let d = f .due in
+      let c = f .content in
+      let g = passed _ _ _ _ (never 11 3 d c) (passed _ _ _ _ (never 9 2 d c) (passed _ _ _ _ (never 11 2 d c) (passed _ _ _ _ (never 7 1 d c) (passed _ _ _ _ (never 8 1 d c) (f .goes) .1) .1) .1) .1) .1 in
+      model-begun ls (line + 1) (start + length l + 1) (text-behind text start l ls stands) (on modelName d _ c (line + 1) (start + length l + 1) ls g (f .runs))
+
+  description-begun : (ls : List (List ℕ)) (line start : ℕ) → drop start text ≡ unfoldedText ls → run m rooms text (at-first line start description) ls ≡ ran final → Begun
+  unfolding run lineDue descriptionLine bare choose rowStarts flatRows
+  description-begun [] line start stands e = absurd (not-complete (at-first line start description) (λ h. let z : _≡_ {A = ℕ} 0 1 = cc in omega arith) e)
+  description-begun (l ∷ ls) line start stands e =
+      by (not (prefix slashes l)) (first-step m rooms text l ls (at-first line start description) final e .due) (first-step m rooms text l ls (at-first line start description) final e .content)
+        (first-step m rooms text l ls (at-first line start description) final e .goes) (first-step m rooms text l ls (at-first line start description) final e .runs)
+        (description-begun ls (line + 1) (start + length l + 1) (text-behind text start l ls stands))
+    where
+      by : (x : Bool) (d : Due) (c : Content)
+          → choose x (go description (soFar noMarks [] [])) (refuse (not (hasCode slashes (fieldsOf start l))) (no 7 1) (refuse (moreThan 1 (fieldsOf start l)) (no 11 2) (go transfer (soFar noMarks [] [])))) ≡ go d c
+          → run m rooms text (record { line = line + 1; start = start + length l + 1; due = d; content = c }) ls ≡ ran final
+          → (run m rooms text (at-first (line + 1) (start + length l + 1) description) ls ≡ ran final → Begun) → Begun
+      by true d c g r ih = ih (on description d _ c (line + 1) (start + length l + 1) ls g r)
+      by false d c g r ih =
+          transfer-begun ls (line + 1) (start + length l + 1) (text-behind text start l ls stands)
+            (on transfer d _ c (line + 1) (start + length l + 1) ls (passed _ _ _ _ (never 11 2 d c) (passed _ _ _ _ (never 7 1 d c) g .1) .1) r)
+
+  all-begun : (ls : List (List ℕ)) → text ≡ unfoldedText ls → run m rooms text (at-first 1 0 opening) ls ≡ ran final → Begun
+  unfolding run lineDue openingLine bare rowStarts flatRows
+  all-begun [] stands e = absurd (not-complete (at-first 1 0 opening) (λ h. let z : _≡_ {A = ℕ} 0 1 = cc in omega arith) e)
+  all-begun (l ∷ ls) stands e =
+      let f = first-step m rooms text l ls (at-first 1 0 opening) final e in
+      let d = f .due in
+      let c = f .content in
+      let g = passed _ _ _ _ (never 11 2 d c) (passed _ _ _ _ (never 7 1 d c) (f .goes) .1) .1 in
+      description-begun ls (1 + 1) (0 + length l + 1) (text-behind text 0 l ls stands) (on description d _ c (1 + 1) (0 + length l + 1) ls g (f .runs))
