@@ -50,10 +50,10 @@ pub data Next : Type 0 where
   objectNext : (t : ℕ) → Next
 
 module _ (m : Model) where
-  abbrev topicOf : ℕ → ℕ
+  abbrev pub topicOf : ℕ → ℕ
   topicOf t = tableAt (m .tables) t .topic
 
-  abbrev topicCount : ℕ
+  abbrev pub topicCount : ℕ
   topicCount = length (m .topics)
 
   unfoldable pub dueOf : Next → Due
@@ -96,7 +96,7 @@ module _ (m : Model) where
     tables : (t : ℕ) → t < length (m .tables) → Ahead (inTopic a) (tableBound a) (topicOf t) t → getD marks (topicCount + t) 0 ≡ 0
 
   -- the first of these rows is ahead
-  abbrev FirstAhead : (p n : ℕ) → List Row → Type 0
+  abbrev pub FirstAhead : (p n : ℕ) → List Row → Type 0
   FirstAhead p n [] = Unit {0}
   FirstAhead p n (r ∷ rs) = Ahead p n (topicOf (r .table)) (r .table)
 
@@ -146,7 +146,7 @@ ahead-earlier from p n q t l (tableAfter e h) = by (ltb from p) refl
 
 -- the objects and places of rows do not change when references are resolved
 module _ (text : List ℕ) (os : List Object) (ts : List Table) where
-  resolved-flat : {rs qs : List Row} → ResolvedRows text os ts rs qs → length (flatRows qs) ≡ length (flatRows rs)
+  pub resolved-flat : {rs qs : List Row} → ResolvedRows text os ts rs qs → length (flatRows qs) ≡ length (flatRows rs)
   unfolding flatRows
   resolved-flat nomore = refl
   resolved-flat (more {xs = xs} {ys = ys} {rs = rs} {qs = qs} r rest) =
@@ -156,7 +156,7 @@ module _ (text : List ℕ) (os : List Object) (ts : List Table) where
       let q = length-append xs (flatRows rs) in
       omega arith
 
-  resolved-starts : {rs qs : List Row} (base : ℕ) → ResolvedRows text os ts rs qs → rowStarts base qs ≡ rowStarts base rs
+  pub resolved-starts : {rs qs : List Row} (base : ℕ) → ResolvedRows text os ts rs qs → rowStarts base qs ≡ rowStarts base rs
   unfolding rowStarts
   resolved-starts base nomore = refl
   resolved-starts base (more {t = t} {start = start} {size = size} {xs = xs} {ys = ys} {rs = rs} {qs = qs} r rest) =
@@ -164,7 +164,7 @@ module _ (text : List ℕ) (os : List Object) (ts : List Table) where
           (let a = resolved-length text os r in omega arith) in
       rw z (ap (λ (l : List ℕ). base ∷ l) (resolved-starts _ rest))
 
-  resolved-objects : {rs qs : List Row} → ResolvedRows text os ts rs qs → objectsOfRows text qs ≡ objectsOfRows text rs
+  pub resolved-objects : {rs qs : List Row} → ResolvedRows text os ts rs qs → objectsOfRows text qs ≡ objectsOfRows text rs
   unfolding objectsOfRows
   resolved-objects nomore = refl
   resolved-objects (more r rest) = rw (resolved-objects rest)
@@ -181,11 +181,11 @@ module _ (text : List ℕ) (os : List Object) (ts : List Table) where
       rw (e, ← resolved-flat before) (table-at (flatRows qs₀) (record { table = t; start = start; size = size; pairs = ys }) (flatRows qs))
 
 module _ (m : Model) (good : GoodModel m) (rooms : Rooms) (text : List ℕ) (final : State) (complete : final .due ≡ nothing) (cs : List ℤ) where
-  abbrev os : List Object
+  abbrev pub os : List Object
   os = objectsOf text (final .content .cells) (final .content .rows)
 
   -- the table that is read, its references resolved
-  abbrev table : Content
+  abbrev pub table : Content
   table = record { marks = final .content .marks; rows = final .content .rows; cells = cs; points = final .content .points }
 
   pub record Fine (a : Next) (marks : List ℕ) (rs₀ : List Row) (points : List ℤ) (k : ℕ) : Type 0 where
@@ -231,7 +231,7 @@ module _ (m : Model) (good : GoodModel m) (rooms : Rooms) (text : List ℕ) (fin
       nothing-end ls (line + 1) (start + length l + 1) c (subst (λ (y : Content). run m rooms text (record { line = line + 1; start = start + length l + 1; due = nothing; content = y }) ls ≡ ran final) x
         (subst (λ (y : Due). run m rooms text (record { line = line + 1; start = start + length l + 1; due = y; content = f .content }) ls ≡ ran final) d (f .runs)))
 
-  abbrev soFar : List ℕ → List Row → List ℤ → Content
+  abbrev pub soFar : List ℕ → List Row → List ℤ → Content
   soFar marks rs₀ points = record { marks = marks; rows = rowStarts 0 rs₀; cells = flatRows rs₀; points = points }
 
   -- ## EMOD
@@ -699,7 +699,7 @@ module _ (m : Model) (good : GoodModel m) (rooms : Rooms) (text : List ℕ) (fin
 
   -- ## The first lines
 
-  abbrev noMarks : List ℕ
+  abbrev pub noMarks : List ℕ
   noMarks = replicate (topicCount m + length (m .tables)) 0
 
   none-marked : Unmarked m (topicNext 0) noMarks
@@ -712,11 +712,11 @@ module _ (m : Model) (good : GoodModel m) (rooms : Rooms) (text : List ℕ) (fin
     tables = λ t a b. getD-replicate (topicCount m + length (m .tables)) (topicCount m + t) 0 0 (omega arith);
   }
 
-  abbrev Begun : Type 0
+  abbrev pub Begun : Type 0
   Begun = Fine (topicNext 0) noMarks [] [] 0
 
   -- a state with nothing read
-  abbrev at-first : ℕ → ℕ → Due → State
+  abbrev pub at-first : ℕ → ℕ → Due → State
   at-first line start due = record { line = line; start = start; due = due; content = soFar noMarks [] [] }
 
   never : (number field : ℕ) (due : Due) (c : Content) → no number field ≡ go due c → ⊥
@@ -768,7 +768,7 @@ module _ (m : Model) (good : GoodModel m) (rooms : Rooms) (text : List ℕ) (fin
           transfer-begun ls (line + 1) (start + length l + 1) (text-behind text start l ls stands)
             (on transfer d _ c (line + 1) (start + length l + 1) ls (passed _ _ _ _ (never 11 2 d c) (passed _ _ _ _ (never 7 1 d c) g .1) .1) r)
 
-  all-begun : (ls : List (List ℕ)) → text ≡ unfoldedText ls → run m rooms text (at-first 1 0 opening) ls ≡ ran final → Begun
+  pub all-begun : (ls : List (List ℕ)) → text ≡ unfoldedText ls → run m rooms text (at-first 1 0 opening) ls ≡ ran final → Begun
   unfolding run lineDue openingLine bare rowStarts flatRows
   all-begun [] stands e = absurd (not-complete (at-first 1 0 opening) (λ h. let z : _≡_ {A = ℕ} 0 1 = cc in omega arith) e)
   all-begun (l ∷ ls) stands e =
