@@ -7,7 +7,7 @@ use mathlib.Core.List.{List, [], _∷_, _++_}
 use lib.Dec.{eqb, ltb}
 use lib.IntN.{ℤ, pos, negsuc, natAbs}
 use lib.Signed.{ltZ}
-use lib.ListN.{length, drop, getD, length-drop}
+use lib.ListN.{length, drop, getD, replicate, length-drop}
 use borrow.Author.Tests.{eqb-true, ne-eqb, not-true, ltb-false}
 use Rattle.meaning.specs.Bytes.{choose, allOf, same}
 use Rattle.meaning.specs.Model.{Component, AttributeType, Reference, Coordinate, Number, Text, Date, Enumeration, Line, Found, found, missing, targetOf, Model, tableAt}
@@ -184,3 +184,126 @@ module _ (text : List ℕ) (c : Content) (text′ : List ℕ) (c′ : Content) (
       let q = pair-alike text text′ (OfLine o forms ks) ps (pos (1 + suc n)) (pos k) xs ys l e t in
       rw (q .is, sym (kept _ (pos k) (q .b′) refl (q .second)))
       (line n (rw same-points at room) (rw same-points at p) (row-alike r (q .others) (q .long) (q .cells) (q .texts)))
+
+-- ## Rows
+
+module _ (m : Model) (text : List ℕ) (cs : List ℤ) (text′ : List ℕ) (cs′ : List ℤ) where
+  abbrev pairsAt : ℕ → List Pair
+  pairsAt row = pairsOf (tableAt (m .tables) (cellAt cs row) .attributes)
+
+  record RowAlike (row : ℕ) : Type 0 where
+    table : getD cs row (pos 0) ≡ getD cs′ row (pos 0)
+    size : getD cs (row + 2) (pos 0) ≡ getD cs′ (row + 2) (pos 0)
+    identification : identificationBytes text cs row ≡ identificationBytes text′ cs′ row
+    pairs : pairsWithoutStarts (pairsAt row) (drop (row + 3) cs) ≡ pairsWithoutStarts (pairsAt row) (drop (row + 3) cs′)
+    texts : pairTexts text (pairsAt row) (drop (row + 3) cs) ≡ pairTexts text′ (pairsAt row) (drop (row + 3) cs′)
+
+  abbrev AllAlike : List ℕ → Type 0
+  AllAlike [] = Unit {0}
+  AllAlike (row ∷ rows) = RowAlike row × AllAlike rows
+
+  alike-append : (rows others : List ℕ) → AllAlike rows → AllAlike others → AllAlike (rows ++ others)
+  alike-append [] others h k = k
+  alike-append (row ∷ rows) others h k = (h .0, alike-append rows others (h .1) k)
+
+  rows-alike : (rows : List ℕ) → cellsWithoutStarts m cs rows ≡ cellsWithoutStarts m cs′ rows → textsOf m text cs rows ≡ textsOf m text′ cs′ rows → AllAlike rows
+  unfolding cellsWithoutStarts textsOf
+  rows-alike [] e t = tt
+  rows-alike (row ∷ rows) e t =
+      let ps : List Pair = pairsAt row in
+      let a = cons-inv _ _ _ _ e in
+      let b = cons-inv _ _ _ _ (cons-inv _ _ _ _ (a .1) .1) in
+      let tail : pairsWithoutStarts ps (drop (row + 3) cs) ++ cellsWithoutStarts m cs rows ≡ pairsWithoutStarts ps (drop (row + 3) cs′) ++ cellsWithoutStarts m cs′ rows =
+          rw (← (a .0)) at (b .1) in
+      let p = append-inv _ _ _ _ (pairs-length ps (drop (row + 3) cs) ∙ sym (pairs-length ps (drop (row + 3) cs′))) tail in
+      let d = cons-inv _ _ _ _ t in
+      let tail-t : pairTexts text ps (drop (row + 3) cs) ++ textsOf m text cs rows ≡ pairTexts text′ ps (drop (row + 3) cs′) ++ textsOf m text′ cs′ rows =
+          rw (← (a .0)) at (d .1) in
+      let q = append-inv _ _ _ _ (texts-length text ps (drop (row + 3) cs) ∙ sym (texts-length text′ ps (drop (row + 3) cs′))) tail-t in
+      (record { table = a .0; size = b .0; identification = d .0; pairs = p .0; texts = q .0 }, rows-alike rows (p .1) (q .1))
+
+  objects-alike : (rows : List ℕ) → AllAlike rows → lentObjects text cs rows ≡ lentObjects text′ cs′ rows
+  unfolding lentObjects
+  objects-alike [] h = refl
+  objects-alike (row ∷ rows) h = rw (h .0 .table, h .0 .identification, objects-alike rows (h .1))
+
+  of-table : (t : ℕ) (rows : List ℕ) → AllAlike rows → rowsOfTable t cs rows ≡ rowsOfTable t cs′ rows
+  unfolding rowsOfTable
+  of-table t [] h = refl
+  of-table t (row ∷ rows) h = rw (h .0 .table, of-table t rows (h .1))
+
+  behind-table : (t : ℕ) (rows : List ℕ) → AllAlike rows → rowsBehindTable t cs rows ≡ rowsBehindTable t cs′ rows
+  unfolding rowsBehindTable
+  behind-table t [] h = refl
+  behind-table t (row ∷ rows) h = rw (h .0 .table, behind-table t rows (h .1))
+
+  behind-topic : (p : ℕ) (rows : List ℕ) → AllAlike rows → rowsBehindTopic (m .tables) p cs rows ≡ rowsBehindTopic (m .tables) p cs′ rows
+  unfolding rowsBehindTopic
+  behind-topic p [] h = refl
+  behind-topic p (row ∷ rows) h = rw (h .0 .table, behind-topic p rows (h .1))
+
+-- ## The rest of a table
+
+pub record TablesAlike (m : Model) (text : List ℕ) (c : Content) (text′ : List ℕ) (c′ : Content) : Type 0 where
+  pub marks : c .marks ≡ c′ .marks
+  pub rows : c .rows ≡ c′ .rows
+  pub long : length (c .cells) ≡ length (c′ .cells)
+  pub cells : cellsWithoutStarts m (c .cells) (c .rows) ≡ cellsWithoutStarts m (c′ .cells) (c .rows)
+  pub texts : textsOf m text (c .cells) (c .rows) ≡ textsOf m text′ (c′ .cells) (c .rows)
+  pub points : c .points ≡ c′ .points
+
+pub tables-alike : (m : Model) (text : List ℕ) (c : Content) (text′ : List ℕ) (c′ : Content) → sameTable m text c text′ c′ ≡ true → TablesAlike m text c text′ c′
+unfolding sameTable
+tables-alike m text c text′ c′ h = record {
+  marks = same-is (c .marks) (c′ .marks) (holds _ 0 h);
+  rows = same-is (c .rows) (c′ .rows) (holds _ 1 h);
+  long = eqb-true (length (c .cells)) (length (c′ .cells)) (holds _ 2 h);
+  cells = cells-are _ _ (holds _ 3 h);
+  texts = texts-are _ _ (holds _ 4 h);
+  points = cells-are (c .points) (c′ .points) (holds _ 5 h);
+}
+
+module _ (m : Model) (text : List ℕ) (c : Content) (text′ : List ℕ) (c′ : Content) (s : TablesAlike m text c text′ c′) where
+  abbrev Alikes : List ℕ → Type 0
+  Alikes rows = AllAlike m text (c .cells) text′ (c′ .cells) rows
+
+  all-objects : lentObjects text (c .cells) (c .rows) ≡ lentObjects text′ (c′ .cells) (c′ .rows)
+  all-objects = objects-alike m text (c .cells) text′ (c′ .cells) (c .rows) (rows-alike m text (c .cells) text′ (c′ .cells) (c .rows) (s .cells) (s .texts)) ∙ ap (lentObjects text′ (c′ .cells)) (s .rows)
+
+  object-alike : {t : ℕ} {before : List ℕ} {at k k′ : ℕ} → Alikes before → RowAlike m text (c .cells) text′ (c′ .cells) at → ObjectOk m text c t before at k k′ → ObjectOk m text′ c′ t before at k k′
+  object-alike {t = t} {before = before} {at = at} before-a h o =
+      let ps : List Pair = pairsOf (tableAt (m .tables) t .attributes) in
+      let here : cellAt (c .cells) at ≡ t = ap natAbs (o .table) in
+      let same-t : pairsAt m text (c .cells) text′ (c′ .cells) at ≡ ps = ap (λ (n : ℕ). pairsOf (tableAt (m .tables) n .attributes)) here in
+      let pairs : pairsWithoutStarts ps (drop (at + 3) (c .cells)) ≡ pairsWithoutStarts ps (drop (at + 3) (c′ .cells)) = rw same-t at (h .pairs) in
+      let texts : pairTexts text ps (drop (at + 3) (c .cells)) ≡ pairTexts text′ ps (drop (at + 3) (c′ .cells)) = rw same-t at (h .texts) in
+      let long : length (drop (at + 3) (c′ .cells)) ≡ length (drop (at + 3) (c .cells)) =
+          length-drop (at + 3) (c′ .cells) ∙ (ap (λ (n : ℕ). n - (at + 3)) (sym (s .long)) ∙ sym (length-drop (at + 3) (c .cells))) in
+      let objects-e : lentObjects text (c .cells) before ≡ lentObjects text′ (c′ .cells) before = objects-alike m text (c .cells) text′ (c′ .cells) before before-a in
+      record {
+        table = sym (h .table) ∙ o .table;
+        size = sym (h .size) ∙ (o .size ∙ ap (λ (i : List ℕ). pos (length i)) (h .identification));
+        identification = rw (h .identification) at (o .identification);
+        fresh = rw (h .identification, objects-e) at (o .fresh);
+        row = row-alike text c text′ c′ (s .points) all-objects (o .row) (drop (at + 3) (c′ .cells)) long pairs texts;
+        room = rw (s .long) at (o .room);
+      }
+
+  rest-alike : {place : Place} {marks before : List ℕ} {at k : ℕ} {rows : List ℕ} → Rest m text c place marks before at k rows → Alikes before → Alikes rows → Rest m text′ c′ place marks before at k rows
+  rest-alike (finished a b d e) before-a rows-a = finished (a ∙ s .marks) (b ∙ s .rows) (d ∙ s .long) (e ∙ ap length (s .points))
+  rest-alike (topicOut e r) before-a rows-a = topicOut (rw (s .marks) at e) (rest-alike r before-a rows-a)
+  rest-alike (topicIn e d f r) before-a rows-a = topicIn (rw (s .marks) at e) d f (rest-alike r before-a rows-a)
+  rest-alike (topicEnd {p = p} {rows = rows} g e r) before-a rows-a =
+      topicEnd g (sym (behind-topic m text (c .cells) text′ (c′ .cells) p rows rows-a) ∙ e) (rest-alike r before-a rows-a)
+  rest-alike (tableOut e r) before-a rows-a = tableOut (rw (s .marks) at e) (rest-alike r before-a rows-a)
+  rest-alike (tableIn e here d f g r) before-a rows-a = tableIn (rw (s .marks) at e) here d f g (rest-alike r before-a rows-a)
+  rest-alike (object {at = at} {before = before} o topic r) before-a rows-a =
+      object (object-alike before-a (rows-a .0) o) topic (rest-alike r (alike-append m text (c .cells) text′ (c′ .cells) before (at ∷ []) before-a (rows-a .0, tt)) (rows-a .1))
+  rest-alike (tableEnd {t = t} {rows = rows} topic none behind r) before-a rows-a =
+      tableEnd topic (sym (of-table m text (c .cells) text′ (c′ .cells) t rows rows-a) ∙ none) (sym (behind-table m text (c .cells) text′ (c′ .cells) t rows rows-a) ∙ behind) (rest-alike r before-a rows-a)
+
+  -- a table that compares equal to one that is fine is fine
+  pub valid-alike : Valid m text c → Valid m text′ c′
+  valid-alike v =
+      subst (λ (rows : List ℕ). Rest m text′ c′ (topicsFrom 0 0 (m .topics)) (replicate (length (m .topics) + length (m .tables)) 0) [] 0 0 rows) (s .rows)
+      (rest-alike v tt (rows-alike m text (c .cells) text′ (c′ .cells) (c .rows) (s .cells) (s .texts)))
