@@ -1,23 +1,22 @@
 -- What lines are read as is a table that is fine. Assumes nothing.
-use Prim.Native.Nat.{ℕ, _+_, _≤_}
+use Prim.Native.Nat.{ℕ, _+_}
 use native.Mathlib.Omega.{arith}
 use mathlib.Core.Path.{_≡_, refl, sym, ap, subst, _∙_}
-use mathlib.Core.Bool.{Bool, true, false, not, false≢true}
-use mathlib.Core.List.{List, [], _∷_, _++_, append-nil}
+use mathlib.Core.Bool.{true, not, false≢true}
+use mathlib.Core.List.{List, [], append-nil}
 use lib.IntN.{ℤ}
 use lib.ListN.{length, replicate}
 use borrow.Author.Tests.{not-false}
-use Rattle.meaning.specs.Bytes.{refuse}
 use Rattle.meaning.specs.Unfold.{unfoldedText}
 use Rattle.meaning.specs.Model.{Model}
 use Rattle.meaning.specs.Check.{GoodModel}
 use Rattle.meaning.specs.Reading.{Due, opening, description, transfer, modelName, topicFrom, tableFrom, objectOf, lineOf, closing, nothing, isComplete, Content, State, startOf, nothingRead, Rooms, Object, objectsOf}
 use Rattle.meaning.specs.Lines.{Run, ran, stopped, afterRun, run, atEnd, readLines}
-use Rattle.meaning.specs.Table.{Resolved, resolved, resolve, resolveRows}
+use Rattle.meaning.specs.Table.{resolved, resolve, resolveRows}
 use Rattle.meaning.proofs.Refuse.{passed}
 use Rattle.meaning.proofs.Valid.{lentObjects, topicsFrom, Rest, Valid}
-use Rattle.meaning.proofs.Resolve.{Row, flatRows, rowStarts, objectsOfRows, objects-flat, lent-flat, ResolvedRows, nomore, RowsTo, resolved-rows}
-use Rattle.meaning.proofs.Fine.{topicNext, placeOf, resolved-starts, resolved-objects, Fine, all-begun}
+use Rattle.meaning.proofs.Resolve.{flatRows, rowStarts, objectsOfRows, objects-flat, lent-flat, nomore, RowsTo, resolved-rows}
+use Rattle.meaning.proofs.Fine.{placeOf, resolved-starts, resolved-objects, all-begun}
 
 -- ## The lines are complete
 
@@ -69,14 +68,14 @@ read-valid m good rooms ls s cs e r =
     let rows : c .rows ≡ rowStarts 0 (f .rs) = f .rows in
     let cells : c .cells ≡ flatRows (f .rs) = f .cells in
     let q : RowsTo text os (m .tables) (f .rs) [] cs = resolved-rows text os (m .tables) (f .rs) 0 [] cs (f .long)
-          (subst (λ (l : List ℤ). resolveRows text os (m .tables) 0 (rowStarts 0 (f .rs)) l ≡ resolved cs) cells
-            (subst (λ (l : List ℕ). resolveRows text os (m .tables) 0 l (c .cells) ≡ resolved cs) rows r)) in
+    (subst (λ (l : List ℤ). resolveRows text os (m .tables) 0 (rowStarts 0 (f .rs)) l ≡ resolved cs) cells
+    (subst (λ (l : List ℕ). resolveRows text os (m .tables) 0 l (c .cells) ≡ resolved cs) rows r)) in
     let lent : lentObjects text (flatRows (q .qs)) (rowStarts 0 (q .qs)) ≡ objectsOfRows text (q .qs) = rw (append-nil (flatRows (q .qs))) at (lent-flat text (q .qs) [] []) in
     let read : objectsOf text (flatRows (f .rs)) (rowStarts 0 (f .rs)) ≡ objectsOfRows text (f .rs) = rw (append-nil (flatRows (f .rs))) at (objects-flat text (f .rs) [] []) in
     let same : lentObjects text cs (c .rows) ≡ os =
-        subst (λ (l : List ℤ). lentObjects text l (c .rows) ≡ os) (sym (q .is))
-        (subst (λ (l : List ℕ). lentObjects text (flatRows (q .qs)) l ≡ os) (resolved-starts text os (m .tables) 0 (q .to) ∙ sym rows)
-          (lent ∙ (resolved-objects text os (m .tables) (q .to)
-           ∙ sym (subst (λ (l : List ℤ). objectsOf text l (c .rows) ≡ objectsOfRows text (f .rs)) (sym cells)
-              (subst (λ (l : List ℕ). objectsOf text (flatRows (f .rs)) l ≡ objectsOfRows text (f .rs)) (sym rows) read))))) in
+    subst (λ (l : List ℤ). lentObjects text l (c .rows) ≡ os) (sym (q .is))
+    (subst (λ (l : List ℕ). lentObjects text (flatRows (q .qs)) l ≡ os) (resolved-starts text os (m .tables) 0 (q .to) ∙ sym rows)
+    (lent ∙ (resolved-objects text os (m .tables) (q .to)
+    ∙ sym (subst (λ (l : List ℤ). objectsOf text l (c .rows) ≡ objectsOfRows text (f .rs)) (sym cells)
+    (subst (λ (l : List ℕ). objectsOf text (flatRows (f .rs)) l ≡ objectsOfRows text (f .rs)) (sym rows) read))))) in
     subst (λ (l : List ℕ). Rest m text (resolvedTable c cs) (topicsFrom 0 0 (m .topics)) (replicate (length (m .topics) + length (m .tables)) 0) [] 0 0 l) (sym rows) (f .rest [] (q .qs) nomore (q .to) (q .is) same)

@@ -1,25 +1,24 @@
 -- Tables that compare equal are fine together. Assumes nothing.
-use Prim.Native.Nat.{ℕ, zero, suc, _+_, _*_, _-_, _≤_}
+use Prim.Native.Nat.{ℕ, suc, _+_, _*_, _-_}
 use native.Mathlib.Omega.{arith}
 use mathlib.Core.Path.{_≡_, refl, sym, ap, ap₂, subst, _∙_}
 use mathlib.Core.Bool.{Bool, true, false, not, _&&_, false≢true, true≢false}
 use mathlib.Core.List.{List, [], _∷_, _++_}
-use lib.Dec.{eqb, ltb}
+use lib.Dec.{eqb}
 use lib.IntN.{ℤ, pos, negsuc, natAbs}
 use lib.Signed.{ltZ}
 use lib.ListN.{length, drop, getD, replicate, length-drop}
 use borrow.Author.Tests.{eqb-true, ne-eqb, not-true, ltb-false}
-use Rattle.meaning.specs.Bytes.{choose, allOf, same}
-use Rattle.meaning.specs.Model.{Component, AttributeType, Reference, Coordinate, Number, Text, Date, Enumeration, Line, Found, found, missing, targetOf, Model, tableAt}
+use Rattle.meaning.specs.Bytes.{choose}
+use Rattle.meaning.specs.Model.{AttributeType, Reference, Coordinate, Number, Text, Date, Enumeration, Line, found, missing, targetOf, Model, tableAt}
 use Rattle.meaning.specs.Row.{Pair, OfAttribute, OfComponent, OfLine, pairsOf}
-use Rattle.meaning.specs.Reading.{Content, Object, cellAt, isUsed}
+use Rattle.meaning.specs.Reading.{Content, cellAt}
 use Rattle.meaning.specs.Table.{findObject}
-use Rattle.meaning.specs.Writing.{stretchBytes, identificationBytes, typeBytes, rowsOfTable, rowsBehindTable, rowsBehindTopic, isDelivered}
+use Rattle.meaning.specs.Writing.{stretchBytes, identificationBytes, typeBytes, rowsOfTable, rowsBehindTable, rowsBehindTopic}
 use Rattle.meaning.specs.Readback.{isText, hasStart, pairsWithoutStarts, cellsWithoutStarts, pairTexts, textsOf, sameCells, sameTexts, sameTable}
-use Rattle.meaning.proofs.Refuse.{both, holds}
+use Rattle.meaning.proofs.Refuse.{holds}
 use Rattle.meaning.proofs.Same.{same-is}
-use Rattle.meaning.proofs.Numerals.{Defined}
-use Rattle.meaning.proofs.Valid.{RowOk, done, absent, plain, word, name, without, along, noLine, line, lentObjects, IdentificationOk, ObjectOk, Place, topicsFrom, tablesFrom, objects, Rest, finished, topicOut, topicIn, topicEnd, tableOut, tableIn, object, tableEnd, Valid}
+use Rattle.meaning.proofs.Valid.{RowOk, done, absent, plain, word, name, without, along, noLine, line, lentObjects, ObjectOk, Place, topicsFrom, Rest, finished, topicOut, topicIn, topicEnd, tableOut, tableIn, object, tableEnd, Valid}
 use Rattle.meaning.proofs.Back.{found-at}
 
 -- ## Equal cells and texts
@@ -214,11 +213,11 @@ module _ (m : Model) (text : List ℕ) (cs : List ℤ) (text′ : List ℕ) (cs�
       let a = cons-inv _ _ _ _ e in
       let b = cons-inv _ _ _ _ (cons-inv _ _ _ _ (a .1) .1) in
       let tail : pairsWithoutStarts ps (drop (row + 3) cs) ++ cellsWithoutStarts m cs rows ≡ pairsWithoutStarts ps (drop (row + 3) cs′) ++ cellsWithoutStarts m cs′ rows =
-          rw (← (a .0)) at (b .1) in
+      rw (← (a .0)) at (b .1) in
       let p = append-inv _ _ _ _ (pairs-length ps (drop (row + 3) cs) ∙ sym (pairs-length ps (drop (row + 3) cs′))) tail in
       let d = cons-inv _ _ _ _ t in
       let tail-t : pairTexts text ps (drop (row + 3) cs) ++ textsOf m text cs rows ≡ pairTexts text′ ps (drop (row + 3) cs′) ++ textsOf m text′ cs′ rows =
-          rw (← (a .0)) at (d .1) in
+      rw (← (a .0)) at (d .1) in
       let q = append-inv _ _ _ _ (texts-length text ps (drop (row + 3) cs) ∙ sym (texts-length text′ ps (drop (row + 3) cs′))) tail-t in
       (record { table = a .0; size = b .0; identification = d .0; pairs = p .0; texts = q .0 }, rows-alike rows (p .1) (q .1))
 
@@ -278,7 +277,7 @@ module _ (m : Model) (text : List ℕ) (c : Content) (text′ : List ℕ) (c′ 
       let pairs : pairsWithoutStarts ps (drop (at + 3) (c .cells)) ≡ pairsWithoutStarts ps (drop (at + 3) (c′ .cells)) = rw same-t at (h .pairs) in
       let texts : pairTexts text ps (drop (at + 3) (c .cells)) ≡ pairTexts text′ ps (drop (at + 3) (c′ .cells)) = rw same-t at (h .texts) in
       let long : length (drop (at + 3) (c′ .cells)) ≡ length (drop (at + 3) (c .cells)) =
-          length-drop (at + 3) (c′ .cells) ∙ (ap (λ (n : ℕ). n - (at + 3)) (sym (s .long)) ∙ sym (length-drop (at + 3) (c .cells))) in
+      length-drop (at + 3) (c′ .cells) ∙ (ap (λ (n : ℕ). n - (at + 3)) (sym (s .long)) ∙ sym (length-drop (at + 3) (c .cells))) in
       let objects-e : lentObjects text (c .cells) before ≡ lentObjects text′ (c′ .cells) before = objects-alike m text (c .cells) text′ (c′ .cells) before before-a in
       record {
         table = sym (h .table) ∙ o .table;

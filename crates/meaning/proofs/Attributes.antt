@@ -1,19 +1,19 @@
 -- Reading the lines that are written of an object's line attributes. Assumes nothing.
-use Prim.Native.Nat.{ℕ, zero, suc, _+_, _*_, _-_, _/_, _≤_, min}
+use Prim.Native.Nat.{ℕ, suc, _+_, _*_, _-_, _/_, _≤_, min}
 use native.Mathlib.Omega.{arith}
-use mathlib.Core.Path.{_≡_, refl, sym, ap, ap₂, subst, _∙_}
-use mathlib.Core.Bool.{Bool, true, false, not, false≢true}
+use mathlib.Core.Path.{_≡_, refl, sym, _∙_}
+use mathlib.Core.Bool.{Bool, true, false, false≢true}
 use mathlib.Core.List.{List, [], _∷_, _++_, append-assoc}
 use lib.IntN.{ℤ, pos}
 use lib.ListN.{length, take, drop, getD, set, length-append, length-take}
 use lib.Seq.{getD-drop, drop-drop, take-add, set-append-seam, set-at}
 use Rattle.meaning.specs.Bytes.{choose, refuse, separator, every, same}
 use Rattle.meaning.specs.Model.{Component, AttributeType, Model}
-use Rattle.meaning.specs.Field.{Field, hasCode, ELIN}
+use Rattle.meaning.specs.Field.{hasCode, ELIN}
 use Rattle.meaning.specs.Row.{Pair, OfAttribute, OfComponent, OfLine}
-use Rattle.meaning.specs.Reading.{LineState, unstarted, reached, lineCodeOf, undefinedLine, ended, move, LineAttribute, lineAttributes, Underway, Due, objectOf, lineOf, dueLines, withState, Content, withPoint, pointCount, withLine, cellAt, Rooms}
-use Rattle.meaning.specs.Lines.{go, bare, attributeLine, lineDue}
-use Rattle.meaning.specs.Writing.{pointLines, attributeLines, lineBytes}
+use Rattle.meaning.specs.Reading.{unstarted, reached, lineCodeOf, ended, move, LineAttribute, lineAttributes, Underway, Due, objectOf, lineOf, dueLines, withState, Content, withPoint, pointCount, withLine, Rooms}
+use Rattle.meaning.specs.Lines.{bare, attributeLine, lineDue}
+use Rattle.meaning.specs.Writing.{pointLines, attributeLines}
 use Rattle.meaning.proofs.Fields.{solid, placed}
 use Rattle.meaning.proofs.Valid.{PointsOk, RowOk, done, absent, plain, word, name, without, along, noLine, line}
 use Rattle.meaning.proofs.Rows.{isPlain, PairLike, alike, wordAt, nameAt, undrawn, isDrawn, Like, nil, also}

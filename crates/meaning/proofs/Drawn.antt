@@ -1,25 +1,24 @@
 -- What the lines of an object's line attributes say, where they were not refused. Assumes nothing.
-use Prim.Native.Nat.{ℕ, zero, suc, _+_, _*_, _-_, _/_, _≤_}
+use Prim.Native.Nat.{ℕ, zero, suc, _+_, _*_, _-_, _≤_}
 use native.Mathlib.Omega.{arith}
 use mathlib.Core.Path.{_≡_, refl, sym, ap, ap₂, subst, _∙_}
-use mathlib.Core.Bool.{Bool, true, false, not, _&&_, _||_, false≢true, true≢false}
+use mathlib.Core.Bool.{Bool, true, false, _||_, false≢true}
 use mathlib.Core.List.{List, [], _∷_, _++_, append-assoc, append-nil}
-use lib.Dec.{eqb, ltb}
+use lib.Dec.{eqb}
 use lib.IntN.{ℤ, pos}
-use lib.ListN.{length, take, drop, set, length-append}
+use lib.ListN.{length, drop, set, length-append}
 use borrow.Author.Tests.{eqb-true, not-false}
-use Rattle.meaning.specs.Bytes.{choose, refuse, allOf}
 use Rattle.meaning.specs.Unfold.{unfoldedText}
 use Rattle.meaning.specs.Model.{Component, AttributeType, Model}
-use Rattle.meaning.specs.Check.{special, goodComponent, goodComponents, isDimension, goodType}
+use Rattle.meaning.specs.Check.{special, goodComponent, goodComponents, isDimension}
 use Rattle.meaning.specs.Field.{Field, fieldsOf}
 use Rattle.meaning.specs.Value.{within}
-use Rattle.meaning.specs.Row.{Pair, OfAttribute, OfComponent, OfLine, Cells, cells, refused, componentValues, pointCells}
-use Rattle.meaning.specs.Reading.{LineState, unstarted, started, inArc, reached, LineCode, stpt, lipt, arcp, elin, other, lineCodeOf, Move, unexpected, undefinedLine, ended, point, move, isForbidden, LineAttribute, lineAttributes, Underway, Due, objectOf, lineOf, nothing, dueLines, withState, Content, State, behind, withPoint, pointCount, withLine, Rooms}
-use Rattle.meaning.specs.Lines.{Step, go, no, bare, storePoint, attributeLine, lineDue, stepOf, Run, ran, stopped, afterStep, run}
+use Rattle.meaning.specs.Row.{Pair, OfAttribute, OfComponent, OfLine, Cells, cells, refused, pointCells}
+use Rattle.meaning.specs.Reading.{LineState, unstarted, started, inArc, reached, LineCode, stpt, lipt, arcp, elin, other, lineCodeOf, Move, unexpected, undefinedLine, ended, point, move, isForbidden, lineAttributes, Underway, Due, objectOf, lineOf, nothing, dueLines, withState, Content, State, behind, withPoint, pointCount, withLine, Rooms}
+use Rattle.meaning.specs.Lines.{Step, go, no, bare, storePoint, attributeLine, lineDue, stepOf, ran, stopped, afterStep, run}
 use Rattle.meaning.proofs.Refuse.{passed, both}
 use Rattle.meaning.proofs.Standing.{text-behind}
-use Rattle.meaning.proofs.Numerals.{NumberOk, number-writes}
+use Rattle.meaning.proofs.Numerals.{number-writes}
 use Rattle.meaning.proofs.Valid.{Kind, starts, straight, arc, kindCell, kindCode, PointValues, flat, spatial, PointsOk, end, add}
 use Rattle.meaning.proofs.Attributes.{set-pair, moved, moved-length, withCells}
 use Rattle.meaning.proofs.Given.{WithinAll, none, one, values-within}
@@ -294,8 +293,13 @@ module _ (m : Model) (rooms : Rooms) (text : List ℕ) (su : special (m .undefin
   unfolding dueLines lineAttributes InLineAt
   attributes-end ls ih [] t k line start c front [] good long e count stands r =
       let same : c ≡ withCells c (front ++ []) (c .points ++ []) = ap₂ (λ (l : List ℤ) (p : List ℤ). withCells c l p) e (sym (append-nil (c .points))) in
-      record { ys = []; points = []; k′ = k; drawing = stop;
-               at = subst (λ (d : Content). ObjectEnd t d (length ls)) same (record { line = line; start = start; others = ls; runs = r; stands = stands; shorter = omega arith }) }
+      record {
+        ys = [];
+        points = [];
+        k′ = k;
+        drawing = stop;
+        at = subst (λ (d : Content). ObjectEnd t d (length ls)) same (record { line = line; start = start; others = ls; runs = r; stands = stands; shorter = omega arith });
+      }
   attributes-end ls ih [] t k line start c front (x ∷ xs) good long e count stands r = absurd (omega arith)
   attributes-end ls ih (p ∷ ps) t k line start c front [] good long e count stands r = absurd (omega arith)
   attributes-end ls ih (p ∷ ps) t k line start c front (a ∷ []) good long e count stands r = absurd (omega arith)
@@ -320,15 +324,26 @@ module _ (m : Model) (rooms : Rooms) (text : List ℕ) (su : special (m .undefin
     point-on begun moves form values q =
         let four : List ℤ = fourCells kind px py pz in
         let all : (c .points ++ four) ++ (q .these ++ q .points) ≡ c .points ++ ((four ++ q .these) ++ q .points) =
-            append-assoc (c .points) four (q .these ++ q .points) ∙ ap (λ (l : List ℤ). c .points ++ l) (sym (append-assoc four (q .these) (q .points))) in
+        append-assoc (c .points) four (q .these ++ q .points) ∙ ap (λ (l : List ℤ). c .points ++ l) (sym (append-assoc four (q .these) (q .points))) in
         let e = q .at in
         record {
-          x′ = q .x′; y′ = q .y′; these = four ++ q .these; k₁ = q .k₁;
+          x′ = q .x′;
+          y′ = q .y′;
+          these = four ++ q .these;
+          k₁ = q .k₁;
           this = point-more state kind px py pz (j + 1) refl (q .this) begun moves form values;
-          ys = q .ys; points = q .points; k′ = q .k′; drawing = q .drawing;
-          at = record { line = e .line; start = e .start; others = e .others;
-                        runs = subst (λ (l : List ℤ). run m rooms text (record { line = e .line; start = e .start; due = objectOf t; content = withCells c (front ++ (q .x′ ∷ q .y′ ∷ q .ys)) l }) (e .others) ≡ ran final) all (e .runs);
-                        stands = e .stands; shorter = let s = e .shorter in omega arith };
+          ys = q .ys;
+          points = q .points;
+          k′ = q .k′;
+          drawing = q .drawing;
+          at = record {
+            line = e .line;
+            start = e .start;
+            others = e .others;
+            runs = subst (λ (l : List ℤ). run m rooms text (record { line = e .line; start = e .start; due = objectOf t; content = withCells c (front ++ (q .x′ ∷ q .y′ ∷ q .ys)) l }) (e .others) ≡ ran final) all (e .runs);
+            stands = e .stands;
+            shorter = let s = e .shorter in omega arith;
+          };
         }
 
   -- the line ends, and the attributes that follow are read
@@ -338,7 +353,15 @@ module _ (m : Model) (rooms : Rooms) (text : List ℕ) (su : special (m .undefin
   line-on t k j k₁ o forms ks state ps c front xs x y x′ y′ size this r =
       let e = r .at in
       record {
-        x′ = x′; y′ = y′; these = []; k₁ = k₁; this = this; ys = r .ys; points = r .points; k′ = r .k′; drawing = r .drawing;
+        x′ = x′;
+        y′ = y′;
+        these = [];
+        k₁ = k₁;
+        this = this;
+        ys = r .ys;
+        points = r .points;
+        k′ = r .k′;
+        drawing = r .drawing;
         at = record { line = e .line; start = e .start; others = e .others; runs = rw (moved front x′ y′ (r .ys)) at (e .runs); stands = e .stands; shorter = let s = e .shorter in omega arith };
       }
 
@@ -382,17 +405,17 @@ module _ (m : Model) (rooms : Rooms) (text : List ℕ) (su : special (m .undefin
       let same : c ≡ withCells c (front ++ (x ∷ y ∷ xs)) (c .points) = ap (λ (l : List ℤ). withCells c l (c .points)) e in
       line-on t k j k o forms ks state ps c front xs x y x y (length ls) (skipped-by forms ks o state j k x y p (told-skips state told))
       (attributes-end ls ih ps t k line start (withCells c (front ++ (x ∷ y ∷ xs)) (c .points)) (front ++ (x ∷ y ∷ [])) xs lines long (sym (moved front x y xs)) (omega arith) stands
-        (rw (moved-length front x y xs)
-         (subst (λ (d : Content). run m rooms text (record { line = line; start = start; due = dueLines t k (lineAttributes (length front + 2) ps); content = d }) ls ≡ ran final) same r)))
+      (rw (moved-length front x y xs)
+      (subst (λ (d : Content). run m rooms text (record { line = line; start = start; due = dueLines t k (lineAttributes (length front + 2) ps); content = d }) ls ≡ ran final) same r)))
   line-by ls ih t k j line start o forms ks state ps c front xs x y dim good lines long e count begun stands code _ moves told _ _ finish r =
       let points : pointCount c ≡ k + (j + 0) = omega arith in
       let more : k + (j + 0) - k ≡ j + 0 = omega arith in
       let cells : set (set (c .cells) (length front) (pos (1 + (pointCount c - k)))) (length front + 1) (pos k) ≡ front ++ (pos (1 + (j + 0)) ∷ pos k ∷ xs) =
-          rw (e, points, more) (set-pair front x y xs (pos (1 + (j + 0))) (pos k)) in
+      rw (e, points, more) (set-pair front x y xs (pos (1 + (j + 0))) (pos k)) in
       let d : Content = withCells c (front ++ (pos (1 + (j + 0)) ∷ pos k ∷ xs)) (c .points) in
       line-on t k j (k + (j + 0)) o forms ks state ps c front xs x y (pos (1 + (j + 0))) (pos k) (length ls) (ended-by forms ks o state j k x y (told-ends state told))
       (attributes-end ls ih ps t (k + (j + 0)) line start d (front ++ (pos (1 + (j + 0)) ∷ pos k ∷ [])) xs lines long (sym (moved front (pos (1 + (j + 0))) (pos k) xs)) (omega arith) stands
-        (rw (moved-length front (pos (1 + (j + 0))) (pos k) xs) (rw (cells, points) at r)))
+      (rw (moved-length front (pos (1 + (j + 0))) (pos k) xs) (rw (cells, points) at r)))
   line-by ls ih t k j line start o forms ks state ps c front xs x y dim good lines long e count begun stands code _ moves told _ _ (adds {kind = kind} {state = next} vs form within) r =
       let g = point-given (m .undefined) su dim good within in
       let K = kind-of state next code kind moves in
@@ -400,7 +423,7 @@ module _ (m : Model) (rooms : Rooms) (text : List ℕ) (su : special (m .undefin
       let four : pointCells kind vs ≡ fourCells (K .is) (g .x) (g .y) (g .z) = g .four kind ∙ rw cell in
       let c₁ : Content = withPoint (fourCells (K .is) (g .x) (g .y) (g .z)) c in
       let q = ih t k (j + 1) line start o forms ks next ps c₁ front xs x y dim good lines long e
-            (rw (length-append (c .points) (fourCells (K .is) (g .x) (g .y) (g .z))) (omega arith)) (λ h. absurd (told-begun state next kind told h)) stands (rw four at r) in
+      (rw (length-append (c .points) (fourCells (K .is) (g .x) (g .y) (g .z))) (omega arith)) (λ h. absurd (told-begun state next kind told h)) stands (rw four at r) in
       point-on t k j o forms ks state next ps c front xs x y (length ls) (K .is) (g .x) (g .y) (g .z) (told-begun state next kind told) (rw (K .ofCode, K .ofCell) moves) (rw (K .ofCode) form) (g .values) q
 
   in-line : (ls : List (List ℕ)) → InLineAt ls
@@ -413,7 +436,7 @@ module _ (m : Model) (rooms : Rooms) (text : List ℕ) (su : special (m .undefin
       let f = first-step m rooms text l ls s final r in
       let fs : List Field = fieldsOf start l in
       line-by ls (in-line ls) t k j (line + 1) (start + length l + 1) o forms ks state ps c front xs x y dim good lines long e count begun (text-behind text start l ls stands)
-        (lineCodeOf fs) (move state (lineCodeOf fs)) refl (told state (lineCodeOf fs)) (f .due) (f .content) (line-step m rooms text w fs c _ (f .due) (f .content) (f .goes)) (f .runs)
+      (lineCodeOf fs) (move state (lineCodeOf fs)) refl (told state (lineCodeOf fs)) (f .due) (f .content) (line-step m rooms text w fs c _ (f .due) (f .content) (f .goes)) (f .runs)
 
   -- the line attributes of an object are read, and the object ends
   pub object-ends : (ls : List (List ℕ)) (ps : List Pair) (t k line start : ℕ) (c : Content) (front xs : List ℤ) → LinesGood ps → length xs ≡ 2 * length ps → c .cells ≡ front ++ xs

@@ -3,34 +3,33 @@ use Prim.Native.Nat.{ℕ, zero, suc, _+_, _*_, _-_, _/_, _≤_, _<_}
 use native.Mathlib.Omega.{arith}
 use native.Mathlib.Numerals.{add-one}
 use mathlib.Core.Path.{_≡_, refl, sym, ap, ap₂, subst, _∙_}
-use mathlib.Core.Bool.{Bool, true, false, not, _&&_, _||_, true≢false, false≢true}
+use mathlib.Core.Bool.{Bool, true, false, not, _&&_}
 use mathlib.Core.List.{List, [], _∷_, _++_, append-assoc, append-nil}
-use lib.Dec.{eqb, leb, ltb}
-use lib.IntN.{ℤ, pos, natAbs}
-use lib.ListN.{length, take, drop, getD, set, replicate, length-append, length-set, drop-of-length-le, length-replicate, getD-replicate}
+use lib.Dec.{eqb, ltb}
+use lib.IntN.{ℤ, pos}
+use lib.ListN.{length, drop, getD, set, replicate, length-append, length-set, drop-of-length-le, length-replicate, getD-replicate}
 use lib.Seq.{drop-cons, getD-set-same, getD-set-other, drop-append-add, drop-append-seam}
 use borrow.Author.Tests.{eq-eqb, ne-eqb, eqb-true, ltb-true, ltb-false}
 use Rattle.meaning.specs.Bytes.{choose, refuse, prefix}
 use Rattle.meaning.specs.Unfold.{unfoldedText}
-use Rattle.meaning.specs.Model.{Found, found, missing, Table, Model, tableAt, noTable}
-use Rattle.meaning.specs.Check.{special, GoodModel}
+use Rattle.meaning.specs.Model.{found, Table, Model, tableAt, noTable}
+use Rattle.meaning.specs.Check.{GoodModel}
 use Rattle.meaning.specs.Field.{Field, fieldsOf, fieldAt, moreThan, hasCode, slashes}
 use Rattle.meaning.specs.Value.{isUndefined, isUndefinedTwice}
-use Rattle.meaning.specs.Row.{Pair, pairsOf, Cells, cells, pairCells}
-use Rattle.meaning.specs.Reading.{lineAttributes, Due, opening, description, transfer, modelName, topicFrom, tableFrom, objectOf, closing, nothing, dueLines, Content, State, behind, withMark, withRow, pointCount, Rooms, findTopic, findTable, mandatoryBetween, Object, stretch, cellAt, objectsOf, isUsed}
-use Rattle.meaning.specs.Lines.{Step, go, no, bare, named, openingLine, descriptionLine, transferLine, modelLine, lineDue, Run, ran, stopped, run}
+use Rattle.meaning.specs.Row.{Pair, pairsOf, cells}
+use Rattle.meaning.specs.Reading.{Due, opening, description, transfer, modelName, topicFrom, tableFrom, objectOf, closing, nothing, Content, State, withRow, Rooms, findTopic, findTable, mandatoryBetween, Object, stretch, objectsOf, isUsed}
+use Rattle.meaning.specs.Lines.{go, no, bare, named, openingLine, descriptionLine, transferLine, modelLine, lineDue, ran, run}
 use Rattle.meaning.specs.Writing.{identificationBytes, rowsOfTable, rowsBehindTable, rowsBehindTopic, isDelivered}
 use Rattle.meaning.proofs.Refuse.{passed}
 use Rattle.meaning.proofs.Fields.{Solid}
 use Rattle.meaning.proofs.Standing.{AllStand, text-behind, line-stands}
-use Rattle.meaning.proofs.Numerals.{Defined}
-use Rattle.meaning.proofs.Valid.{RowOk, lentObjects, IdentificationOk, ObjectOk, Place, topicsFrom, tablesFrom, objects, Rest, finished, topicOut, topicIn, topicEnd, tableOut, tableIn, object, tableEnd}
+use Rattle.meaning.proofs.Valid.{lentObjects, IdentificationOk, ObjectOk, Place, topicsFrom, tablesFrom, objects, Rest, finished, topicOut, topicIn, topicEnd, tableOut, tableIn, object, tableEnd}
 use Rattle.meaning.proofs.Given as given
 use Rattle.meaning.proofs.Drawn as lines
 use Rattle.meaning.proofs.Given.{Given, AllAre, fields-are, pairs-given}
-use Rattle.meaning.proofs.Drawn.{Drawing, told-of, FirstStep, first-step, ObjectEnd, AttributesEnd, object-ends}
-use Rattle.meaning.proofs.Resolve.{Row, rowCells, flatRows, rowStarts, objectsOfRows, flat-append, starts-append, table-at, size-at, row-identification, objects-flat, lent-flat, ResolvedTo, resolved-length, pairsIn, AllLong, ResolvedRows, nomore, more}
-use Rattle.meaning.proofs.Back.{PairsGood, lines-good, row-ok}
+use Rattle.meaning.proofs.Drawn.{Drawing, told-of, FirstStep, first-step, AttributesEnd, object-ends}
+use Rattle.meaning.proofs.Resolve.{Row, rowCells, flatRows, rowStarts, objectsOfRows, flat-append, starts-append, table-at, size-at, row-identification, objects-flat, lent-flat, ResolvedTo, resolved-length, AllLong, ResolvedRows, nomore, more}
+use Rattle.meaning.proofs.Back.{lines-good, row-ok}
 use Rattle.meaning.proofs.Steps.{TopicStep, emod, topi, TableStep, etop, tabl, ObjectGiven, ObjectStep, etab, obje, topic-step, table-step, object-step, closing-step, TopicFound, topic-found, TableFound, table-found}
 use Rattle.meaning.proofs.GoodModels.{pairs-good, topic-solid, table-solid}
 
@@ -161,7 +160,7 @@ module _ (text : List ℕ) (os : List Object) (ts : List Table) where
   resolved-starts base nomore = refl
   resolved-starts base (more {t = t} {start = start} {size = size} {xs = xs} {ys = ys} {rs = rs} {qs = qs} r rest) =
       let z : length (rowCells (record { table = t; start = start; size = size; pairs = ys })) ≡ length (rowCells (record { table = t; start = start; size = size; pairs = xs })) =
-          (let a = resolved-length text os r in omega arith) in
+      (let a = resolved-length text os r in omega arith) in
       rw z (ap (λ (l : List ℕ). base ∷ l) (resolved-starts _ rest))
 
   pub resolved-objects : {rs qs : List Row} → ResolvedRows text os ts rs qs → objectsOfRows text qs ≡ objectsOfRows text rs
@@ -229,7 +228,7 @@ module _ (m : Model) (good : GoodModel m) (rooms : Rooms) (text : List ℕ) (fin
       let d : f .due ≡ nothing = cc in
       let x : f .content ≡ c = cc in
       nothing-end ls (line + 1) (start + length l + 1) c (subst (λ (y : Content). run m rooms text (record { line = line + 1; start = start + length l + 1; due = nothing; content = y }) ls ≡ ran final) x
-        (subst (λ (y : Due). run m rooms text (record { line = line + 1; start = start + length l + 1; due = y; content = f .content }) ls ≡ ran final) d (f .runs)))
+      (subst (λ (y : Due). run m rooms text (record { line = line + 1; start = start + length l + 1; due = y; content = f .content }) ls ≡ ran final) d (f .runs)))
 
   abbrev pub soFar : List ℕ → List Row → List ℤ → Content
   soFar marks rs₀ points = record { marks = marks; rows = rowStarts 0 rs₀; cells = flatRows rs₀; points = points }
@@ -256,9 +255,9 @@ module _ (m : Model) (good : GoodModel m) (rooms : Rooms) (text : List ℕ) (fin
         first = tt;
         rest = λ qs₀ qs r s c same.
             topics-out m text table from from (topicCount m) (topicCount m - from) (omega arith) (omega arith)
-              (λ j a b. delivered-not (final .content .marks) j (ap (λ (x : List ℕ). getD x j 0) marks-e ∙ un .topics j a b))
-              (rw (drop-of-length-le (m .topics) {i = topicCount m} (omega arith))
-                (finished (sym marks-e) (sym rows-e) (last-cell qs₀ qs r s c) (count ∙ ap length (sym points-e))));
+            (λ j a b. delivered-not (final .content .marks) j (ap (λ (x : List ℕ). getD x j 0) marks-e ∙ un .topics j a b))
+            (rw (drop-of-length-le (m .topics) {i = topicCount m} (omega arith))
+            (finished (sym marks-e) (sym rows-e) (last-cell qs₀ qs r s c) (count ∙ ap length (sym points-e))));
       }
     where
       last-cell : {rs₀ : List Row} (qs₀ qs : List Row) → ResolvedRows text os (m .tables) rs₀ qs₀ → ResolvedRows text os (m .tables) [] qs → cs ≡ flatRows qs₀ ++ flatRows qs → length (flatRows rs₀) ≡ length cs
@@ -277,18 +276,23 @@ module _ (m : Model) (good : GoodModel m) (rooms : Rooms) (text : List ℕ) (fin
       let same-p : p - 0 ≡ p = omega arith in
       let own : findTopic from 0 (getD (m .topics) p []) (m .topics) ≡ found p = rw same-p at (f .own) in
       let kept : (j : ℕ) → j < from → j < topicCount m → getD (final .content .marks) j 0 ≡ getD marks j 0 =
-          λ j a b. q .keptTopics j (omega arith) b ∙ getD-set-other marks p j 1 0 (λ z. omega arith) in
+      λ j a b. q .keptTopics j (omega arith) b ∙ getD-set-other marks p j 1 0 (λ z. omega arith) in
       let none : (j : ℕ) → from ≤ j → j < p → getD (final .content .marks) j 0 ≡ 0 =
-          λ j a b. q .keptTopics j (omega arith) (omega arith) ∙ (getD-set-other marks p j 1 0 (λ z. omega arith) ∙ un .topics j a (omega arith)) in
+      λ j a b. q .keptTopics j (omega arith) (omega arith) ∙ (getD-set-other marks p j 1 0 (λ z. omega arith) ∙ un .topics j a (omega arith)) in
       let this : getD (final .content .marks) p 0 ≡ 1 = q .keptTopics p (omega arith) below ∙ getD-set-same marks p 1 0 (omega arith) in
       record {
-        rs = q .rs; rows = q .rows; cells = q .cells; long = q .long; others = q .others; points′ = q .points′;
+        rs = q .rs;
+        rows = q .rows;
+        cells = q .cells;
+        long = q .long;
+        others = q .others;
+        points′ = q .points′;
         keptTopics = kept;
         keptTables = λ t l a. q .keptTables t l (passed-later t a) ∙ getD-set-other marks p (topicCount m + t) 1 0 (λ z. omega arith);
         first = first-later (q .rs) (q .first);
         rest = λ qs₀ qs r s c same.
             topics-out m text table from from p (p - from) (omega arith) (omega arith) (λ j a b. delivered-not (final .content .marks) j (none j a b))
-              (rw (drop-next (m .topics) p [] below) (topicIn (delivered-is (final .content .marks) p this) (topic-solid m good p below) own (q .rest qs₀ qs r s c same)));
+            (rw (drop-next (m .topics) p [] below) (topicIn (delivered-is (final .content .marks) p this) (topic-solid m good p below) own (q .rest qs₀ qs r s c same)));
       }
     where
       passed-later : (t : ℕ) → Passed from 0 (topicOf m t) t → Passed p 0 (topicOf m t) t
@@ -319,16 +323,21 @@ module _ (m : Model) (good : GoodModel m) (rooms : Rooms) (text : List ℕ) (fin
   fine-topic-end p from marks rs₀ points k g un q =
       let within : from ≤ length (m .tables) = un .within in
       record {
-        rs = q .rs; rows = q .rows; cells = q .cells; long = q .long; others = q .others; points′ = q .points′;
+        rs = q .rs;
+        rows = q .rows;
+        cells = q .cells;
+        long = q .long;
+        others = q .others;
+        points′ = q .points′;
         keptTopics = q .keptTopics;
         keptTables = λ t l a. q .keptTables t l (passed-later t a);
         first = first-later (q .rs) (q .first);
         rest = λ qs₀ qs r s c same.
             tables-out m text table p from from (length (m .tables)) (length (m .tables) - from) (drop (p + 1) (m .topics)) (omega arith) (omega arith)
-              (λ j a b. and-out (topicOf m j) p _ (λ e. delivered-not (final .content .marks) (topicCount m + j)
-                (q .keptTables j b (topicBefore (omega arith)) ∙ un .tables j b (tableAfter e a))))
-              (rw (drop-of-length-le (m .tables) {i = length (m .tables)} (omega arith))
-                (topicEnd g (behind-topic p rs₀ qs₀ (q .rs) qs r s c (q .first)) (q .rest qs₀ qs r s c same)));
+            (λ j a b. and-out (topicOf m j) p _ (λ e. delivered-not (final .content .marks) (topicCount m + j)
+            (q .keptTables j b (topicBefore (omega arith)) ∙ un .tables j b (tableAfter e a))))
+            (rw (drop-of-length-le (m .tables) {i = length (m .tables)} (omega arith))
+            (topicEnd g (behind-topic p rs₀ qs₀ (q .rs) qs r s c (q .first)) (q .rest qs₀ qs r s c same)));
       }
     where
       passed-later : (t : ℕ) → Passed p from (topicOf m t) t → Passed (p + 1) 0 (topicOf m t) t
@@ -356,19 +365,24 @@ module _ (m : Model) (good : GoodModel m) (rooms : Rooms) (text : List ℕ) (fin
       let i : ℕ = topicCount m + t in
       let this : getD (final .content .marks) i 0 ≡ 1 = q .keptTables t below (tableBefore refl (omega arith)) ∙ getD-set-same marks i 1 0 (omega arith) in
       record {
-        rs = q .rs; rows = q .rows; cells = q .cells; long = q .long; others = q .others; points′ = q .points′;
+        rs = q .rs;
+        rows = q .rows;
+        cells = q .cells;
+        long = q .long;
+        others = q .others;
+        points′ = q .points′;
         keptTopics = λ j l n. q .keptTopics j (omega arith) n ∙ getD-set-other marks i j 1 0 (λ z. omega arith);
         keptTables = λ j l a. q .keptTables j l (passed-later topic j a) ∙ getD-set-other marks i (topicCount m + j) 1 0 (λ z. not-this topic j a (omega arith));
         first = first-later topic (q .rs) (q .first);
         rest = λ qs₀ qs r s c same.
             tables-out m text table p from from t (t - from) (drop (p + 1) (m .topics)) (omega arith) (omega arith)
-              (λ j a b. and-out (topicOf m j) p _ (λ e. delivered-not (final .content .marks) (topicCount m + j)
-                (q .keptTables j (omega arith) (tableBefore (e ∙ sym topic) (omega arith))
-                 ∙ (getD-set-other marks i (topicCount m + j) 1 0 (λ z. omega arith) ∙ un .tables j (omega arith) (tableAfter e a)))))
-              (rw (drop-next (m .tables) t noTable below)
-                (tableIn {p = p} {n = t} {table = tableAt (m .tables) t} (rw (eq-eqb (topicOf m t) p topic, delivered-is (final .content .marks) i this)) refl (table-solid m good t below) own g
-                  (subst (λ (x : ℕ). Rest m text table (objects x t (drop (t + 1) (m .tables)) (drop (x + 1) (m .topics))) (set marks i 1) (rowStarts 0 rs₀) (length (flatRows rs₀)) k
-                    (rowStarts (length (flatRows rs₀)) (q .rs))) topic (q .rest qs₀ qs r s c same))));
+            (λ j a b. and-out (topicOf m j) p _ (λ e. delivered-not (final .content .marks) (topicCount m + j)
+            (q .keptTables j (omega arith) (tableBefore (e ∙ sym topic) (omega arith))
+            ∙ (getD-set-other marks i (topicCount m + j) 1 0 (λ z. omega arith) ∙ un .tables j (omega arith) (tableAfter e a)))))
+            (rw (drop-next (m .tables) t noTable below)
+            (tableIn {p = p} {n = t} {table = tableAt (m .tables) t} (rw (eq-eqb (topicOf m t) p topic, delivered-is (final .content .marks) i this)) refl (table-solid m good t below) own g
+            (subst (λ (x : ℕ). Rest m text table (objects x t (drop (t + 1) (m .tables)) (drop (x + 1) (m .topics))) (set marks i 1) (rowStarts 0 rs₀) (length (flatRows rs₀)) k
+            (rowStarts (length (flatRows rs₀)) (q .rs))) topic (q .rest qs₀ qs r s c same))));
       }
     where
       passed-later : topicOf m t ≡ p → (j : ℕ) → Passed p from (topicOf m j) j → Passed (topicOf m t) (t + 1) (topicOf m j) j
@@ -404,7 +418,12 @@ module _ (m : Model) (good : GoodModel m) (rooms : Rooms) (text : List ℕ) (fin
   unfolding topicBound inTopic tableBound rowBound placeOf
   fine-table-end t marks rs₀ points k q =
       record {
-        rs = q .rs; rows = q .rows; cells = q .cells; long = q .long; others = q .others; points′ = q .points′;
+        rs = q .rs;
+        rows = q .rows;
+        cells = q .cells;
+        long = q .long;
+        others = q .others;
+        points′ = q .points′;
         keptTopics = q .keptTopics;
         keptTables = q .keptTables;
         first = first-later (q .rs) (q .first);
@@ -480,7 +499,7 @@ module _ (m : Model) (good : GoodModel m) (rooms : Rooms) (text : List ℕ) (fin
     fresh-there : isUsed (i .bytes) (lentObjects text cs (rowStarts 0 rs₀)) ≡ false
     fresh-there =
         let lent : lentObjects text cs (rowStarts 0 rs₀) ≡ objectsOfRows text rs₀ =
-            rw (e, ← resolved-starts text os (m .tables) 0 before) (lent-flat text qs₀ [] (rowCells (rowOf t i zs) ++ flatRows qs) ∙ resolved-objects text os (m .tables) before) in
+        rw (e, ← resolved-starts text os (m .tables) 0 before) (lent-flat text qs₀ [] (rowCells (rowOf t i zs) ++ flatRows qs) ∙ resolved-objects text os (m .tables) before) in
         let read : objectsOf text (flatRows rs₀) (rowStarts 0 rs₀) ≡ objectsOfRows text rs₀ = rw (append-nil (flatRows rs₀)) at (objects-flat text rs₀ [] []) in
         rw lent (rw read at (o .fresh))
 
@@ -511,31 +530,31 @@ module _ (m : Model) (good : GoodModel m) (rooms : Rooms) (text : List ℕ) (fin
   object-rest : (t k k′ : ℕ) (marks : List ℕ) (rs₀ rs : List Row) (i : Field) (ys points these more-points : List ℤ) → ObjectRead t k k′ rs₀ i ys points these
       → final .content .points ≡ points ++ (these ++ more-points) →
       ((qs₀ qs : List Row) → ResolvedRows text os (m .tables) (rs₀ ++ (rowOf t i ys ∷ [])) qs₀ → ResolvedRows text os (m .tables) rs qs → cs ≡ flatRows qs₀ ++ flatRows qs
-        → lentObjects text cs (final .content .rows) ≡ os
-        → Rest m text table (objects (topicOf m t) t (drop (t + 1) (m .tables)) (drop (topicOf m t + 1) (m .topics))) marks (rowStarts 0 (rs₀ ++ (rowOf t i ys ∷ [])))
-            (length (flatRows (rs₀ ++ (rowOf t i ys ∷ [])))) k′ (rowStarts (length (flatRows (rs₀ ++ (rowOf t i ys ∷ [])))) rs))
+      → lentObjects text cs (final .content .rows) ≡ os
+      → Rest m text table (objects (topicOf m t) t (drop (t + 1) (m .tables)) (drop (topicOf m t + 1) (m .topics))) marks (rowStarts 0 (rs₀ ++ (rowOf t i ys ∷ [])))
+      (length (flatRows (rs₀ ++ (rowOf t i ys ∷ [])))) k′ (rowStarts (length (flatRows (rs₀ ++ (rowOf t i ys ∷ [])))) rs))
       → (qs₀ qs : List Row) → ResolvedRows text os (m .tables) rs₀ qs₀ → ResolvedRows text os (m .tables) (rowOf t i ys ∷ rs) qs → cs ≡ flatRows qs₀ ++ flatRows qs
       → lentObjects text cs (final .content .rows) ≡ os
       → Rest m text table (objects (topicOf m t) t (drop (t + 1) (m .tables)) (drop (topicOf m t + 1) (m .topics))) marks (rowStarts 0 rs₀) (length (flatRows rs₀)) k
-          (rowStarts (length (flatRows rs₀)) (rowOf t i ys ∷ rs))
+      (rowStarts (length (flatRows rs₀)) (rowOf t i ys ∷ rs))
   unfolding rowStarts flatRows
   object-rest t k k′ marks rs₀ rs i ys points these more-points o all-points ih qs₀ _ before (more {ys = zs} {qs = qs} to others) e same =
       let r : Row = rowOf t i ys in
       let q : Row = rowOf t i zs in
       let at : ℕ = length (flatRows rs₀) in
       let cells-e : cs ≡ flatRows (qs₀ ++ (q ∷ [])) ++ flatRows qs =
-          e ∙ (sym (append-assoc (flatRows qs₀) (rowCells q) (flatRows qs)) ∙ ap (λ (l : List ℤ). l ++ flatRows qs) (sym (flat-append qs₀ (q ∷ []) ∙ ap (λ (l : List ℤ). flatRows qs₀ ++ l) (append-nil (rowCells q))))) in
+      e ∙ (sym (append-assoc (flatRows qs₀) (rowCells q) (flatRows qs)) ∙ ap (λ (l : List ℤ). l ++ flatRows qs) (sym (flat-append qs₀ (q ∷ []) ∙ ap (λ (l : List ℤ). flatRows qs₀ ++ l) (append-nil (rowCells q))))) in
       let next = ih (qs₀ ++ (q ∷ [])) qs (resolved-append text os (m .tables) before (more to nomore)) others cells-e same in
       let rows-e : rowStarts 0 (rs₀ ++ (r ∷ [])) ≡ rowStarts 0 rs₀ ++ (at ∷ []) = let z : 0 + at ≡ at = omega arith in rw z at (starts-append 0 rs₀ (r ∷ [])) in
       let long : length ys ≡ 2 * length (pairsOf (tableAt (m .tables) t .attributes)) = drawing-length (o .drawing) ∙ given-length (o .given′) in
       let size : length (flatRows (rs₀ ++ (r ∷ []))) ≡ at + length (rowCells r) =
-          ap length (flat-append rs₀ (r ∷ []) ∙ ap (λ (l : List ℤ). flatRows rs₀ ++ l) (append-nil (rowCells r))) ∙ length-append (flatRows rs₀) (rowCells r) in
+      ap length (flat-append rs₀ (r ∷ []) ∙ ap (λ (l : List ℤ). flatRows rs₀ ++ l) (append-nil (rowCells r))) ∙ length-append (flatRows rs₀) (rowCells r) in
       let size′ : at + length (rowCells r) ≡ at + (3 + 2 * length (pairsOf (tableAt (m .tables) t .attributes))) = omega arith in
       let next′ : Rest m text table (objects (topicOf m t) t (drop (t + 1) (m .tables)) (drop (topicOf m t + 1) (m .topics))) marks (rowStarts 0 rs₀ ++ (at ∷ [])) (at + length (rowCells r)) k′
-            (rowStarts (at + length (rowCells r)) rs) = rw (rows-e, size) at next in
+      (rowStarts (at + length (rowCells r)) rs) = rw (rows-e, size) at next in
       object (object-fine t k k′ rs₀ i ys points these o more-points all-points qs₀ before zs qs to e same) refl
-        (subst (λ (n : ℕ). Rest m text table (objects (topicOf m t) t (drop (t + 1) (m .tables)) (drop (topicOf m t + 1) (m .topics))) marks (rowStarts 0 rs₀ ++ (at ∷ [])) n k′
-            (rowStarts (at + length (rowCells r)) rs)) size′ next′)
+      (subst (λ (n : ℕ). Rest m text table (objects (topicOf m t) t (drop (t + 1) (m .tables)) (drop (topicOf m t + 1) (m .topics))) marks (rowStarts 0 rs₀ ++ (at ∷ [])) n k′
+      (rowStarts (at + length (rowCells r)) rs)) size′ next′)
 
   fine-object : (t k k′ : ℕ) (marks : List ℕ) (rs₀ : List Row) (i : Field) (ys points these : List ℤ) → ObjectRead t k k′ rs₀ i ys points these
       → Fine (objectNext t) marks (rs₀ ++ (rowOf t i ys ∷ [])) (points ++ these) k′ → Fine (objectNext t) marks rs₀ points k
@@ -579,13 +598,13 @@ module _ (m : Model) (good : GoodModel m) (rooms : Rooms) (text : List ℕ) (fin
       let size = t .size in
       fine-topic from p name marks rs₀ points k t un
       (ih (tableNext p 0) ls line start (set marks p 1) rs₀ points k short stands count
-        (record {
-          size = length-set marks p 1 ∙ un .size;
-          within = omega arith;
-          among = omega arith;
-          topics = λ j a b. getD-set-other marks p j 1 0 (λ z. omega arith) ∙ un .topics j (omega arith) b;
-          tables = λ j a b. getD-set-other marks p (topicCount m + j) 1 0 (λ z. omega arith) ∙ un .tables j a (ahead-earlier from p 0 _ _ (t .after) b);
-        }) r)
+      (record {
+        size = length-set marks p 1 ∙ un .size;
+        within = omega arith;
+        among = omega arith;
+        topics = λ j a b. getD-set-other marks p j 1 0 (λ z. omega arith) ∙ un .topics j (omega arith) b;
+        tables = λ j a b. getD-set-other marks p (topicCount m + j) 1 0 (λ z. omega arith) ∙ un .tables j a (ahead-earlier from p 0 _ _ (t .after) b);
+      }) r)
 
   table-by : (n : ℕ) → FineAt n → (p from : ℕ) (ls : List (List ℕ)) (line start : ℕ) (marks : List ℕ) (rs₀ : List Row) (points : List ℤ) (k : ℕ) → length ls ≤ n → drop start text ≡ unfoldedText ls
       → 4 * k ≡ length points → Unmarked m (tableNext p from) marks → (due : Due) (c : Content) → TableStep m p from (soFar marks rs₀ points) due c
@@ -594,7 +613,7 @@ module _ (m : Model) (good : GoodModel m) (rooms : Rooms) (text : List ℕ) (fin
   table-by n ih p from ls line start marks rs₀ points k short stands count un _ _ (etop g) r =
       fine-topic-end p from marks rs₀ points k g un
       (ih (topicNext (p + 1)) ls line start marks rs₀ points k short stands count
-        (record { size = un .size; within = omega arith; among = un .among; topics = un .topics; tables = λ j a b. un .tables j a (earlier j b) }) r)
+      (record { size = un .size; within = omega arith; among = un .among; topics = un .topics; tables = λ j a b. un .tables j a (earlier j b) }) r)
     where
       earlier : (j : ℕ) → Ahead (p + 1) 0 (topicOf m j) j → Ahead p from (topicOf m j) j
       earlier j (topicAfter h) = topicAfter (omega arith)
@@ -608,13 +627,13 @@ module _ (m : Model) (good : GoodModel m) (rooms : Rooms) (text : List ℕ) (fin
       let among : p + 1 ≤ topicCount m = un .among in
       fine-table p from t name marks rs₀ points k q g un
       (ih (objectNext t) ls line start (set marks (topicCount m + t) 1) rs₀ points k short stands count
-        (record {
-          size = length-set marks (topicCount m + t) 1 ∙ un .size;
-          within = omega arith;
-          among = omega arith;
-          topics = λ j a b. getD-set-other marks (topicCount m + t) j 1 0 (λ z. omega arith) ∙ un .topics j (omega arith) b;
-          tables = λ j a b. getD-set-other marks (topicCount m + t) (topicCount m + j) 1 0 (λ z. not-this topic j b (omega arith)) ∙ un .tables j a (earlier topic (q .after) j b);
-        }) r)
+      (record {
+        size = length-set marks (topicCount m + t) 1 ∙ un .size;
+        within = omega arith;
+        among = omega arith;
+        topics = λ j a b. getD-set-other marks (topicCount m + t) j 1 0 (λ z. omega arith) ∙ un .topics j (omega arith) b;
+        tables = λ j a b. getD-set-other marks (topicCount m + t) (topicCount m + j) 1 0 (λ z. not-this topic j b (omega arith)) ∙ un .tables j a (earlier topic (q .after) j b);
+      }) r)
     where
       earlier : topicOf m t ≡ p → from ≤ t → (j : ℕ) → Ahead (topicOf m t) (t + 1) (topicOf m j) j → Ahead p from (topicOf m j) j
       earlier e l j (topicAfter h) = topicAfter (omega arith)
@@ -631,15 +650,15 @@ module _ (m : Model) (good : GoodModel m) (rooms : Rooms) (text : List ℕ) (fin
   -- the state behind an object
   behind-object : (t : ℕ) (marks : List ℕ) (rs₀ : List Row) (i : Field) (ys points : List ℤ)
       → record { marks = marks; rows = rowStarts 0 rs₀ ++ (length (flatRows rs₀) ∷ []); cells = (flatRows rs₀ ++ (pos t ∷ pos (i .start) ∷ pos (length (i .bytes)) ∷ [])) ++ ys; points = points }
-        ≡ soFar marks (rs₀ ++ (rowOf t i ys ∷ [])) points
+      ≡ soFar marks (rs₀ ++ (rowOf t i ys ∷ [])) points
   unfolding rowStarts flatRows
   behind-object t marks rs₀ i ys points =
       let r : Row = rowOf t i ys in
       let rows-e : rowStarts 0 (rs₀ ++ (r ∷ [])) ≡ rowStarts 0 rs₀ ++ (length (flatRows rs₀) ∷ []) =
-          let z : 0 + length (flatRows rs₀) ≡ length (flatRows rs₀) = omega arith in rw z at (starts-append 0 rs₀ (r ∷ [])) in
+      let z : 0 + length (flatRows rs₀) ≡ length (flatRows rs₀) = omega arith in rw z at (starts-append 0 rs₀ (r ∷ [])) in
       let cells-e : (flatRows rs₀ ++ (pos t ∷ pos (i .start) ∷ pos (length (i .bytes)) ∷ [])) ++ ys ≡ flatRows (rs₀ ++ (r ∷ [])) =
-          append-assoc (flatRows rs₀) (pos t ∷ pos (i .start) ∷ pos (length (i .bytes)) ∷ []) ys
-          ∙ sym (flat-append rs₀ (r ∷ []) ∙ ap (λ (l : List ℤ). flatRows rs₀ ++ l) (append-nil (rowCells r))) in
+      append-assoc (flatRows rs₀) (pos t ∷ pos (i .start) ∷ pos (length (i .bytes)) ∷ []) ys
+      ∙ sym (flat-append rs₀ (r ∷ []) ∙ ap (λ (l : List ℤ). flatRows rs₀ ++ l) (append-nil (rowCells r))) in
       ap₂ (λ (x : List ℕ) (y : List ℤ). record { marks = marks; rows = x; cells = y; points = points }) (sym rows-e) cells-e
 
   object-by : (n : ℕ) → FineAt n → (t : ℕ) (fs : List Field) → AllStand text fs → AllAre fs → (ls : List (List ℕ)) (line start : ℕ) (marks : List ℕ) (rs₀ : List Row) (points : List ℤ) (k : ℕ) → length ls ≤ n
@@ -649,7 +668,7 @@ module _ (m : Model) (good : GoodModel m) (rooms : Rooms) (text : List ℕ) (fin
   object-by n ih t fs st are ls line start marks rs₀ points k short stands count un _ _ etab r =
       fine-table-end t marks rs₀ points k
       (ih (tableNext (topicOf m t) (t + 1)) ls line start marks rs₀ points k short stands count
-        (record { size = un .size; within = un .within; among = un .among; topics = un .topics; tables = un .tables }) r)
+      (record { size = un .size; within = un .within; among = un .among; topics = un .topics; tables = un .tables }) r)
   object-by n ih t fs st are ls line start marks rs₀ points k short stands count un _ _ (obje xs g) r =
       let u : ℕ = m .undefined in
       let ps : List Pair = pairsOf (tableAt (m .tables) t .attributes) in
@@ -662,18 +681,18 @@ module _ (m : Model) (good : GoodModel m) (rooms : Rooms) (text : List ℕ) (fin
       let at : length front ≡ length (flatRows rs₀) + 3 = length-append (flatRows rs₀) head in
       let points-k : length points / 4 ≡ k = omega arith in
       let e : AttributesEnd m rooms text (good .undefined) final complete t k ps c₁ front xs (length ls) =
-          object-ends m rooms text (good .undefined) final complete ls ps t k line start c₁ front xs (lines-good ps (pairs-good m good t)) (given-length given′)
-            (sym (append-assoc (flatRows rs₀) head xs)) count stands (rw at (rw points-k at r)) in
+      object-ends m rooms text (good .undefined) final complete ls ps t k line start c₁ front xs (lines-good ps (pairs-good m good t)) (given-length given′)
+      (sym (append-assoc (flatRows rs₀) head xs)) count stands (rw at (rw points-k at r)) in
       let o : ObjectRead t k (e .k′) rs₀ i (e .ys) points (e .points) =
-          record { stands = s .stands; identification = identification-ok t fs (soFar marks rs₀ points) xs g s; fresh = g .fresh; xs = xs; given′ = given′; drawing = e .drawing; count = count } in
+      record { stands = s .stands; identification = identification-ok t fs (soFar marks rs₀ points) xs g s; fresh = g .fresh; xs = xs; given′ = given′; drawing = e .drawing; count = count } in
       let b = e .at in
       let shorter = b .shorter in
       let runs′ : run m rooms text (record { line = b .line; start = b .start; due = objectOf t; content = soFar marks (rs₀ ++ (rowOf t i (e .ys) ∷ [])) (points ++ e .points) }) (b .others) ≡ ran final =
-          subst (λ (c : Content). run m rooms text (record { line = b .line; start = b .start; due = objectOf t; content = c }) (b .others) ≡ ran final)
-            (behind-object t marks rs₀ i (e .ys) (points ++ e .points)) (b .runs) in
+      subst (λ (c : Content). run m rooms text (record { line = b .line; start = b .start; due = objectOf t; content = c }) (b .others) ≡ ran final)
+      (behind-object t marks rs₀ i (e .ys) (points ++ e .points)) (b .runs) in
       fine-object t k (e .k′) marks rs₀ i (e .ys) points (e .points) o
       (ih (objectNext t) (b .others) (b .line) (b .start) marks (rs₀ ++ (rowOf t i (e .ys) ∷ [])) (points ++ e .points) (e .k′) (omega arith) (b .stands)
-        (drawing-count (e .drawing) ∙ (rw (length-append points (e .points)) (omega arith))) un runs′)
+      (drawing-count (e .drawing) ∙ (rw (length-append points (e .points)) (omega arith))) un runs′)
 
   fine : (n : ℕ) → FineAt n
   unfolding FineAt run dueOf lineDue
@@ -689,13 +708,13 @@ module _ (m : Model) (good : GoodModel m) (rooms : Rooms) (text : List ℕ) (fin
           → Fine a marks rs₀ points k
       by (topicNext from) un f ih =
           topic-by n ih from ls (line + 1) (start + length l + 1) marks rs₀ points k (omega arith) (text-behind text start l ls stands) count un (f .due) (f .content)
-            (topic-step m rooms text from (fieldsOf start l) (soFar marks rs₀ points) (f .due) (f .content) (f .goes)) (f .runs)
+          (topic-step m rooms text from (fieldsOf start l) (soFar marks rs₀ points) (f .due) (f .content) (f .goes)) (f .runs)
       by (tableNext p from) un f ih =
           table-by n ih p from ls (line + 1) (start + length l + 1) marks rs₀ points k (omega arith) (text-behind text start l ls stands) count un (f .due) (f .content)
-            (table-step m rooms text p from (fieldsOf start l) (soFar marks rs₀ points) (f .due) (f .content) (f .goes)) (f .runs)
+          (table-step m rooms text p from (fieldsOf start l) (soFar marks rs₀ points) (f .due) (f .content) (f .goes)) (f .runs)
       by (objectNext t) un f ih =
           object-by n ih t (fieldsOf start l) (line-stands text start l ls stands) (fields-are start l) ls (line + 1) (start + length l + 1) marks rs₀ points k (omega arith)
-            (text-behind text start l ls stands) count un (f .due) (f .content) (object-step m rooms text t (fieldsOf start l) (soFar marks rs₀ points) (f .due) (f .content) (f .goes)) (f .runs)
+          (text-behind text start l ls stands) count un (f .due) (f .content) (object-step m rooms text t (fieldsOf start l) (soFar marks rs₀ points) (f .due) (f .content) (f .goes)) (f .runs)
 
   -- ## The first lines
 
@@ -736,7 +755,7 @@ module _ (m : Model) (good : GoodModel m) (rooms : Rooms) (text : List ℕ) (fin
       let c = f .content in
       let g = passed _ _ _ _ (never 11 3 d c) (passed _ _ _ _ (never 9 2 d c) (passed _ _ _ _ (never 11 2 d c) (passed _ _ _ _ (never 7 1 d c) (f .goes) .1) .1) .1) .1 in
       fine (length ls) (topicNext 0) ls (line + 1) (start + length l + 1) noMarks [] [] 0 (omega arith) (text-behind text start l ls stands) refl none-marked
-        (first-due (line + 1) (start + length l + 1) ls (on (topicFrom 0) d _ c (line + 1) (start + length l + 1) ls g (f .runs)))
+      (first-due (line + 1) (start + length l + 1) ls (on (topicFrom 0) d _ c (line + 1) (start + length l + 1) ls g (f .runs)))
     where
       first-due : (line start : ℕ) (ls : List (List ℕ)) → run m rooms text (at-first line start (topicFrom 0)) ls ≡ ran final → run m rooms text (at-first line start (dueOf m (topicNext 0))) ls ≡ ran final
       first-due line start ls h = h
@@ -756,8 +775,8 @@ module _ (m : Model) (good : GoodModel m) (rooms : Rooms) (text : List ℕ) (fin
   description-begun [] line start stands e = absurd (not-complete (at-first line start description) (λ h. let z : _≡_ {A = ℕ} 0 1 = cc in omega arith) e)
   description-begun (l ∷ ls) line start stands e =
       by (not (prefix slashes l)) (first-step m rooms text l ls (at-first line start description) final e .due) (first-step m rooms text l ls (at-first line start description) final e .content)
-        (first-step m rooms text l ls (at-first line start description) final e .goes) (first-step m rooms text l ls (at-first line start description) final e .runs)
-        (description-begun ls (line + 1) (start + length l + 1) (text-behind text start l ls stands))
+      (first-step m rooms text l ls (at-first line start description) final e .goes) (first-step m rooms text l ls (at-first line start description) final e .runs)
+      (description-begun ls (line + 1) (start + length l + 1) (text-behind text start l ls stands))
     where
       by : (x : Bool) (d : Due) (c : Content)
           → choose x (go description (soFar noMarks [] [])) (refuse (not (hasCode slashes (fieldsOf start l))) (no 7 1) (refuse (moreThan 1 (fieldsOf start l)) (no 11 2) (go transfer (soFar noMarks [] [])))) ≡ go d c
@@ -766,7 +785,7 @@ module _ (m : Model) (good : GoodModel m) (rooms : Rooms) (text : List ℕ) (fin
       by true d c g r ih = ih (on description d _ c (line + 1) (start + length l + 1) ls g r)
       by false d c g r ih =
           transfer-begun ls (line + 1) (start + length l + 1) (text-behind text start l ls stands)
-            (on transfer d _ c (line + 1) (start + length l + 1) ls (passed _ _ _ _ (never 11 2 d c) (passed _ _ _ _ (never 7 1 d c) g .1) .1) r)
+          (on transfer d _ c (line + 1) (start + length l + 1) ls (passed _ _ _ _ (never 11 2 d c) (passed _ _ _ _ (never 7 1 d c) g .1) .1) r)
 
   pub all-begun : (ls : List (List ℕ)) → text ≡ unfoldedText ls → run m rooms text (at-first 1 0 opening) ls ≡ ran final → Begun
   unfolding run lineDue openingLine bare rowStarts flatRows

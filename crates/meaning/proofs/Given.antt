@@ -1,19 +1,19 @@
 -- What the fields of a line that was not refused say: the pairs of a row, and the values of a point. Assumes nothing.
-use Prim.Native.Nat.{ℕ, zero, suc, _+_}
+use Prim.Native.Nat.{ℕ, _+_}
 use native.Mathlib.Omega.{arith}
-use mathlib.Core.Path.{_≡_, refl, sym, ap, ap₂, subst, _∙_}
-use mathlib.Core.Bool.{Bool, true, false, not, _&&_, _||_, false≢true, true≢false}
-use mathlib.Core.List.{List, [], _∷_, _++_}
+use mathlib.Core.Path.{_≡_, refl}
+use mathlib.Core.Bool.{Bool, true, false, not, _&&_, _||_, true≢false}
+use mathlib.Core.List.{List, [], _∷_}
 use lib.IntN.{ℤ, pos}
 use lib.ListN.{length}
-use borrow.Author.Tests.{not-false, not-true}
+use borrow.Author.Tests.{not-false}
 use Rattle.meaning.specs.Bytes.{choose, refuse, separator, every}
 use Rattle.meaning.specs.Model.{Component, AttributeType}
 use Rattle.meaning.specs.Field.{Field, goesOn, addToFields, fieldsOf}
 use Rattle.meaning.specs.Value.{Value, pair, wrong, unsigned, isNumber, within, numberOf, valueOf, isUndefined, isUndefinedTwice}
 use Rattle.meaning.specs.Row.{Pair, OfAttribute, OfComponent, OfLine, hasMandatory, Cells, cells, refused, putPair, putNumber, undefinedCells, undefinedRest, definedOr, pairCells, componentValues}
 use Rattle.meaning.specs.Reading.{stretch}
-use Rattle.meaning.proofs.Refuse.{passed, neither, both}
+use Rattle.meaning.proofs.Refuse.{passed}
 use Rattle.meaning.proofs.Fields.{solid, Solid}
 use Rattle.meaning.proofs.Standing.{AllStand}
 
@@ -102,7 +102,7 @@ module _ (u : ℕ) (text : List ℕ) (place : ℕ) (ps : List Pair) (f : Field) 
     (with-none : (ys : List ℤ) → pairCells u false (place + 1) ps fs ≡ cells ys → Given u text false ps ys) where
   attribute-given : (before o : Bool) (type : AttributeType) (two one : Bool) → isUndefinedTwice u f ≡ two → isUndefined u f ≡ one
       → choose two (refuse (not o || hasMandatory ps) (refused 12 place) (undefinedRest place (OfAttribute o type ∷ ps) fs))
-        (refuse (not (not one) && not o) (refused 12 place) (putPair place (definedOr (not one) (valueOf type f)) (pairCells u (not one) (place + 1) ps fs))) ≡ cells xs
+      (refuse (not (not one) && not o) (refused 12 place) (putPair place (definedOr (not one) (valueOf type f)) (pairCells u (not one) (place + 1) ps fs))) ≡ cells xs
       → Given u text before (OfAttribute o type ∷ ps) xs
   unfolding choose definedOr hasMandatory undefinedCells
   attribute-given before true type true one h g e =
@@ -120,7 +120,7 @@ module _ (u : ℕ) (text : List ℕ) (place : ℕ) (ps : List Pair) (f : Field) 
 
   component-given : (before : Bool) (c : Component) (two one : Bool) → isUndefinedTwice u f ≡ two → isUndefined u f ≡ one
       → choose two (refuse (before || hasMandatory ps) (refused 12 place) (undefinedRest place (OfComponent c ∷ ps) fs))
-        (refuse (before && not (not one) || not before && not one) (refused 12 place) (putPair place (definedOr (not one) (numberOf c (f .bytes))) (pairCells u (not one) (place + 1) ps fs))) ≡ cells xs
+      (refuse (before && not (not one) || not before && not one) (refused 12 place) (putPair place (definedOr (not one) (numberOf c (f .bytes))) (pairCells u (not one) (place + 1) ps fs))) ≡ cells xs
       → Given u text before (OfComponent c ∷ ps) xs
   unfolding choose definedOr hasMandatory undefinedCells
   component-given true c true one h g e = absurd (true≢false (passed _ _ _ _ (no-cells 12 place xs) e .0))
@@ -151,11 +151,11 @@ pairs-given u text before place (OfLine o forms ks ∷ ps) fs xs are st e =
 pairs-given u text before place (OfAttribute o type ∷ ps) [] xs are st e = absurd (no-cells 11 place xs e)
 pairs-given u text before place (OfAttribute o type ∷ ps) (f ∷ fs) xs are st e =
     attribute-given u text place ps f fs xs (are .0) (st .0) (λ ys. pairs-given u text true (place + 1) ps fs ys (are .1) (st .1)) (λ ys. pairs-given u text false (place + 1) ps fs ys (are .1) (st .1))
-      before o type _ _ refl refl e
+    before o type _ _ refl refl e
 pairs-given u text before place (OfComponent c ∷ ps) [] xs are st e = absurd (no-cells 11 place xs e)
 pairs-given u text before place (OfComponent c ∷ ps) (f ∷ fs) xs are st e =
     component-given u text place ps f fs xs (are .0) (st .0) (λ ys. pairs-given u text true (place + 1) ps fs ys (are .1) (st .1)) (λ ys. pairs-given u text false (place + 1) ps fs ys (are .1) (st .1))
-      before c _ _ refl refl e
+    before c _ _ refl refl e
 
 -- ## A point's values
 

@@ -1,20 +1,20 @@
 -- What a good model gives: pairs whose components are good, and names. Assumes nothing.
-use Prim.Native.Nat.{ℕ, zero, suc, _+_, _<_}
+use Prim.Native.Nat.{ℕ, zero, suc, _<_}
 use native.Mathlib.Omega.{arith}
-use mathlib.Core.Path.{_≡_, refl, sym, ap, _∙_}
-use mathlib.Core.Bool.{Bool, true, false, not, _&&_}
+use mathlib.Core.Path.{_≡_, refl}
+use mathlib.Core.Bool.{Bool, true, false}
 use mathlib.Core.List.{List, [], _∷_, _++_}
 use lib.Dec.{eqb}
 use lib.ListN.{length, getD}
 use borrow.Author.Tests.{eq-eqb}
-use Rattle.meaning.specs.Bytes.{choose, allOf}
-use Rattle.meaning.specs.Model.{Component, AttributeType, Reference, Coordinate, Number, Text, Date, Enumeration, Line, Attribute, Table, Model, tableAt, noTable}
+use Rattle.meaning.specs.Bytes.{choose}
+use Rattle.meaning.specs.Model.{Component, AttributeType, Reference, Coordinate, Number, Text, Date, Enumeration, Line, Attribute, Table, Model, tableAt}
 use Rattle.meaning.specs.Check.{isName, goodComponent, goodComponents, goodType, goodNames, tableNames, goodTypes, goodTables, GoodModel}
 use Rattle.meaning.specs.Row.{Pair, OfAttribute, OfComponent, OfLine, componentPairs, pairsOfType, pairsOf}
 use Rattle.meaning.proofs.Refuse.{both, holds}
 use Rattle.meaning.proofs.Fields.{Solid}
 use Rattle.meaning.proofs.Writable.{name-solid}
-use Rattle.meaning.proofs.Back.{GoodValue, PairsGood}
+use Rattle.meaning.proofs.Back.{PairsGood}
 
 -- ## Pairs
 

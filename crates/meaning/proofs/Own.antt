@@ -1,20 +1,16 @@
 -- Reading the lines that are written, line by line from the last one on: `Reads due c ks` says that behind c, where `due` is due, the lines ks are
 -- read to their end, and that what is read then has a property. Assumes nothing.
-use Prim.Native.Nat.{ℕ, zero, suc, _+_, _*_, _-_, _/_, _≤_, _<_}
-use native.Mathlib.Omega.{arith}
-use mathlib.Core.Path.{_≡_, refl, sym, ap, ap₂, _∙_}
-use mathlib.Core.Bool.{Bool, true, false, not, _&&_, _||_}
-use mathlib.Core.List.{List, [], _∷_, _++_}
-use lib.Dec.{eqb, leb, ltb}
-use lib.IntN.{ℤ, pos}
-use lib.ListN.{length, drop, set}
-use borrow.Author.Tests.{lt-ltb, le-ltb, lt-leb}
+use Prim.Native.Nat.{ℕ, _+_}
+use mathlib.Core.Path.{_≡_, refl}
+use mathlib.Core.Bool.{false}
+use mathlib.Core.List.{List, [], _∷_}
+use lib.ListN.{length, drop}
 use Rattle.meaning.specs.Bytes.{choose, refuse, separator, every, same, prefix}
 use Rattle.meaning.specs.Unfold.{unfoldedText}
-use Rattle.meaning.specs.Model.{Found, found, missing, Table, Model, tableAt}
-use Rattle.meaning.specs.Field.{Field, fieldsOf, hasCode, SCNT, slashes, MTID, MODL, TOPI, TABL, OBJE, ELIN, ETAB, ETOP, EMOD, ENDE}
+use Rattle.meaning.specs.Model.{found, Model, tableAt}
+use Rattle.meaning.specs.Field.{fieldsOf, hasCode, SCNT, slashes, MTID, MODL, TOPI, TABL, ETAB, ETOP, EMOD, ENDE}
 use Rattle.meaning.specs.Reading.{Due, opening, description, transfer, modelName, topicFrom, tableFrom, objectOf, closing, nothing, Content, State, behind, withMark, Rooms, findTopic, findTable, mandatoryBetween}
-use Rattle.meaning.specs.Lines.{Step, go, no, afterFound, bare, named, openingLine, descriptionLine, transferLine, modelLine, topicLine, topicEnd, tableLine, behindObjects, objectLine, closingLine, lineDue, stepOf, Run, ran, stopped, afterStep, run}
+use Rattle.meaning.specs.Lines.{go, bare, named, openingLine, descriptionLine, transferLine, modelLine, topicLine, topicEnd, tableLine, behindObjects, objectLine, closingLine, lineDue, stepOf, ran, run}
 use Rattle.meaning.specs.Writing.{spaced, lineBytes, linesBytes}
 use Rattle.meaning.proofs.Same.{same-refl}
 use Rattle.meaning.proofs.Fields.{solid, Solid, AllSolid, placed, fields-spaced}

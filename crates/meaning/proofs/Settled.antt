@@ -1,27 +1,26 @@
 -- What is read of a table's own lines, with its references resolved, is the same table. Assumes nothing.
-use Prim.Native.Nat.{ℕ, zero, suc, _+_, _*_, _-_, _≤_}
+use Prim.Native.Nat.{ℕ, _+_, _*_, _-_}
 use native.Mathlib.Omega.{arith}
-use mathlib.Core.Path.{_≡_, refl, sym, ap, ap₂, subst, _∙_}
-use mathlib.Core.Bool.{Bool, true, false, not, _&&_, false≢true}
+use mathlib.Core.Path.{_≡_, refl, sym, ap, subst, _∙_}
+use mathlib.Core.Bool.{Bool, true, false, false≢true}
 use mathlib.Core.List.{List, [], _∷_, _++_, append-assoc, append-nil}
-use lib.Dec.{eqb, ltb}
-use lib.IntN.{ℤ, pos, negsuc, natAbs}
+use lib.IntN.{ℤ, pos, negsuc}
 use lib.Signed.{ltZ}
-use lib.ListN.{length, take, drop, getD, set, length-append}
+use lib.ListN.{length, drop, getD, length-append}
 use lib.Seq.{getD-append-seam, getD-append-add, drop-append-add}
 use borrow.Author.Tests.{ne-eqb, eq-eqb, le-ltb}
-use Rattle.meaning.specs.Bytes.{choose, allOf, same}
-use Rattle.meaning.specs.Model.{Component, AttributeType, Reference, Coordinate, Number, Text, Date, Enumeration, Line, Found, found, missing, targetOf, Table, Model, tableAt}
+use Rattle.meaning.specs.Bytes.{choose, allOf}
+use Rattle.meaning.specs.Model.{AttributeType, Reference, Coordinate, Number, Text, Date, Enumeration, Line, found, targetOf, Model, tableAt}
 use Rattle.meaning.specs.Row.{Pair, OfAttribute, OfComponent, OfLine, pairsOf}
-use Rattle.meaning.specs.Reading.{Content, Object, stretch, cellAt, objectsOf}
-use Rattle.meaning.specs.Table.{findObject, Resolved, resolved, unresolved, putReference, resolvePair, resolvePairs, resolveRows, resolve}
+use Rattle.meaning.specs.Reading.{Content, Object, stretch, objectsOf}
+use Rattle.meaning.specs.Table.{findObject, Resolved, resolved, putReference, resolvePair, resolvePairs, resolveRows, resolve}
 use Rattle.meaning.specs.Writing.{stretchBytes, identificationBytes}
 use Rattle.meaning.specs.Readback.{isText, hasStart, pairsWithoutStarts, cellsWithoutStarts, pairTexts, textsOf, sameCells, sameTexts, sameTable, isResolvedAs}
 use Rattle.meaning.proofs.Same.{same-refl}
 use Rattle.meaning.proofs.Valid.{lentObjects}
-use Rattle.meaning.proofs.Rows.{isPlain, PairLike, alike, wordAt, nameAt, undrawn, isDrawn, Like, nil, also}
+use Rattle.meaning.proofs.Rows.{isPlain, alike, wordAt, nameAt, isDrawn, Like, nil, also}
 use Rattle.meaning.proofs.Attributes.{set-pair, moved, moved-length}
-use Rattle.meaning.proofs.Objects.{RowsLike, stop, row, rows-objects, rows-size, like-length}
+use Rattle.meaning.proofs.Objects.{RowsLike, stop, row, rows-objects, like-length}
 use Rattle.meaning.proofs.Tables.{AllRead}
 
 -- ## Pairs

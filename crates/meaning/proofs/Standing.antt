@@ -1,11 +1,10 @@
 -- Where fields stand: each field of a line is the stretch of the text from its start on. Assumes nothing.
 use Prim.Native.Nat.{ℕ, _+_}
 use native.Mathlib.Omega.{arith}
-use native.Mathlib.Numerals.{add-one}
 use mathlib.Core.Path.{_≡_, refl, sym, ap, _∙_}
 use mathlib.Core.Bool.{Bool, true, false, not, false≢true}
-use mathlib.Core.List.{List, [], _∷_, _++_, append-assoc}
-use lib.ListN.{length, take, drop, length-append}
+use mathlib.Core.List.{List, [], _∷_, _++_}
+use lib.ListN.{length, take, drop}
 use lib.Seq.{drop-drop, drop-append-seam}
 use Rattle.meaning.specs.Bytes.{separator}
 use Rattle.meaning.specs.Unfold.{unfoldedText}

@@ -8,8 +8,8 @@ use lib.Dec.{eqb, ltb}
 use lib.IntN.{ℤ, pos, natAbs}
 use lib.ListN.{length, drop, getD, set, replicate}
 use Rattle.meaning.specs.Bytes.{textByte, every}
-use Rattle.meaning.specs.Model.{Component, AttributeType, Reference, Text, Found, found, missing, targetOf, Table, Model, tableAt}
-use Rattle.meaning.specs.Field.{Field, STPT, LIPT, ARCP}
+use Rattle.meaning.specs.Model.{Component, AttributeType, Reference, Text, found, missing, targetOf, Table, Model, tableAt}
+use Rattle.meaning.specs.Field.{STPT, LIPT, ARCP}
 use Rattle.meaning.specs.Value.{pair, isIdentification, valueOf}
 use Rattle.meaning.specs.Row.{Pair, OfAttribute, OfComponent, OfLine, pairsOf}
 use Rattle.meaning.specs.Reading.{LineState, unstarted, reached, LineCode, stpt, lipt, arcp, point, move, isForbidden, Content, findTopic, findTable, mandatoryBetween, Object, cellAt, isUsed}

@@ -1,19 +1,19 @@
 -- What a defined field that was not refused says of its value, and how the value is written. Assumes nothing.
-use Prim.Native.Nat.{ℕ, zero, suc, _+_, _*_, _-_, _/_, _%_, _^_, _≤_, _<_}
+use Prim.Native.Nat.{ℕ, suc, _+_, _*_, _-_, _/_, _%_, _^_, _≤_, _<_}
 use native.Mathlib.Omega.{arith}
 use native.Mathlib.Nat.{pow-suc, pow-le-pow-right}
 use native.Mathlib.Numerals.{add-one}
-use mathlib.Core.Path.{_≡_, refl, sym, ap, _∙_}
-use mathlib.Core.Bool.{Bool, true, false, not, _&&_}
+use mathlib.Core.Path.{_≡_, sym, _∙_}
+use mathlib.Core.Bool.{true, false, _&&_}
 use mathlib.Core.List.{List, [], _∷_, _++_, append-assoc, append-nil}
 use lib.Dec.{leb, ltb, lit<}
 use lib.IntN.{ℤ, pos}
-use lib.ListN.{length, take, drop}
+use lib.ListN.{length}
 use borrow.Author.Tests.{leb-true, ltb-true, not-false}
-use Rattle.meaning.specs.Bytes.{refuse, digit, textByte, every}
+use Rattle.meaning.specs.Bytes.{digit, textByte, every}
 use Rattle.meaning.specs.Field.{Field}
-use Rattle.meaning.specs.Value.{pair, wrong, digitsAfter, digitsValue, isDigits, isDay, dateOf, enumerationOf, stretchOf, textOf, isIdentification, referenceOf}
-use Rattle.meaning.specs.Digits.{lastDigits, digitsOf, signOf, dateBytes}
+use Rattle.meaning.specs.Value.{pair, wrong, digitsAfter, digitsValue, isDigits, dateOf, enumerationOf, stretchOf, textOf, isIdentification, referenceOf}
+use Rattle.meaning.specs.Digits.{lastDigits, dateBytes}
 use Rattle.meaning.proofs.Refuse.{passed, both}
 use Rattle.meaning.proofs.Digits.{sign-pos}
 use Rattle.meaning.proofs.Dates.{date-digits}
@@ -99,7 +99,7 @@ leaf-given leaves s a b e =
     let d = is-digits 1 18 s (not-false _ (p .0)) in
     let high = d .high in
     let below : digitsAfter 0 s < 10 ^ 18 =
-        omega (arith, digits-below s 0 0 (d .digits) (omega arith), pow-le-pow-right {n = 10} (lit< tt) {i = 0 + length s} {j = 18} (omega arith)) in
+    omega (arith, digits-below s 0 0 (d .digits) (omega arith), pow-le-pow-right {n = 10} (lit< tt) {i = 0 + length s} {j = 18} (omega arith)) in
     record { value = digitsValue s; first = cc (q .1); second = cc (q .1); small = below; below = ltb-true (digitsValue s) leaves (not-false _ (q .0)) }
 
 -- ## Texts and references

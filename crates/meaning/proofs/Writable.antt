@@ -1,21 +1,20 @@
 -- A table that is fine is read from its own lines. Assumes nothing.
 use Prim.Native.Nat.{ℕ, _≤_}
 use native.Mathlib.Omega.{arith}
-use mathlib.Core.Path.{_≡_, refl, sym, ap, subst, _∙_}
+use mathlib.Core.Path.{_≡_, refl}
 use mathlib.Core.Bool.{Bool, true, false, not, _&&_, _||_, false≢true}
 use mathlib.Core.List.{List, [], _∷_}
 use lib.Dec.{eqb, leb}
-use lib.ListN.{length, drop, getD}
+use lib.ListN.{length}
 use borrow.Author.Tests.{ne-eqb, eqb-true, leb-true}
-use Rattle.meaning.specs.Bytes.{refuse, separator, digit, letter, every, byteAt}
+use Rattle.meaning.specs.Bytes.{refuse, separator, digit, letter, every}
 use Rattle.meaning.specs.Unfold.{unfoldedText}
 use Rattle.meaning.specs.Model.{Model}
 use Rattle.meaning.specs.Check.{special, nameByte, isName, GoodModel}
-use Rattle.meaning.specs.Reading.{nothing, isComplete, Content, State, startOf, nothingRead, Rooms}
-use Rattle.meaning.specs.Lines.{Run, ran, stopped, afterRun, run, atEnd, readLines}
-use Rattle.meaning.specs.Table.{Resolved, resolve}
-use Rattle.meaning.specs.Writing.{Lent, fieldLines, linesBytes, linesOf}
-use Rattle.meaning.specs.Readback.{isResolvedAs, isRunAs, readsAs}
+use Rattle.meaning.specs.Reading.{nothing, isComplete, Content, State, startOf, Rooms}
+use Rattle.meaning.specs.Lines.{ran, run, atEnd, readLines}
+use Rattle.meaning.specs.Writing.{fieldLines, linesBytes, linesOf}
+use Rattle.meaning.specs.Readback.{isRunAs, readsAs}
 use Rattle.meaning.proofs.Refuse.{both, holds}
 use Rattle.meaning.proofs.Fields.{solid, Solid}
 use Rattle.meaning.proofs.Valid.{Valid}
