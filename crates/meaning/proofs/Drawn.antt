@@ -17,7 +17,7 @@ use Rattle.meaning.specs.Row.{Pair, OfAttribute, OfComponent, OfLine, Ce
 use Rattle.meaning.specs.Reading.{LineState, unstarted, started, inArc, reached, LineCode, stpt, lipt, arcp, elin, other, lineCodeOf, Move, unexpected, undefinedLine, ended, point, move, isForbidden, lineAttributes, Underway, Due, objectOf, lineOf, nothing, dueLines, withState, Content, State, behind, withPoint, pointCount, withLine, Rooms}
 use Rattle.meaning.specs.Lines.{Step, go, no, bare, storePoint, attributeLine, lineDue, stepOf, ran, stopped, afterStep, run}
 use Rattle.meaning.proofs.Refuse.{passed, both}
-use Rattle.meaning.proofs.Standing.{text-behind}
+use Rattle.meaning.proofs.Stretches.{text-behind}
 use Rattle.meaning.proofs.Numerals.{number-writes}
 use Rattle.meaning.proofs.Valid.{Kind, starts, straight, arc, kindCell, kindCode, PointValues, flat, spatial, PointsOk, end, add}
 use Rattle.meaning.proofs.Attributes.{set-pair, moved, moved-length, withCells}

@@ -22,7 +22,7 @@ use Rattle.meaning.specs.Lines.{go, no, bare, named, openingLine, descri
 use Rattle.meaning.specs.Writing.{identificationBytes, rowsOfTable, rowsBehindTable, rowsBehindTopic, isDelivered}
 use Rattle.meaning.proofs.Refuse.{passed}
 use Rattle.meaning.proofs.Fields.{Solid}
-use Rattle.meaning.proofs.Standing.{AllStand, text-behind, line-stands}
+use Rattle.meaning.proofs.Stretches.{AllStand, text-behind, line-stands}
 use Rattle.meaning.proofs.Valid.{lentObjects, IdentificationOk, ObjectOk, Place, topicsFrom, tablesFrom, objects, Rest, finished, topicOut, topicIn, topicEnd, tableOut, tableIn, object, tableEnd}
 use Rattle.meaning.proofs.Given as given
 use Rattle.meaning.proofs.Drawn as lines
@@ -31,7 +31,7 @@ use Rattle.meaning.proofs.Drawn.{Drawing, told-of, FirstStep, first-ste
 use Rattle.meaning.proofs.Resolve.{Row, rowCells, flatRows, rowStarts, objectsOfRows, flat-append, starts-append, table-at, size-at, row-identification, objects-flat, lent-flat, ResolvedTo, resolved-length, AllLong, ResolvedRows, nomore, more}
 use Rattle.meaning.proofs.Back.{lines-good, row-ok}
 use Rattle.meaning.proofs.Steps.{TopicStep, emod, topi, TableStep, etop, tabl, ObjectGiven, ObjectStep, etab, obje, topic-step, table-step, object-step, closing-step, TopicFound, topic-found, TableFound, table-found}
-use Rattle.meaning.proofs.GoodModels.{pairs-good, topic-solid, table-solid}
+use Rattle.meaning.proofs.GoodPairs.{pairs-good, topic-solid, table-solid}
 
 -- table t of topic q stands before table n of topic p, or not
 pub data Passed (p n q t : ℕ) : Type 0 where

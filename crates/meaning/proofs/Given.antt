@@ -15,7 +15,7 @@ use Rattle.meaning.specs.Row.{Pair, OfAttribute, OfComponent, OfLine, ha
 use Rattle.meaning.specs.Reading.{stretch}
 use Rattle.meaning.proofs.Refuse.{passed}
 use Rattle.meaning.proofs.Fields.{solid, Solid}
-use Rattle.meaning.proofs.Standing.{AllStand}
+use Rattle.meaning.proofs.Stretches.{AllStand}
 
 -- ## Fields
 

@@ -14,7 +14,7 @@ use Rattle.meaning.specs.Lines.{go, bare, named, openingLine, descriptio
 use Rattle.meaning.specs.Writing.{spaced, lineBytes, linesBytes}
 use Rattle.meaning.proofs.Same.{same-refl}
 use Rattle.meaning.proofs.Fields.{solid, Solid, AllSolid, placed, fields-spaced}
-use Rattle.meaning.proofs.Standing.{AllStand, text-behind, line-stands}
+use Rattle.meaning.proofs.Stretches.{AllStand, text-behind, line-stands}
 
 module _ (m : Model) (rooms : Rooms) (own : List ℕ) (P : Content → Type 0) where
   -- the lines ks are read to their end from a state on
