@@ -33,7 +33,7 @@ unfolding physical byte begins
 phys-end f lf = refl
 phys-end f crlf = refl
 
-phys-line : (p : List ℕ) {e : List ℕ} (f : List ℕ) → allPermitted p ≡ true → End e → physical (p ++ (e ++ f)) ≡ line p (physical f)
+pub phys-line : (p : List ℕ) {e : List ℕ} (f : List ℕ) → allPermitted p ≡ true → End e → physical (p ++ (e ++ f)) ≡ line p (physical f)
 unfolding every add
 phys-line [] f h e = phys-end f e
 phys-line (b ∷ p) {e} f h end =

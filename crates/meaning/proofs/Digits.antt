@@ -30,7 +30,7 @@ is-digit : (n : ℕ) → n < 10 → digit (0x30 + n) ≡ true
 unfolding digit
 is-digit n h = rw (le-leb 0x30 (0x30 + n) (omega arith), le-leb (0x30 + n) 0x39 (omega arith))
 
-after-append : (n : ℕ) (s t : List ℕ) → digitsAfter n (s ++ t) ≡ digitsAfter (digitsAfter n s) t
+pub after-append : (n : ℕ) (s t : List ℕ) → digitsAfter n (s ++ t) ≡ digitsAfter (digitsAfter n s) t
 unfolding digitsAfter
 after-append n [] t = refl
 after-append n (b ∷ s) t = after-append _ s t
@@ -61,7 +61,7 @@ last-more zero n h = let z : n ≡ 0 = omega arith in rw z
 last-more (suc k) n h = ap (λ (l : List ℕ). l ++ ((0x30 + n % 10) ∷ [])) (last-more k (n / 10) (tenth k n h))
 
 module _ (least : ℕ) where
-  short-digits : (s : List ℕ) → every digit s ≡ true → every digit (shortened least s) ≡ true
+  pub short-digits : (s : List ℕ) → every digit s ≡ true → every digit (shortened least s) ≡ true
   unfolding shortened every choose
   short-digits [] h = refl
   short-digits (b ∷ s) h = go (eqb b 0x30 && leb least (length s)) (short-digits s (both (digit b) _ h .1))
@@ -70,7 +70,7 @@ module _ (least : ℕ) where
       go true r = r
       go false r = h
 
-  short-value : (s : List ℕ) → digitsAfter 0 (shortened least s) ≡ digitsAfter 0 s
+  pub short-value : (s : List ℕ) → digitsAfter 0 (shortened least s) ≡ digitsAfter 0 s
   unfolding shortened digitsAfter choose
   short-value [] = refl
   short-value (b ∷ s) = go (eqb b 0x30 && leb least (length s)) refl (short-value s)
@@ -79,7 +79,7 @@ module _ (least : ℕ) where
       go true e r = r ∙ rw (eqb-true b 0x30 (both (eqb b 0x30) _ e .0))
       go false e r = refl
 
-  short-most : (s : List ℕ) → length (shortened least s) ≤ length s
+  pub short-most : (s : List ℕ) → length (shortened least s) ≤ length s
   unfolding shortened choose
   short-most [] = omega arith
   short-most (b ∷ s) = go (eqb b 0x30 && leb least (length s)) (short-most s)
@@ -88,7 +88,7 @@ module _ (least : ℕ) where
       go true r = omega arith
       go false r = omega arith
 
-  short-least : (s : List ℕ) → least ≤ length s → least ≤ length (shortened least s)
+  pub short-least : (s : List ℕ) → least ≤ length s → least ≤ length (shortened least s)
   unfolding shortened choose
   short-least [] h = h
   short-least (b ∷ s) h = go (eqb b 0x30 && leb least (length s)) refl (short-least s)
@@ -160,7 +160,7 @@ module _ (d : ℕ) (w f : List ℕ) (size : length f ≡ suc d) where
       drop-one : drop (length w + 1) (w ++ (0x2e ∷ f)) ≡ f
       drop-one = lib.Seq.drop-append-add w (0x2e ∷ f) 1
 
-  parts-digits : numberDigits (suc d) (w ++ (0x2e ∷ f)) ≡ w ++ f
+  pub parts-digits : numberDigits (suc d) (w ++ (0x2e ∷ f)) ≡ w ++ f
   unfolding numberDigits
   parts-digits = rw (whole-size, take-at w (0x2e ∷ f) (length w) refl, lib.Seq.drop-append-add w (0x2e ∷ f) 1)
 
@@ -200,7 +200,7 @@ pub sign-pos : (n : ℕ) → signOf (pos n) ≡ []
 unfolding signOf choose
 sign-pos n = rw (le-ltb n 0 (omega arith))
 
-sign-neg : (n : ℕ) → signOf (negsuc n) ≡ 0x2d ∷ []
+pub sign-neg : (n : ℕ) → signOf (negsuc n) ≡ 0x2d ∷ []
 unfolding signOf choose
 sign-neg n = refl
 

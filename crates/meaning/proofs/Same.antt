@@ -1,11 +1,12 @@
--- Equal bytes: the test `same` and equality are one. Assumes nothing.
+-- Equal bytes: the test `same` and equality are one; and equal identifications. Assumes nothing.
 use Prim.Native.Nat.{ℕ}
-use mathlib.Core.Path.{_≡_, refl, ap}
-use mathlib.Core.Bool.{Bool, true, false, _&&_, false≢true}
+use mathlib.Core.Path.{_≡_, refl, sym, ap, _∙_}
+use mathlib.Core.Bool.{Bool, true, false}
 use mathlib.Core.List.{List, [], _∷_}
 use lib.Dec.{eqb}
 use borrow.Author.Tests.{eq-eqb, eqb-true}
 use Rattle.meaning.specs.Bytes.{same}
+use Rattle.meaning.specs.Value.{sameIdentification}
 
 pub same-refl : (s : List ℕ) → same s s ≡ true
 unfolding same
@@ -30,3 +31,8 @@ same-not s t n = go (same s t) refl
     go : (x : Bool) → same s t ≡ x → same s t ≡ false
     go true e = absurd (n (same-is s t e))
     go false e = e
+
+-- two identifications that equal a third are equal
+pub identification-alike : (i j k : List ℕ) → sameIdentification i k ≡ true → sameIdentification j k ≡ true → sameIdentification i j ≡ true
+unfolding sameIdentification
+identification-alike i j k a b = ap (same i) (same-is j k b ∙ sym (same-is i k a)) ∙ same-refl i

@@ -1,0 +1,1 @@
+// What reading holds between two lines: definitions, no code. See specs/.

@@ -1,0 +1,50 @@
+-- Payloads as parts of the model, and names as parts of payloads. Assumes nothing.
+use Prim.Native.Nat.{ℕ, zero, suc, _+_, _*_, _-_, _/_, _%_, _≤_, _<_}
+use native.Mathlib.Omega.{arith}
+use mathlib.Core.Path.{_≡_, refl, sym, ap, ap₂, _∙_}
+use mathlib.Core.List.{List, [], _∷_}
+use lib.ListN.{length, take, drop, length-take, length-drop, drop-of-length-le}
+use lib.Seq.{take-nil, drop-nil, drop-drop, length-take-le, getD-take, getD-drop}
+use Rattle.meaning.specs.Bytes.{byteAt, u16At}
+use Rattle.model.specs.Decode.{Named}
+use Rattle.model.specs.Names.{nameOf}
+use Rattle.model.specs.Records.{payloadAt, nextAt}
+
+-- the part of the model from behind a record's four bytes to the next record is its payload
+pub part-payload : (b : List ℕ) (at end : ℕ) → end ≡ nextAt b at → take (end - (at + 4)) (drop (at + 4) b) ≡ payloadAt b at
+part-payload b at end e = let k : end - (at + 4) ≡ u16At b at = omega arith in rw k
+
+drop-take : {A : Type 0} (f k : ℕ) (xs : List A) → drop f (take k xs) ≡ take (k - f) (drop f xs)
+drop-take zero k xs = let e : k - 0 ≡ k = omega arith in rw e
+drop-take (suc f) zero xs = let e : zero - suc f ≡ 0 = omega arith in rw e (drop-nil (suc f))
+drop-take (suc f) (suc k) [] = rw (take-nil (suc k - suc f))
+drop-take (suc f) (suc k) (x ∷ xs) = let e : suc k - suc f ≡ k - f = omega arith in rw e (drop-take f k xs)
+
+-- the name that is kept for a payload of k bytes from s on, of which the first f bytes are no name
+pub word-name : (b : List ℕ) (s k f : ℕ) → f < k → k < 65536 → nameOf b (65536 * (s + f) + (k - f)) ≡ drop f (take k (drop s b))
+unfolding nameOf
+word-name b s k f h l =
+    let q : (65536 * (s + f) + (k - f)) / 65536 ≡ s + f = omega arith in
+    let r : (65536 * (s + f) + (k - f)) % 65536 ≡ k - f = omega arith in
+    rw (q, r, drop-take f k (drop s b), drop-drop f s b)
+
+pub word-none : (b : List ℕ) (s k f : ℕ) → k ≤ f → nameOf b 0 ≡ drop f (take k (drop s b))
+unfolding nameOf
+word-none b s k f h =
+    let q : length (take k (drop s b)) ≤ f = rw (length-take k (drop s b)) (omega arith) in
+    sym (drop-of-length-le (take k (drop s b)) q)
+
+-- a name behind the first f bytes of a payload, by its place in the model
+pub named : (b : List ℕ) (at f size : ℕ) → size ≡ u16At b at → nextAt b at ≤ length b → f ≤ u16At b at → Named b (drop f (payloadAt b at)) (record { start = at + 4 + f; size = size - f })
+named b at f size e h g =
+    let l : length (drop f (payloadAt b at)) ≡ u16At b at - f =
+    length-drop f (payloadAt b at) ∙ ap (λ (n : ℕ). n - f) (length-take-le (u16At b at) (drop (at + 4) b) (rw (length-drop (at + 4) b) (omega arith))) in
+    record {
+      inside = omega arith;
+      size = rw e (sym l);
+      is = rw (e, drop-take f (u16At b at) (drop (at + 4) b), drop-drop f (at + 4) b);
+    }
+
+-- the first byte of a payload
+pub first-byte : (b : List ℕ) (at : ℕ) → 0 < u16At b at → byteAt (payloadAt b at) 0 ≡ byteAt b (at + 4)
+first-byte b at h = let e : at + 4 + 0 ≡ at + 4 = omega arith in getD-take (u16At b at) (drop (at + 4) b) 0 0 h ∙ getD-drop (at + 4) b 0 0 ∙ ap (byteAt b) e

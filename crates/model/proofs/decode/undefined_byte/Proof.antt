@@ -1,0 +1,15 @@
+-- `model::decode::undefined_byte` meets its contract. Assumes nothing.
+use mathlib.Core.Path.{sym, _∙_}
+use borrow.Author.Needs.{needs}
+use Rattle.meaning.proofs.Standing.{good-undefined}
+use Rattle.model.proofs.decode.undefined_byte.Statement.{statement}
+use Rattle.model.proofs.decode.undefined_byte.Tie as tie
+
+byte-at-requires : tie.Need-byte-at-requires
+byte-at-requires c κs = search needs
+
+returns : tie.Need-returns
+returns c = λ m h. c .byte-at .ensures ∙ sym (good-undefined _ m h)
+
+pub undefined-byte-spec : {M : Type 1} → statement M
+undefined-byte-spec = tie.close (tie.spec byte-at-requires returns)

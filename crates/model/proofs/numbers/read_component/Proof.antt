@@ -1,0 +1,24 @@
+-- `model::numbers::read_component` meets its contract. Assumes nothing.
+use mir.ValLaws.{toZ-ofZ}
+use mir.Syntax.{w64}
+use borrow.Author.Needs.{needs}
+use Rattle.meaning.specs.Model.{componentOf}
+use Rattle.model.proofs.numbers.read_component.Statement.{statement}
+use Rattle.model.proofs.numbers.read_component.Tie as tie
+
+shared-slice-read-t3 : tie.Need-shared-slice-read-t3
+shared-slice-read-t3 c = search needs
+
+i64-at-requires : tie.Need-i64-at-requires
+i64-at-requires c κs = search needs
+
+i64-at-requires-2 : tie.Need-i64-at-requires-2
+i64-at-requires-2 c κs = search needs
+
+returns : tie.Need-returns
+unfolding componentOf
+returns c = rw (toZ-ofZ w64 _ (record { sfits = c .before .i64-at .ok }), toZ-ofZ w64 _ (record { sfits = c .i64-at2 .ok })) (cc)
+
+pub read-component-spec : {M : Type 1} → statement M
+read-component-spec =
+    tie.close (tie.spec shared-slice-read-t3 i64-at-requires i64-at-requires-2 returns)

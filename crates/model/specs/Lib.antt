@@ -1,0 +1,7 @@
+pub mod Meant
+pub mod Names
+pub mod Attributes
+pub mod Records
+pub mod References
+pub mod Walk
+pub mod Decode

@@ -1,0 +1,2 @@
+// Reading: a file under a model into lent buffers.
+mod ends;

@@ -1,0 +1,29 @@
+// Where the attribute records of each table of a good model begin.
+ghost use mathlib.Core.Path.{_≡_};
+ghost use Prim.Native.Nat.{_+_, _≤_};
+ghost use lib.ListN.{length};
+ghost use Rattle.decode.specs.Records.{modelAt};
+ghost use Rattle.decode.specs.Standing.{Standing};
+ghost use Rattle.references.specs.Placed.{Placed};
+
+// A walk over the records from `first` on, which stands behind the model record.
+pub fn place_tables(model: &[u8], first: usize, places: &mut [usize])
+    requires { ⌜ Standing (modelAt (now model)) (now model) first 0 0 ⌝ }
+    requires { ⌜ length (modelAt (now model) .tables) ≤ length (now places) ⌝ }
+    ensures { λ _. ⌜ Placed (modelAt (now (model .entry))) (now (model .entry)) (now (places .exit)) ⌝ }
+{
+    let mut at = first;
+    let mut tables = 0;
+    loop {
+        let kind = decode::kind_at(model, at);
+        let next = decode::next_at(model, at);
+        if kind == 6 {
+            return;
+        }
+        if kind == 4 {
+            places[tables] = next;
+            tables += 1;
+        }
+        at = next;
+    }
+}

@@ -1,0 +1,5 @@
+pub mod Answer
+pub mod First
+pub mod Step
+pub mod Turn
+pub mod Claims

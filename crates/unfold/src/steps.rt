@@ -1,0 +1,85 @@
+// A step over one physical line: its fault, or its part of a logical line.
+ghost use mathlib.Core.Path.{_≡_};
+ghost use mathlib.Core.Bool.{not, _&&_};
+ghost use lib.ListN.{take};
+ghost use Rattle.meaning.specs.Unfold.{permitted, every, prefix, cont};
+ghost use Rattle.unfold.specs.First.{LineOf};
+ghost use Rattle.unfold.specs.Step.{skip, Stepped};
+use crate::lines;
+use crate::lines::First;
+use text::compare;
+use text::tests;
+
+// What a step finds: no line left; the number of a fault; a part of a line that is continued, or that ends one. A part is
+// len bytes from start, and the next physical line begins at after.
+pub(crate) enum Step {
+    Done,
+    Bad(u8),
+    More {
+        start: usize,
+        len: usize,
+        after: usize,
+    },
+    Last {
+        start: usize,
+        len: usize,
+        after: usize,
+    },
+}
+
+// Whether l should begin with CONT and a space, and does not.
+fn unled(l: &[u8], continues: bool) -> bool
+    ensures { λ r. ⌜ r ≡ (continues && not (prefix cont (now (l .entry)))) ⌝ }
+{
+    if continues {
+        !compare::starts_cont(l)
+    } else {
+        false
+    }
+}
+
+// The length of CONT and one space, where they are dropped.
+fn skipped(continues: bool) -> usize
+    ensures { λ r. ⌜ r ≡ skip continues ⌝ }
+{
+    if continues { 5 } else { 0 }
+}
+
+// The first physical line of f, whose content is its first len bytes: 3, then 5, then 4, then its part.
+fn judge(f: &[u8], len: usize, after: usize, fine: bool, mark: u8, continues: bool) -> Step
+    requires { ⌜ LineOf (now f) len after ⌝ }
+    requires { ⌜ every permitted (take len (now f)) ≡ fine ⌝ }
+    ensures { λ r. ⌜ Stepped mark continues (now (f .entry)) r ⌝ }
+{
+    let l = &f[..len];
+    let continued = compare::ends_in(l, mark);
+    if tests::both(continued, after == f.len()) {
+        return Step::Bad(3);
+    }
+    if unled(l, continues) {
+        return Step::Bad(5);
+    }
+    if !fine {
+        return Step::Bad(4);
+    }
+    let start = skipped(continues);
+    let len = lines::without_last(&l[start..], continued);
+    if continued {
+        Step::More { start, len, after }
+    } else {
+        Step::Last { start, len, after }
+    }
+}
+
+// A step over the first physical line of f, which continues a line or not.
+pub(crate) fn over_line(f: &[u8], mark: u8, continues: bool) -> Step
+    ensures { λ r. ⌜ Stepped mark continues (now (f .entry)) r ⌝ }
+{
+    let first = lines::first_line(f);
+    match first {
+        First::Nothing => { if continues { Step::Bad(3) } else { Step::Done } }
+        First::Open => Step::Bad(3),
+        First::Permitted { len, after } => judge(f, len, after, true, mark, continues),
+        First::NotPermitted { len, after } => judge(f, len, after, false, mark, continues),
+    }
+}

@@ -1,0 +1,4 @@
+pub mod Counting
+pub mod Signs
+pub mod Shapes
+pub mod Stores
