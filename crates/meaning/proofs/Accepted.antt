@@ -1,6 +1,5 @@
 -- What lines are read as is a table that is fine. Assumes nothing.
 use Prim.Native.Nat.{ℕ, _+_}
-use native.Mathlib.Omega.{arith}
 use mathlib.Core.Path.{_≡_, refl, sym, ap, subst, _∙_}
 use mathlib.Core.Bool.{true, not, false≢true}
 use mathlib.Core.List.{List, [], append-nil}
@@ -13,6 +12,7 @@ use Rattle.meaning.specs.Check.{GoodModel}
 use Rattle.meaning.specs.Reading.{Due, opening, description, transfer, modelName, topicFrom, tableFrom, objectOf, lineOf, closing, nothing, isComplete, Content, State, startOf, nothingRead, Rooms, Object, objectsOf}
 use Rattle.meaning.specs.Lines.{Run, ran, stopped, afterRun, run, atEnd, readLines}
 use Rattle.meaning.specs.Table.{resolved, resolve, resolveRows}
+use Rattle.meaning.proofs.Apart.{no-ran}
 use Rattle.meaning.proofs.Refuse.{passed}
 use Rattle.meaning.proofs.Valid.{lentObjects, topicsFrom, Rest, Valid}
 use Rattle.meaning.proofs.Resolve.{flatRows, rowStarts, objectsOfRows, objects-flat, lent-flat, nomore, RowsTo, resolved-rows}
@@ -32,9 +32,6 @@ complete-due (objectOf t) h = absurd (false≢true h)
 complete-due (lineOf w) h = absurd (false≢true h)
 complete-due closing h = absurd (false≢true h)
 complete-due nothing h = refl
-
-no-ran : (number line field : ℕ) (s : State) → stopped number line field ≡ ran s → ⊥
-no-ran number line field s h = let z : _≡_ {A = ℕ} 0 1 = cc in omega arith
 
 pub record ReadTo (m : Model) (rooms : Rooms) (text : List ℕ) (s : State) (ls : List (List ℕ)) (final : State) : Type 0 where
   pub runs : run m rooms text s ls ≡ ran final

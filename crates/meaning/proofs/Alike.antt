@@ -16,6 +16,7 @@ use Rattle.meaning.specs.Reading.{Content, cellAt}
 use Rattle.meaning.specs.Table.{findObject}
 use Rattle.meaning.specs.Writing.{stretchBytes, identificationBytes, typeBytes, rowsOfTable, rowsBehindTable, rowsBehindTopic}
 use Rattle.meaning.specs.Readback.{isText, hasStart, pairsWithoutStarts, cellsWithoutStarts, pairTexts, textsOf, sameCells, sameTexts, sameTable}
+use Rattle.meaning.proofs.Apart.{no-found}
 use Rattle.meaning.proofs.Refuse.{holds}
 use Rattle.meaning.proofs.Same.{same-is}
 use Rattle.meaning.proofs.Valid.{RowOk, done, absent, plain, word, name, without, along, noLine, line, lentObjects, ObjectOk, Place, topicsFrom, Rest, finished, topicOut, topicIn, topicEnd, tableOut, tableIn, object, tableEnd, Valid}
@@ -132,14 +133,11 @@ taken false s s′ h e = absurd (false≢true h)
 
 -- ## A row
 
-no-found : (n : ℕ) → found n ≡ missing → ⊥
-no-found n h = let z : _≡_ {A = ℕ} 0 1 = cc in omega arith
-
 module _ (text : List ℕ) (c : Content) (text′ : List ℕ) (c′ : Content) (same-points : c .points ≡ c′ .points)
     (same-objects : lentObjects text (c .cells) (c .rows) ≡ lentObjects text′ (c′ .cells) (c′ .rows)) where
   plain-bytes : (type : AttributeType) (a b : ℤ) → isText type ≡ false → targetOf type ≡ missing → typeBytes text c type a b ≡ typeBytes text′ c′ type a b
   unfolding isText targetOf typeBytes
-  plain-bytes (Reference t) a b h g = absurd (no-found t g)
+  plain-bytes (Reference t) a b h g = absurd (no-found t (sym g))
   plain-bytes (Coordinate ks) a b h g = refl
   plain-bytes (Number x) a b h g = refl
   plain-bytes (Text longest) a b h g = absurd (true≢false h)

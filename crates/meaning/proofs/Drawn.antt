@@ -15,7 +15,8 @@ use Rattle.meaning.specs.Field.{Field, fieldsOf}
 use Rattle.meaning.specs.Value.{within}
 use Rattle.meaning.specs.Row.{Pair, OfAttribute, OfComponent, OfLine, Cells, cells, refused, pointCells}
 use Rattle.meaning.specs.Reading.{LineState, unstarted, started, inArc, reached, LineCode, stpt, lipt, arcp, elin, other, lineCodeOf, Move, unexpected, undefinedLine, ended, point, move, isForbidden, lineAttributes, Underway, Due, objectOf, lineOf, nothing, dueLines, withState, Content, State, behind, withPoint, pointCount, withLine, Rooms}
-use Rattle.meaning.specs.Lines.{Step, go, no, bare, storePoint, attributeLine, lineDue, stepOf, ran, stopped, afterStep, run}
+use Rattle.meaning.specs.Lines.{Step, go, no, bare, storePoint, attributeLine, lineDue, stepOf, ran, afterStep, run}
+use Rattle.meaning.proofs.Apart.{no-go, no-ran}
 use Rattle.meaning.proofs.Refuse.{passed, both}
 use Rattle.meaning.proofs.Stretches.{text-behind}
 use Rattle.meaning.proofs.Numerals.{number-writes}
@@ -155,9 +156,6 @@ pub data LineStep (w : Underway) (c : Content) (code : LineCode) : Move → Due 
   adds : {kind : ℕ} {state : LineState} (vs : List ℤ) → isForbidden (w .attribute .forms) (w .state) code ≡ false → WithinAll (w .attribute .components) vs
       → LineStep w c code (point kind state) (lineOf (withState state w)) (withPoint (pointCells kind vs) c)
 
-no-go : (number field : ℕ) (due : Due) (c : Content) → no number field ≡ go due c → ⊥
-no-go number field due c h = let z : _≡_ {A = ℕ} 0 1 = cc in omega arith
-
 same-go : (due due′ : Due) (c c′ : Content) → go due c ≡ go due′ c′ → (due ≡ due′) × (c ≡ c′)
 same-go due due′ c c′ h = (cc, cc)
 
@@ -194,9 +192,6 @@ module _ (m : Model) (rooms : Rooms) (text : List ℕ) where
     pub content : Content
     pub goes : lineDue m rooms text (s .due) l (fieldsOf (s .start) l) (s .content) ≡ go due content
     pub runs : run m rooms text (behind l due content s) ls ≡ ran final
-
-  no-ran : (number line field : ℕ) (s : State) → stopped number line field ≡ ran s → ⊥
-  no-ran number line field s h = let z : _≡_ {A = ℕ} 0 1 = cc in omega arith
 
   pub first-step : (l : List ℕ) (ls : List (List ℕ)) (s final : State) → run m rooms text s (l ∷ ls) ≡ ran final → FirstStep l ls s final
   unfolding run stepOf

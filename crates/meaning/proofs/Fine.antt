@@ -20,6 +20,7 @@ use Rattle.meaning.specs.Row.{Pair, pairsOf, cells}
 use Rattle.meaning.specs.Reading.{Due, opening, description, transfer, modelName, topicFrom, tableFrom, objectOf, closing, nothing, Content, State, withRow, Rooms, findTopic, findTable, mandatoryBetween, Object, stretch, objectsOf, isUsed}
 use Rattle.meaning.specs.Lines.{go, no, bare, named, openingLine, descriptionLine, transferLine, modelLine, lineDue, ran, run}
 use Rattle.meaning.specs.Writing.{identificationBytes, rowsOfTable, rowsBehindTable, rowsBehindTopic, isDelivered}
+use Rattle.meaning.proofs.Apart.{no-go}
 use Rattle.meaning.proofs.Refuse.{passed}
 use Rattle.meaning.proofs.Fields.{Solid}
 use Rattle.meaning.proofs.Stretches.{AllStand, text-behind, line-stands}
@@ -211,10 +212,7 @@ module _ (m : Model) (good : GoodModel m) (rooms : Rooms) (text : List ℕ) (fin
   nothing-end [] line start c e = let q : record { line = line; start = start; due = nothing; content = c } ≡ final = cc in rw (← q)
   nothing-end (l ∷ ls) line start c e =
       let f = first-step m rooms text l ls (record { line = line; start = start; due = nothing; content = c }) final e in
-      absurd (never 7 1 (f .due) (f .content) (f .goes))
-    where
-      never : (number field : ℕ) (due : Due) (c : Content) → no number field ≡ go due c → ⊥
-      never number field due c h = let z : _≡_ {A = ℕ} 0 1 = cc in omega arith
+      absurd (no-go 7 1 (f .due) (f .content) (f .goes))
 
   closing-nothing : closing ≡ nothing → ⊥
   closing-nothing h = let z : _≡_ {A = ℕ} 0 1 = cc in omega arith
@@ -738,9 +736,6 @@ module _ (m : Model) (good : GoodModel m) (rooms : Rooms) (text : List ℕ) (fin
   abbrev pub at-first : ℕ → ℕ → Due → State
   at-first line start due = record { line = line; start = start; due = due; content = soFar noMarks [] [] }
 
-  never : (number field : ℕ) (due : Due) (c : Content) → no number field ≡ go due c → ⊥
-  never number field due c h = let z : _≡_ {A = ℕ} 0 1 = cc in omega arith
-
   -- a line that only changes what is due
   on : (due due′ : Due) (c c′ : Content) (line start : ℕ) (ls : List (List ℕ)) → go due c ≡ go due′ c′ → run m rooms text (record { line = line; start = start; due = due′; content = c′ }) ls ≡ ran final
       → run m rooms text (record { line = line; start = start; due = due; content = c }) ls ≡ ran final
@@ -753,7 +748,7 @@ module _ (m : Model) (good : GoodModel m) (rooms : Rooms) (text : List ℕ) (fin
       let f = first-step m rooms text l ls (at-first line start modelName) final e in
       let d = f .due in
       let c = f .content in
-      let g = passed _ _ _ _ (never 11 3 d c) (passed _ _ _ _ (never 9 2 d c) (passed _ _ _ _ (never 11 2 d c) (passed _ _ _ _ (never 7 1 d c) (f .goes) .1) .1) .1) .1 in
+      let g = passed _ _ _ _ (no-go 11 3 d c) (passed _ _ _ _ (no-go 9 2 d c) (passed _ _ _ _ (no-go 11 2 d c) (passed _ _ _ _ (no-go 7 1 d c) (f .goes) .1) .1) .1) .1 in
       fine (length ls) (topicNext 0) ls (line + 1) (start + length l + 1) noMarks [] [] 0 (omega arith) (text-behind text start l ls stands) refl none-marked
       (first-due (line + 1) (start + length l + 1) ls (on (topicFrom 0) d _ c (line + 1) (start + length l + 1) ls g (f .runs)))
     where
@@ -767,7 +762,7 @@ module _ (m : Model) (good : GoodModel m) (rooms : Rooms) (text : List ℕ) (fin
       let f = first-step m rooms text l ls (at-first line start transfer) final e in
       let d = f .due in
       let c = f .content in
-      let g = passed _ _ _ _ (never 11 3 d c) (passed _ _ _ _ (never 9 2 d c) (passed _ _ _ _ (never 11 2 d c) (passed _ _ _ _ (never 7 1 d c) (passed _ _ _ _ (never 8 1 d c) (f .goes) .1) .1) .1) .1) .1 in
+      let g = passed _ _ _ _ (no-go 11 3 d c) (passed _ _ _ _ (no-go 9 2 d c) (passed _ _ _ _ (no-go 11 2 d c) (passed _ _ _ _ (no-go 7 1 d c) (passed _ _ _ _ (no-go 8 1 d c) (f .goes) .1) .1) .1) .1) .1 in
       model-begun ls (line + 1) (start + length l + 1) (text-behind text start l ls stands) (on modelName d _ c (line + 1) (start + length l + 1) ls g (f .runs))
 
   description-begun : (ls : List (List ℕ)) (line start : ℕ) → drop start text ≡ unfoldedText ls → run m rooms text (at-first line start description) ls ≡ ran final → Begun
@@ -785,7 +780,7 @@ module _ (m : Model) (good : GoodModel m) (rooms : Rooms) (text : List ℕ) (fin
       by true d c g r ih = ih (on description d _ c (line + 1) (start + length l + 1) ls g r)
       by false d c g r ih =
           transfer-begun ls (line + 1) (start + length l + 1) (text-behind text start l ls stands)
-          (on transfer d _ c (line + 1) (start + length l + 1) ls (passed _ _ _ _ (never 11 2 d c) (passed _ _ _ _ (never 7 1 d c) g .1) .1) r)
+          (on transfer d _ c (line + 1) (start + length l + 1) ls (passed _ _ _ _ (no-go 11 2 d c) (passed _ _ _ _ (no-go 7 1 d c) g .1) .1) r)
 
   pub all-begun : (ls : List (List ℕ)) → text ≡ unfoldedText ls → run m rooms text (at-first 1 0 opening) ls ≡ ran final → Begun
   unfolding run lineDue openingLine bare rowStarts flatRows
@@ -794,5 +789,5 @@ module _ (m : Model) (good : GoodModel m) (rooms : Rooms) (text : List ℕ) (fin
       let f = first-step m rooms text l ls (at-first 1 0 opening) final e in
       let d = f .due in
       let c = f .content in
-      let g = passed _ _ _ _ (never 11 2 d c) (passed _ _ _ _ (never 7 1 d c) (f .goes) .1) .1 in
+      let g = passed _ _ _ _ (no-go 11 2 d c) (passed _ _ _ _ (no-go 7 1 d c) (f .goes) .1) .1 in
       description-begun ls (1 + 1) (0 + length l + 1) (text-behind text 0 l ls stands) (on description d _ c (1 + 1) (0 + length l + 1) ls g (f .runs))

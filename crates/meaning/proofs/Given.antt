@@ -1,6 +1,5 @@
 -- What the fields of a line that was not refused say: the pairs of a row, and the values of a point. Assumes nothing.
 use Prim.Native.Nat.{ℕ, _+_}
-use native.Mathlib.Omega.{arith}
 use mathlib.Core.Path.{_≡_, refl}
 use mathlib.Core.Bool.{Bool, true, false, not, _&&_, _||_, true≢false}
 use mathlib.Core.List.{List, [], _∷_}
@@ -13,6 +12,7 @@ use Rattle.meaning.specs.Field.{Field, goesOn, addToFields, fieldsOf}
 use Rattle.meaning.specs.Value.{Value, pair, wrong, unsigned, isNumber, within, numberOf, valueOf, isUndefined, isUndefinedTwice}
 use Rattle.meaning.specs.Row.{Pair, OfAttribute, OfComponent, OfLine, hasMandatory, Cells, cells, refused, putPair, putNumber, undefinedCells, undefinedRest, definedOr, pairCells, componentValues}
 use Rattle.meaning.specs.Reading.{stretch}
+use Rattle.meaning.proofs.Apart.{no-cells, no-pair}
 use Rattle.meaning.proofs.Refuse.{passed}
 use Rattle.meaning.proofs.Fields.{solid, Solid}
 use Rattle.meaning.proofs.Stretches.{AllStand}
@@ -40,12 +40,6 @@ fields-are start (b ∷ l) = by (separator b) refl (goesOn l) (fieldsOf (start +
     by false p true (f ∷ fs) h = (more-solid b (f .bytes) p (h .0), h .1)
 
 -- ## What did not refuse
-
-no-cells : (n f : ℕ) (xs : List ℤ) → refused n f ≡ cells xs → ⊥
-no-cells n f xs e = let z : _≡_ {A = ℕ} 0 1 = cc in omega arith
-
-no-pair : (n : ℕ) (a b : ℤ) → wrong n ≡ pair a b → ⊥
-no-pair n a b e = let z : _≡_ {A = ℕ} 0 1 = cc in omega arith
 
 record Put (v : Value) (others : Cells) (xs : List ℤ) : Type 0 where
   a : ℤ

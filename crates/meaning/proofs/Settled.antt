@@ -16,6 +16,7 @@ use Rattle.meaning.specs.Reading.{Content, Object, stretch, objectsOf}
 use Rattle.meaning.specs.Table.{findObject, Resolved, resolved, putReference, resolvePair, resolvePairs, resolveRows, resolve}
 use Rattle.meaning.specs.Writing.{stretchBytes, identificationBytes}
 use Rattle.meaning.specs.Readback.{isText, hasStart, pairsWithoutStarts, cellsWithoutStarts, pairTexts, textsOf, sameCells, sameTexts, sameTable, isResolvedAs}
+use Rattle.meaning.proofs.Stretches.{stretch-pos}
 use Rattle.meaning.proofs.Same.{same-refl}
 use Rattle.meaning.proofs.Valid.{lentObjects}
 use Rattle.meaning.proofs.Rows.{isPlain, alike, wordAt, nameAt, isDrawn, Like, nil, also}
@@ -39,10 +40,6 @@ module _ (text own : List ℕ) where
   settled-length : {ps : List Pair} {cs ys : List ℤ} → Settled ps cs ys → length ys ≡ 2 * length ps
   settled-length none = refl
   settled-length (one p s) = let ih = settled-length s in omega arith
-
-  stretch-pos : (l : List ℕ) (start size : ℕ) → stretchBytes l (pos start) size ≡ stretch l start size
-  unfolding stretchBytes choose
-  stretch-pos l start size = rw (le-ltb start 0 (omega arith))
 
   settled-cells : {ps : List Pair} {cs ys : List ℤ} → Settled ps cs ys → (rest : List ℤ) → pairsWithoutStarts ps (ys ++ rest) ≡ pairsWithoutStarts ps cs
   unfolding pairsWithoutStarts hasStart isText choose
@@ -169,7 +166,7 @@ module _ (at t start size : ℕ) (ys zs front rest : List ℤ) (e : length front
 
 identification : (own : List ℕ) (cs : List ℤ) (at start size : ℕ) → getD cs (at + 1) (pos 0) ≡ pos start → getD cs (at + 2) (pos 0) ≡ pos size → identificationBytes own cs at ≡ stretch own start size
 unfolding identificationBytes
-identification own cs at start size e f = rw (e, f) (stretch-pos own own own start size)
+identification own cs at start size e f = rw (e, f) (stretch-pos own start size)
 
 -- ## Rows
 

@@ -4,12 +4,15 @@ use native.Mathlib.Omega.{arith}
 use mathlib.Core.Path.{_≡_, refl, sym, ap, _∙_}
 use mathlib.Core.Bool.{Bool, true, false, not, false≢true}
 use mathlib.Core.List.{List, [], _∷_, _++_}
+use lib.IntN.{pos}
 use lib.ListN.{length, take, drop}
 use lib.Seq.{drop-drop, drop-append-seam}
-use Rattle.meaning.specs.Bytes.{separator}
+use borrow.Author.Tests.{le-ltb}
+use Rattle.meaning.specs.Bytes.{choose, separator}
 use Rattle.meaning.specs.Unfold.{unfoldedText}
 use Rattle.meaning.specs.Field.{Field, goesOn, addToFields, fieldsOf}
 use Rattle.meaning.specs.Reading.{stretch}
+use Rattle.meaning.specs.Writing.{stretchBytes}
 
 -- each of these fields stands in the text where it says
 abbrev pub AllStand : (text : List ℕ) → List Field → Type 0
@@ -63,3 +66,8 @@ text-behind text start l ls e =
 pub line-stands : (text : List ℕ) (start : ℕ) (l : List ℕ) (ls : List (List ℕ)) → drop start text ≡ unfoldedText (l ∷ ls) → AllStand text (fieldsOf start l)
 unfolding unfoldedText
 line-stands text start l ls e = fields-stand text (0x0a ∷ unfoldedText ls) start l e
+
+-- a stretch of a lent text, where its start is not below 0
+pub stretch-pos : (l : List ℕ) (start size : ℕ) → stretchBytes l (pos start) size ≡ stretch l start size
+unfolding stretchBytes choose
+stretch-pos l start size = rw (le-ltb start 0 (omega arith))

@@ -20,6 +20,7 @@ use Rattle.meaning.specs.Writing.{Lent, countsFit, contentOf, linesOf}
 use Rattle.meaning.specs.Readback.{isResolvedAs, isRunAs, readsAs, isTable}
 use Rattle.meaning.specs.Width.{cutLines, Written, writingRefused, writeBytes, writeChecked, write}
 use Rattle.meaning.proofs.Refuse.{refuse-keeps, holds}
+use Rattle.meaning.proofs.GoodModels.{checked-good}
 use Rattle.meaning.proofs.Valid.{Valid}
 use Rattle.meaning.proofs.Writable.{valid-reads}
 use Rattle.meaning.proofs.Accepted.{read-valid}
@@ -103,8 +104,9 @@ unfolding write writeChecked refuse
 write-judged model m t width room e low high = rw (e, le-ltb width 16 low, le-ltb 65535 width high)
 
 -- and 19 is answered exactly when no lines read as it
-pub unwritable : (model : List ℕ) (m : Model) (t : Lent) (width room : ℕ) → checkModel model ≡ good m → GoodModel m → 16 ≤ width → width ≤ 65535
+pub unwritable : (model : List ℕ) (m : Model) (t : Lent) (width room : ℕ) → checkModel model ≡ good m → 16 ≤ width → width ≤ 65535
     → (write model t width room .answer ≡ refusal 19 0 0) ↔ NoLines m t
-unwritable model m t width room e g low high =
+unwritable model m t width room e low high =
+    let g : GoodModel m = checked-good model m e in
     rw (write-judged model m t width room e low high)
     (λ h. no-table m g t .0 (judged (isTable m t) room _ (bytes-written room _) h), λ none. refused-19 (isTable m t) room _ (no-table m g t .1 none))

@@ -1,8 +1,7 @@
 -- What a defined field that was not refused says of its value, and how the value is written. Assumes nothing.
 use Prim.Native.Nat.{ℕ, suc, _+_, _*_, _-_, _/_, _%_, _^_, _≤_, _<_}
 use native.Mathlib.Omega.{arith}
-use native.Mathlib.Nat.{pow-suc, pow-le-pow-right}
-use native.Mathlib.Numerals.{add-one}
+use native.Mathlib.Nat.{pow-le-pow-right}
 use mathlib.Core.Path.{_≡_, sym, _∙_}
 use mathlib.Core.Bool.{true, false, _&&_}
 use mathlib.Core.List.{List, [], _∷_, _++_, append-assoc, append-nil}
@@ -12,30 +11,15 @@ use lib.ListN.{length}
 use borrow.Author.Tests.{leb-true, ltb-true, not-false}
 use Rattle.meaning.specs.Bytes.{digit, textByte, every}
 use Rattle.meaning.specs.Field.{Field}
-use Rattle.meaning.specs.Value.{pair, wrong, digitsAfter, digitsValue, isDigits, dateOf, enumerationOf, stretchOf, textOf, isIdentification, referenceOf}
+use Rattle.meaning.specs.Value.{pair, digitsAfter, digitsValue, isDigits, dateOf, enumerationOf, stretchOf, textOf, isIdentification, referenceOf}
 use Rattle.meaning.specs.Digits.{lastDigits, dateBytes}
+use Rattle.meaning.proofs.Apart.{no-pair}
 use Rattle.meaning.proofs.Refuse.{passed, both}
 use Rattle.meaning.proofs.Digits.{sign-pos}
 use Rattle.meaning.proofs.Dates.{date-digits}
-
-no-pair : (n : ℕ) (a b : ℤ) → wrong n ≡ pair a b → ⊥
-no-pair n a b e = let z : _≡_ {A = ℕ} 0 1 = cc in omega arith
+use Rattle.meaning.proofs.Counts.{digit-range, digits-below}
 
 -- ## Digits
-
-digit-range : (b : ℕ) → digit b ≡ true → (0x30 ≤ b) × (b ≤ 0x39)
-unfolding digit
-digit-range b h = let r = both (leb 0x30 b) (leb b 0x39) h in (leb-true 0x30 b (r .0), leb-true b 0x39 (r .1))
-
-digits-below : (s : List ℕ) (n k : ℕ) → every digit s ≡ true → n < 10 ^ k → digitsAfter n s < 10 ^ (k + length s)
-unfolding digitsAfter every
-digits-below [] n k h e = let z : k + 0 ≡ k = omega arith in rw z e
-digits-below (b ∷ s) n k h e =
-    let r = both (digit b) _ h in
-    let low = digit-range b (r .0) in
-    let z : k + suc (length s) ≡ k + 1 + length s = omega arith in
-    let more : n * 10 + (b - 0x30) < 10 ^ (k + 1) = rw (add-one k, pow-suc 10 k) (omega arith) in
-    rw z (digits-below s _ (k + 1) (r .1) more)
 
 -- the last digits of a value that digits have are these digits
 last-after : (s : List ℕ) (n k : ℕ) → every digit s ≡ true → lastDigits (k + length s) (digitsAfter n s) ≡ lastDigits k n ++ s
