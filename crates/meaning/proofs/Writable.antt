@@ -28,7 +28,7 @@ pub special-solid : (u : ℕ) → special u ≡ true → Solid (u ∷ [])
 unfolding special every solid separator
 special-solid u h = let low : 0x21 ≤ u = leb-true 0x21 u (holds _ 0 h) in rw (ne-eqb u 0x20 (omega arith), ne-eqb u 0x09 (omega arith))
 
-name-byte-solid : (b : ℕ) → nameByte b ≡ true → solid b ≡ true
+pub name-byte-solid : (b : ℕ) → nameByte b ≡ true → solid b ≡ true
 unfolding nameByte letter digit solid separator
 name-byte-solid b h = go (eqb b 0x20) (eqb b 0x09) refl refl
   where
