@@ -67,7 +67,7 @@ pub topic-solid : (m : Model) → GoodModel m → (p : ℕ) → p < length (m .t
 topic-solid m good p l = name-solid 24 _ (names-good (m .topics) p (good .topics) l)
 
 -- a table's name is among those of its topic
-table-name : (ts : List Table) (n : ℕ) → n < length ts → goodNames (tableNames (tableAt ts n .topic) ts) ≡ true → isName 24 (tableAt ts n .name) ≡ true
+pub table-name : (ts : List Table) (n : ℕ) → n < length ts → goodNames (tableNames (tableAt ts n .topic) ts) ≡ true → isName 24 (tableAt ts n .name) ≡ true
 unfolding tableNames choose goodNames
 table-name [] n l h = absurd (omega arith)
 table-name (t ∷ ts) zero l h = holds _ 0 (rw (eq-eqb (t .topic) (t .topic) refl) at h)
