@@ -1,21 +1,21 @@
 -- The lines that are written of a table that is fine hold permitted bytes only. Assumes nothing.
-use Prim.Native.Nat.{ℕ, zero, suc, _+_, _*_, _-_, _≤_, min}
+use Prim.Native.Nat.{ℕ, zero, suc, _+_, _-_, _≤_}
 use native.Mathlib.Omega.{arith}
-use mathlib.Core.Path.{_≡_, refl, sym, ap, subst, _∙_}
-use mathlib.Core.Bool.{Bool, true, false, not, _&&_, _||_, false≢true, or-true, true≢false}
+use mathlib.Core.Path.{_≡_, refl, sym, ap}
+use mathlib.Core.Bool.{Bool, true, false, not, _&&_, _||_, or-true, true≢false}
 use mathlib.Core.List.{List, [], _∷_, _++_}
 use lib.Dec.{eqb, leb, ltb}
-use lib.IntN.{ℤ, pos, negsuc, natAbs}
-use lib.ListN.{length, take, drop, getD, List·getD-eq-default}
+use lib.IntN.{ℤ, pos, natAbs}
+use lib.ListN.{length, take, drop, List·getD-eq-default}
 use borrow.Author.Tests.{eqb-true, leb-true, le-leb, ltb-true, ltb-false}
-use Rattle.meaning.specs.Bytes.{choose, refuse, permitted, digit, letter, textByte, every, allPermitted}
+use Rattle.meaning.specs.Bytes.{choose, permitted, digit, letter, textByte, every, allPermitted}
 use Rattle.meaning.specs.Cut.{Permitted}
-use Rattle.meaning.specs.Model.{Component, AttributeType, Reference, Coordinate, Number, Text, Date, Enumeration, Line, missing, targetOf, Table, Model, tableAt, noTable}
+use Rattle.meaning.specs.Model.{Component, AttributeType, Reference, Coordinate, Number, Text, Date, Enumeration, Line, missing, targetOf, Model, tableAt, noTable}
 use Rattle.meaning.specs.Check.{special, nameByte, isName, goodNames, GoodModel}
 use Rattle.meaning.specs.Value.{isIdentification}
 use Rattle.meaning.specs.Digits.{lastDigits, shortened, digitsOf, signOf, pointed, numberBytes, dateBytes}
-use Rattle.meaning.specs.Row.{Pair, OfAttribute, OfComponent, OfLine, pairsOf}
-use Rattle.meaning.specs.Reading.{LineAttribute, lineAttributes, Content, cellAt}
+use Rattle.meaning.specs.Row.{Pair, pairsOf}
+use Rattle.meaning.specs.Reading.{LineAttribute, Content}
 use Rattle.meaning.specs.Writing.{identificationBytes, typeBytes, fieldBytes, pairFields, pointCode, pointFields, pointLines, attributeLines, objectLines, fieldLines, spaced, lineBytes, linesBytes, linesOf}
 use Rattle.meaning.specs.Readback.{isText}
 use Rattle.meaning.proofs.Apart.{no-found}

@@ -1,12 +1,12 @@
 -- What is written is read as the table that was lent. Assumes nothing.
-use Prim.Native.Nat.{ℕ, _+_, _*_, _-_, _/_, _≤_}
+use Prim.Native.Nat.{ℕ, _*_, _/_, _≤_}
 use native.Mathlib.Omega.{arith}
-use mathlib.Core.Path.{_≡_, refl, sym, ap, subst, _∙_}
-use mathlib.Core.Bool.{Bool, true, false, not, _||_, false≢true}
-use mathlib.Core.List.{List, [], _∷_, _++_}
-use lib.Dec.{ltb, leb}
+use mathlib.Core.Path.{_≡_, refl, ap, _∙_}
+use mathlib.Core.Bool.{Bool, true, false, not, _||_}
+use mathlib.Core.List.{List}
+use lib.Dec.{ltb}
 use lib.IntN.{ℤ}
-use lib.ListN.{length, take, length-take, replicate}
+use lib.ListN.{length, take}
 use lib.Seq.{take-append-seam, length-take-le}
 use borrow.Author.Tests.{le-ltb, ltb-false, leb-true, not-false}
 use Rattle.meaning.specs.Bytes.{refuse}
@@ -15,11 +15,10 @@ use Rattle.meaning.specs.Cut.{Cut}
 use Rattle.meaning.specs.Model.{Model}
 use Rattle.meaning.specs.Check.{good, checkModel, GoodModel}
 use Rattle.meaning.specs.Answer.{Answer, accepted, refusal, filled}
-use Rattle.meaning.specs.Reading.{Content, State, startOf, Rooms}
-use Rattle.meaning.specs.Lines.{Run, ran, stopped, readLines}
-use Rattle.meaning.specs.Table.{Resolved, resolved, unresolved, resolve, Result, acceptedWith, readResolved, readRun, readText, read}
+use Rattle.meaning.specs.Reading.{Content, startOf, Rooms}
+use Rattle.meaning.specs.Table.{Result, acceptedWith, readResolved, readRun, readText, read}
 use Rattle.meaning.specs.Writing.{Lent, markCount, countsFit, contentOf, linesOf}
-use Rattle.meaning.specs.Readback.{sameTable, isResolvedAs, isRunAs, readsAs, isTable}
+use Rattle.meaning.specs.Readback.{sameTable, isTable}
 use Rattle.meaning.specs.Width.{cutLines, Written, writingRefused, writeBytes, writeChecked, write}
 use Rattle.meaning.proofs.Refuse.{neither, holds}
 use Rattle.meaning.proofs.GoodModels.{checked-good}
@@ -28,34 +27,10 @@ use Rattle.meaning.proofs.Widths.{width-cuts}
 use Rattle.meaning.proofs.Accepted.{resolvedTable}
 use Rattle.meaning.proofs.Alike.{tables-alike}
 use Rattle.meaning.proofs.Permits.{valid-permits}
-use Rattle.meaning.proofs.Unwritable.{reads-valid, ReadAs, table-reads}
+use Rattle.meaning.proofs.Unwritable.{roomsOf, ReadsTo, reads-to, reads-valid, table-reads}
 use Rattle.meaning.proofs.Claims.{cut-reads-as-lines}
 
--- ## Lines that read as a table
-
--- the room for no more than a table has
-abbrev roomsOf : Content → Rooms
-roomsOf c = record { text = 0; marks = 0; rows = length (c .rows); cells = length (c .cells); points = length (c .points) }
-
-pub record ReadsTo (m : Model) (ls : List (List ℕ)) (text : List ℕ) (c : Content) : Type 0 where
-  pub state : State
-  pub cells : List ℤ
-  pub reads : readLines m (roomsOf c) (unfoldedText ls) (startOf m) ls ≡ ran state
-  pub resolves : resolve m (unfoldedText ls) (state .content) ≡ resolved cells
-  pub same : sameTable m (unfoldedText ls) (resolvedTable (state .content) cells) text c ≡ true
-
-pub reads-to : (m : Model) (ls : List (List ℕ)) (text : List ℕ) (c : Content) → readsAs m ls text c ≡ true → ReadsTo m ls text c
-unfolding readsAs isRunAs isResolvedAs
-reads-to m ls text c h = by-run (readLines m (roomsOf c) (unfoldedText ls) (startOf m) ls) refl h
-  where
-    by-resolved : (s : State) → readLines m (roomsOf c) (unfoldedText ls) (startOf m) ls ≡ ran s → (r : Resolved) → resolve m (unfoldedText ls) (s .content) ≡ r
-        → isResolvedAs m (unfoldedText ls) (s .content) text c r ≡ true → ReadsTo m ls text c
-    by-resolved s e (unresolved object field) p h = absurd (false≢true h)
-    by-resolved s e (resolved cs) p h = record { state = s; cells = cs; reads = e; resolves = p; same = h }
-
-    by-run : (r : Run) → readLines m (roomsOf c) (unfoldedText ls) (startOf m) ls ≡ r → isRunAs m (unfoldedText ls) text c r ≡ true → ReadsTo m ls text c
-    by-run (stopped number line field) e h = absurd (false≢true h)
-    by-run (ran s) e h = by-resolved s e (resolve m (unfoldedText ls) (s .content)) refl h
+-- ## Room enough
 
 -- room enough for lines and the table that they read as
 pub record Enough (m : Model) (ls : List (List ℕ)) (c : Content) (rooms : Rooms) : Type 0 where
@@ -70,8 +45,11 @@ pub reads-text : (m : Model) (ls : List (List ℕ)) (text : List ℕ) (c : Conte
 unfolding readText readRun readResolved refuse
 reads-text m ls text c rooms enough r =
     let wide : Wider (roomsOf c) rooms = record { rows = enough .rows; cells = enough .cells; points = enough .points } in
-    rw (le-ltb (rooms .text) (length (unfoldedText ls)) (enough .text), le-ltb (rooms .marks) (markCount m) (enough .marks),
-        lines-wider m (roomsOf c) rooms (unfoldedText ls) wide ls (startOf m) (r .state) (r .reads)) (rw (r .resolves))
+    rw (
+      le-ltb (rooms .text) (length (unfoldedText ls)) (enough .text),
+      le-ltb (rooms .marks) (markCount m) (enough .marks),
+      lines-wider m (roomsOf c) rooms (unfoldedText ls) wide ls (startOf m) (r .state) (r .reads),
+    ) (rw (r .resolves))
 
 -- ## Writing that succeeds
 
@@ -141,3 +119,14 @@ round-trip model m t width room n rooms e h enough =
       is = ap (λ (f : List ℕ). read model f rooms) front ∙ (cut-reads-as-lines model m ls file rooms e (omega arith) cut ∙ reads-text m ls (t .text) c rooms enough r);
       same = r .same;
     }
+
+-- its answer has the lent table's counts
+pub round-trip-answer : (m : Model) (t : Lent) (rooms : Rooms) (r : Result) → countsFit m t ≡ true → ReadBack m t rooms r → r .answer ≡ accepted (t .objects) (t .cellCount) (t .pointCount)
+unfolding countsFit acceptedWith contentOf
+round-trip-answer m t rooms r fits b =
+    let s = tables-alike m (b .text) _ (t .text) (contentOf m t) (b .same) in
+    let objects : length (b .content .rows) ≡ t .objects = ap length (s .rows) ∙ length-take-le (t .objects) (t .rows) (leb-true (t .objects) (length (t .rows)) (holds _ 1 fits)) in
+    let cells : length (b .cells) ≡ t .cellCount = s .long ∙ length-take-le (t .cellCount) (t .cells) (leb-true (t .cellCount) (length (t .cells)) (holds _ 2 fits)) in
+    let points : length (b .content .points) ≡ 4 * t .pointCount = ap length (s .points) ∙ length-take-le (4 * t .pointCount) (t .points) (leb-true (4 * t .pointCount) (length (t .points)) (holds _ 3 fits)) in
+    let count : length (b .content .points) / 4 ≡ t .pointCount = omega arith in
+    ap (λ (x : Result). x .answer) (b .is) ∙ rw (objects, cells, count)

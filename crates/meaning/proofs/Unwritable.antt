@@ -6,6 +6,7 @@ use mathlib.Core.Logic.{_↔_}
 use mathlib.Core.Bool.{Bool, true, false, not, _||_, false≢true, true≢false}
 use mathlib.Core.List.{List}
 use lib.Dec.{ltb}
+use lib.IntN.{ℤ}
 use lib.ListN.{length}
 use borrow.Author.Tests.{le-ltb}
 use Rattle.meaning.specs.Bytes.{refuse, allOf}
@@ -17,33 +18,46 @@ use Rattle.meaning.specs.Reading.{Content, State, startOf, Rooms}
 use Rattle.meaning.specs.Lines.{Run, ran, stopped, readLines}
 use Rattle.meaning.specs.Table.{Resolved, resolved, unresolved, resolve}
 use Rattle.meaning.specs.Writing.{Lent, countsFit, contentOf, linesOf}
-use Rattle.meaning.specs.Readback.{isResolvedAs, isRunAs, readsAs, isTable}
+use Rattle.meaning.specs.Readback.{sameTable, isResolvedAs, isRunAs, readsAs, isTable}
 use Rattle.meaning.specs.Width.{cutLines, Written, writingRefused, writeBytes, writeChecked, write}
 use Rattle.meaning.proofs.Refuse.{refuse-keeps, holds}
 use Rattle.meaning.proofs.GoodModels.{checked-good}
 use Rattle.meaning.proofs.Valid.{Valid}
 use Rattle.meaning.proofs.Writable.{valid-reads}
-use Rattle.meaning.proofs.Accepted.{read-valid}
+use Rattle.meaning.proofs.Accepted.{resolvedTable, read-valid}
 use Rattle.meaning.proofs.Alike.{tables-alike, valid-alike}
+
+-- ## Lines that read as a table
+
+-- the room for no more than a table has
+abbrev pub roomsOf : Content → Rooms
+roomsOf c = record { text = 0; marks = 0; rows = length (c .rows); cells = length (c .cells); points = length (c .points) }
+
+pub record ReadsTo (m : Model) (ls : List (List ℕ)) (text : List ℕ) (c : Content) : Type 0 where
+  pub state : State
+  pub cells : List ℤ
+  pub reads : readLines m (roomsOf c) (unfoldedText ls) (startOf m) ls ≡ ran state
+  pub resolves : resolve m (unfoldedText ls) (state .content) ≡ resolved cells
+  pub same : sameTable m (unfoldedText ls) (resolvedTable (state .content) cells) text c ≡ true
+
+pub reads-to : (m : Model) (ls : List (List ℕ)) (text : List ℕ) (c : Content) → readsAs m ls text c ≡ true → ReadsTo m ls text c
+unfolding readsAs isRunAs isResolvedAs
+reads-to m ls text c h = by-run (readLines m (roomsOf c) (unfoldedText ls) (startOf m) ls) refl h
+  where
+    by-resolved : (s : State) → readLines m (roomsOf c) (unfoldedText ls) (startOf m) ls ≡ ran s → (r : Resolved) → resolve m (unfoldedText ls) (s .content) ≡ r
+        → isResolvedAs m (unfoldedText ls) (s .content) text c r ≡ true → ReadsTo m ls text c
+    by-resolved s e (unresolved object field) p h = absurd (false≢true h)
+    by-resolved s e (resolved cs) p h = record { state = s; cells = cs; reads = e; resolves = p; same = h }
+
+    by-run : (r : Run) → readLines m (roomsOf c) (unfoldedText ls) (startOf m) ls ≡ r → isRunAs m (unfoldedText ls) text c r ≡ true → ReadsTo m ls text c
+    by-run (stopped number line field) e h = absurd (false≢true h)
+    by-run (ran s) e h = by-resolved s e (resolve m (unfoldedText ls) (s .content)) refl h
 
 -- a table that some lines read as is fine
 pub reads-valid : (m : Model) → GoodModel m → (ls : List (List ℕ)) (text : List ℕ) (c : Content) → readsAs m ls text c ≡ true → Valid m text c
-unfolding readsAs isRunAs isResolvedAs
-reads-valid m g ls text c h = by-run (readLines m rooms own (startOf m) ls) refl h
-  where
-    own : List ℕ
-    own = unfoldedText ls
-
-    rooms : Rooms
-    rooms = record { text = 0; marks = 0; rows = length (c .rows); cells = length (c .cells); points = length (c .points) }
-
-    by-resolved : (s : State) → readLines m rooms own (startOf m) ls ≡ ran s → (r : Resolved) → resolve m own (s .content) ≡ r → isResolvedAs m own (s .content) text c r ≡ true → Valid m text c
-    by-resolved s e (unresolved object field) p h = absurd (false≢true h)
-    by-resolved s e (resolved cs) p h = valid-alike m own _ text c (tables-alike m own _ text c h) (read-valid m g rooms ls s cs e p)
-
-    by-run : (r : Run) → readLines m rooms own (startOf m) ls ≡ r → isRunAs m own text c r ≡ true → Valid m text c
-    by-run (stopped number line field) e h = absurd (false≢true h)
-    by-run (ran s) e h = by-resolved s e (resolve m own (s .content)) refl h
+reads-valid m g ls text c h =
+    let r = reads-to m ls text c h in
+    valid-alike m (unfoldedText ls) _ text c (tables-alike m (unfoldedText ls) _ text c (r .same)) (read-valid m g (roomsOf c) ls (r .state) (r .cells) (r .reads) (r .resolves))
 
 -- where some lines read as a table, the table's own lines do
 pub own-lines-read : (m : Model) → GoodModel m → (ls : List (List ℕ)) (text : List ℕ) (c : Content) → readsAs m ls text c ≡ true → readsAs m (linesOf m text c) text c ≡ true
