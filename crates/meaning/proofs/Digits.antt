@@ -252,8 +252,11 @@ number-reads c v g w = go v w (below c v g w)
         let r = digits-of (c .decimals + 1) (suc n) least h in
         rw (sign-neg n, pointed-number (suc n) _ (c .decimals) r, pointed-digits (suc n) _ (c .decimals) r, r .value, w)
 
-pub leaf-reads : (leaves n : ℕ) → leaves < 65536 → n < leaves → enumerationOf leaves (numberBytes 0 (pos n)) ≡ pair (pos 1) (pos n)
+pub small-leaf-reads : (leaves n : ℕ) → n < 10 ^ 18 → n < leaves → enumerationOf leaves (numberBytes 0 (pos n)) ≡ pair (pos 1) (pos n)
 unfolding enumerationOf numberBytes pointed choose refuse
-leaf-reads leaves n l h =
-    let r = digits-of 1 n (omega arith) (omega arith) in
+small-leaf-reads leaves n small h =
+    let r = digits-of 1 n (omega arith) small in
     rw (sign-pos n, is-digits 1 18 (digitsOf 1 n) (r .low) (r .high) (r .digits), r .value, lt-ltb n leaves h)
+
+pub leaf-reads : (leaves n : ℕ) → leaves < 65536 → n < leaves → enumerationOf leaves (numberBytes 0 (pos n)) ≡ pair (pos 1) (pos n)
+leaf-reads leaves n l h = small-leaf-reads leaves n (omega arith) h

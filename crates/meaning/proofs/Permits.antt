@@ -13,14 +13,14 @@ use Rattle.meaning.specs.Cut.{Permitted}
 use Rattle.meaning.specs.Model.{Component, AttributeType, Reference, Coordinate, Number, Text, Date, Enumeration, Line, missing, targetOf, Model, tableAt, noTable}
 use Rattle.meaning.specs.Check.{special, nameByte, isName, goodNames, GoodModel}
 use Rattle.meaning.specs.Value.{isIdentification}
-use Rattle.meaning.specs.Digits.{lastDigits, shortened, digitsOf, signOf, pointed, numberBytes, dateBytes}
+use Rattle.meaning.specs.Digits.{lastDigits, digitsOf, signOf, pointed, numberBytes, dateBytes}
 use Rattle.meaning.specs.Row.{Pair, pairsOf}
 use Rattle.meaning.specs.Reading.{LineAttribute, Content}
 use Rattle.meaning.specs.Writing.{identificationBytes, typeBytes, fieldBytes, pairFields, pointCode, pointFields, pointLines, attributeLines, objectLines, fieldLines, spaced, lineBytes, linesBytes, linesOf}
 use Rattle.meaning.specs.Readback.{isText}
 use Rattle.meaning.proofs.Apart.{no-found}
 use Rattle.meaning.proofs.Refuse.{both, holds, choose-keeps}
-use Rattle.meaning.proofs.Digits.{every-append, every-take, every-drop, last-digits}
+use Rattle.meaning.proofs.Digits.{every-append, every-take, every-drop, last-digits, short-digits}
 use Rattle.meaning.proofs.Valid.{RowOk, done, absent, plain, word, name, without, along, noLine, line, ObjectOk, Place, topicsFrom, tablesFrom, objects, Rest, finished, topicOut, topicIn, topicEnd, tableOut, tableIn, object, tableEnd, Valid}
 use Rattle.meaning.proofs.Rows.{word-bytes, name-bytes}
 use Rattle.meaning.proofs.GoodPairs.{table-name}
@@ -84,11 +84,6 @@ unfolding isName
 name-permits longest s h = every-kind nameByte permitted name-permitted s (both (letter _) (every nameByte s) (both (letter _ && every nameByte s) _ h .0) .1)
 
 -- ## Numerals
-
-short-digits : (least : ℕ) (s : List ℕ) → every digit s ≡ true → every digit (shortened least s) ≡ true
-unfolding shortened every
-short-digits least [] h = refl
-short-digits least (b ∷ s) h = choose-keeps (λ (l : List ℕ). every digit l ≡ true) _ (shortened least s) (b ∷ s) (λ _. short-digits least s (both (digit b) _ h .1)) (λ _. h)
 
 digits-permit : (least n : ℕ) → allPermitted (digitsOf least n) ≡ true
 unfolding digitsOf
