@@ -92,6 +92,7 @@ bad-below b = go (ltb 65536 (length b)) refl
   where
     rs : Records
     rs = recordsFrom 0 0 b
+
     go : (x : Bool) → ltb 65536 (length b) ≡ x
         → BadBelow 65536 (refuse x (bad 0) (checkRecords 0 nothingSeen (recordsFrom 0 0 b) (judgeReferences (modelOf (recordsFrom 0 0 b) .tables) (modelOf (recordsFrom 0 0 b) .tables) (good (modelOf (recordsFrom 0 0 b))))))
     go true e = omega arith

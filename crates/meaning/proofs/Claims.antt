@@ -1,18 +1,18 @@
 -- The claims of specs/Claims.antt. Assumes nothing.
-use Prim.Native.Nat.{ℕ, _≤_}
-use mathlib.Core.Path.{_≡_, refl, sym, ap, _∙_}
-use mathlib.Core.List.{List}
+use mathlib.Core.Path.{_≡_, refl, sym, _∙_, subst}
 use lib.ListN.{length}
 use borrow.Author.Tests.{le-ltb}
 use Rattle.meaning.specs.Bytes.{refuse}
 use Rattle.meaning.specs.Unfold.{lines, fault, Unfolded, unfoldFile}
 use Rattle.meaning.specs.Check.{bad, good, Checked, checkModel}
-use Rattle.meaning.specs.Answer.{textChecked, unfoldText}
+use Rattle.meaning.specs.Answer.{Answer, textChecked, unfoldText}
 use Rattle.meaning.specs.Table.{read, readUnfolded, readChecked}
-use Rattle.meaning.specs.Claims.{CutUnfolds, UnfoldsCut, OnlyCut, OneCut, GoodMark, CutReadsAsLines, CutUnfoldsToText, BadModelReads, CutUnder, CutsReadAlike, WidthCuts}
+use Rattle.meaning.specs.Claims.{CutUnfolds, UnfoldsCut, OnlyCut, OneCut, CheckedGood, GoodMark, CutReadsAsLines, CutUnfoldsToText, BadModelReads, CutUnder, CutsReadAlike, RefusalZeroes, BuffersKept, CountsSayWhatIsUsed, WidthCuts}
 use Rattle.meaning.proofs.Cuts as cuts
 use Rattle.meaning.proofs.Marks as marks
+use Rattle.meaning.proofs.GoodModels as models
 use Rattle.meaning.proofs.Widths as widths
+use Rattle.meaning.proofs.Buffers as buffers
 
 pub cut-unfolds : CutUnfolds
 cut-unfolds m mark ls f c = cuts.cut-unfolds m mark c
@@ -30,6 +30,9 @@ one-cut m mark f fine = go (unfoldFile m f) refl
       cut = cuts.unfolds-cut m mark ls f e .0;
       only = λ ks c. cuts.cut-unique m mark c (cuts.unfolds-cut m mark ls f e .0);
     }
+
+pub checked-good : CheckedGood
+checked-good model m h = models.checked-good model m h
 
 pub good-mark : GoodMark
 good-mark model m h = marks.good-mark model m h
@@ -54,6 +57,15 @@ cuts-read-alike model ls f g rooms short-f short-g = go (checkModel model) refl
     go : (c : Checked) → checkModel model ≡ c → CutUnder c ls f → CutUnder c ls g → read model f rooms ≡ read model g rooms
     go (good m) e cut-f cut-g = cut-reads-as-lines model m ls f rooms e short-f cut-f ∙ sym (cut-reads-as-lines model m ls g rooms e short-g cut-g)
     go (bad at) e cut-f cut-g = bad-model-reads model at f rooms e short-f ∙ sym (bad-model-reads model at g rooms e short-g)
+
+pub refusal-zeroes : RefusalZeroes
+refusal-zeroes model file rooms number first second e = subst (λ (a : Answer). buffers.Leaves rooms (read model file rooms) a) e (buffers.read-leaves model file rooms .leaves)
+
+pub buffers-kept : BuffersKept
+buffers-kept model file rooms = buffers.read-leaves model file rooms .kept
+
+pub counts-say-what-is-used : CountsSayWhatIsUsed
+counts-say-what-is-used model file rooms objects count points e = subst (λ (a : Answer). buffers.Leaves rooms (read model file rooms) a) e (buffers.read-leaves model file rooms .leaves)
 
 pub width-cuts : WidthCuts
 width-cuts mark width ls h = widths.width-cuts mark width ls h

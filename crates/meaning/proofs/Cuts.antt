@@ -1,20 +1,18 @@
 -- Unfolding and cuts: `cut-unfolds`, a cut of permitted lines is unfolded to them; `unfolds-cut`, what is unfolded to lines is a cut of them.
 -- Assumes nothing.
-use Prim.Native.Nat.{ℕ, _+_, _≤_}
+use Prim.Native.Nat.{ℕ, _+_}
 use native.Mathlib.Omega.{arith}
 use mathlib.Core.Path.{_≡_, refl, sym, ap, ap₂, _∙_}
 use mathlib.Core.Bool.{Bool, true, false, not, _&&_, false≢true, or-true}
 use mathlib.Core.List.{List, [], _∷_, _++_, append-assoc}
 use lib.ListN.{length, drop}
-use lib.Dec.{eqb, leb}
+use lib.Dec.{eqb}
 use borrow.Author.Tests.{ne-eqb, eq-eqb, le-leb, eqb-true, not-false}
 use Rattle.meaning.specs.Bytes.{refuse, permitted, every, allPermitted, begins, ends, withoutLast, prefix, cont}
 use Rattle.meaning.specs.Unfold.{physical, lines, Physical, line, tail, byte, add, none, fault, Unfolded, put, dropIf, withoutLastIf, next, unfoldLines, unfoldFile}
 use Rattle.meaning.specs.Cut.{End, lf, crlf, last, more, Cut, done, Mark, Permitted}
-
-pub both : (a b : Bool) → (a && b) ≡ true → (a ≡ true) × (b ≡ true)
-both true b h = (refl, h)
-both false b h = absurd (false≢true h)
+use Rattle.meaning.proofs.Refuse.{passed}
+pub use Rattle.meaning.proofs.Refuse.{both}
 
 -- ## A cut's physical lines
 
@@ -175,12 +173,6 @@ spelled (b ∷ (c ∷ f)) = go (eqb b 0x0a) (eqb b 0x0d) (eqb c 0x0a) refl refl 
 fault-lines : (k n : ℕ) (ls : List (List ℕ)) → fault k n ≡ lines ls → ⊥
 fault-lines k n ls h = let z : _≡_ {A = ℕ} 0 1 = cc in omega arith
 
--- what a test that did not refuse leaves
-passed : (t : Bool) (k n : ℕ) (u : Unfolded) (ls : List (List ℕ)) → refuse t (fault k n) u ≡ lines ls → (t ≡ false) × (u ≡ lines ls)
-unfolding refuse
-passed true k n u ls h = absurd (fault-lines k n ls h)
-passed false k n u ls h = (refl, h)
-
 prefix-split : (k l : List ℕ) → prefix k l ≡ true → l ≡ k ++ drop (length k) l
 unfolding prefix
 prefix-split [] l h = refl
@@ -285,9 +277,9 @@ module _ (m : ℕ) (good : Mark m) where
   back (s-tail {l = []}) n false ls h = let same : ls ≡ [] = cc in rw same (record { file = []; stands = refl; cut = done; fine = tt; ready = tt })
   back (s-tail {l = b ∷ l}) n o ls h = absurd (fault-lines 3 n ls h)
   back (s-line l {e = e} {f = f} {p = p} end s) n o ls h =
-      let r3 = passed _ 3 n _ ls h in
-      let r5 = passed _ 5 n _ ls (r3 .1) in
-      let r4 = passed _ 4 n _ ls (r5 .1) in
+      let r3 = passed _ _ _ _ (fault-lines 3 n ls) h in
+      let r5 = passed _ _ _ _ (fault-lines 5 n ls) (r3 .1) in
+      let r4 = passed _ _ _ _ (fault-lines 4 n ls) (r5 .1) in
       let split : l ≡ after o (dropIf o 5 l) = after-split o l (r5 .0) in
       rw split
       (back-line n o (ends m l) (dropIf o 5 l) p ls end (λ n o ls h. back s n o ls h) (ends-before o (ends m l) _ (ap (ends m) (sym split))) (fine-before o _ (rw (← split) (not-false _ (r4 .0)))) (r4 .1))

@@ -16,7 +16,8 @@ use Rattle.meaning.specs.Model.{Component}
 use Rattle.meaning.specs.Check.{isBound, goodComponent}
 use Rattle.meaning.specs.Value.{pair, digitsAfter, isDigits, unsigned, signed, wholeSize, isNumber, numberDigits, within, numberOf, enumerationOf}
 use Rattle.meaning.specs.Digits.{lastDigits, shortened, digitsOf, signOf, pointed, numberBytes}
-use Rattle.meaning.proofs.Cuts.{both}
+use Rattle.meaning.proofs.Refuse.{both}
+pub use Rattle.meaning.proofs.Refuse.{holds}
 
 -- ## Digits
 
@@ -195,13 +196,6 @@ first-digit (suc d) n c (b ∷ s) r l =
     let e : suc (length s) - suc d ≡ suc (length s - suc d) = omega arith in
     rw e (no-sign b c _ (both (digit b) _ (r .digits) .0) l)
 
--- one of the tests that all hold
-pub holds : (ts : List Bool) (n : ℕ) → allOf ts ≡ true → getD ts n true ≡ true
-unfolding allOf
-holds [] n h = refl
-holds (t ∷ ts) zero h = both t _ h .0
-holds (t ∷ ts) (suc n) h = holds ts n (both t _ h .1)
-
 pub sign-pos : (n : ℕ) → signOf (pos n) ≡ []
 unfolding signOf choose
 sign-pos n = rw (le-ltb n 0 (omega arith))
@@ -258,8 +252,11 @@ number-reads c v g w = go v w (below c v g w)
         let r = digits-of (c .decimals + 1) (suc n) least h in
         rw (sign-neg n, pointed-number (suc n) _ (c .decimals) r, pointed-digits (suc n) _ (c .decimals) r, r .value, w)
 
-pub leaf-reads : (leaves n : ℕ) → leaves < 65536 → n < leaves → enumerationOf leaves (numberBytes 0 (pos n)) ≡ pair (pos 1) (pos n)
+pub small-leaf-reads : (leaves n : ℕ) → n < 10 ^ 18 → n < leaves → enumerationOf leaves (numberBytes 0 (pos n)) ≡ pair (pos 1) (pos n)
 unfolding enumerationOf numberBytes pointed choose refuse
-leaf-reads leaves n l h =
-    let r = digits-of 1 n (omega arith) (omega arith) in
+small-leaf-reads leaves n small h =
+    let r = digits-of 1 n (omega arith) small in
     rw (sign-pos n, is-digits 1 18 (digitsOf 1 n) (r .low) (r .high) (r .digits), r .value, lt-ltb n leaves h)
+
+pub leaf-reads : (leaves n : ℕ) → leaves < 65536 → n < leaves → enumerationOf leaves (numberBytes 0 (pos n)) ≡ pair (pos 1) (pos n)
+leaf-reads leaves n l h = small-leaf-reads leaves n (omega arith) h

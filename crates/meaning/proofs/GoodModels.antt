@@ -95,6 +95,7 @@ topics-good (entry at kind p others) before seen u m h = go (eqb kind 3) refl (t
   where
     e : (follows before kind ≡ true) × (keeps kind p seen ≡ true) × (checkRecords kind (see kind p seen) others u ≡ good m)
     e = entry-passes before at kind seen p others u m h
+
     go : (x : Bool) → eqb kind 3 ≡ x → Topics (see kind p seen) others → Topics seen (entry at kind p others)
     go true q i = rw (eqb-true kind 3 q) (topic-more p seen others (rw (eqb-true kind 3 q) at (e .1)) (rw (eqb-true kind 3 q) at i))
     go false q i = rw q (subst (λ (ts : List (List ℕ)). (goodNames (topicsOf others) ≡ true) × Fresh ts (topicsOf others) × (length ts ≤ 64 → length ts + length (topicsOf others) ≤ 64)) (topics-kept kind p seen q) i)
@@ -126,6 +127,7 @@ attributes-ok (entry at kind p others) before seen u m h = go (eqb kind 5) refl 
   where
     e : (follows before kind ≡ true) × (keeps kind p seen ≡ true) × (checkRecords kind (see kind p seen) others u ≡ good m)
     e = entry-passes before at kind seen p others u m h
+
     go : (x : Bool) → eqb kind 5 ≡ x → Attributes (see kind p seen .attributes) (attributesOf others) → Attributes (seen .attributes) (attributesOf (entry at kind p others))
     go true q i = rw (eqb-true kind 5 q) (attribute-more at p seen (attributesOf others) (rw (eqb-true kind 5 q) at (e .1)) (rw (eqb-true kind 5 q) at i))
     go false q i = rw q (refl, tt, λ l. omega arith, refl)
@@ -176,6 +178,7 @@ tables-ok (entry at kind p others) before k n seen u m b c h = go (eqb kind 3) (
   where
     e : (follows before kind ≡ true) × (keeps kind p seen ≡ true) × (checkRecords kind (see kind p seen) others u ≡ good m)
     e = entry-passes before at kind seen p others u m h
+
     go : (x y : Bool) → eqb kind 3 ≡ x → eqb kind 4 ≡ y → ((k′ : ℕ) → (3 ≤ kind → 1 ≤ k′) → k′ + length (topicsOf others) ≡ n → AllOk n (tablesOf k′ others)) → AllOk n (tablesOf k (entry at kind p others))
     go true y q r i =
         let three = eqb-true kind 3 q in
@@ -216,6 +219,7 @@ tables-few (entry at kind p others) before k seen u m l h =
   where
     e : (follows before kind ≡ true) × (keeps kind p seen ≡ true) × (checkRecords kind (see kind p seen) others u ≡ good m)
     e = entry-passes before at kind seen p others u m h
+
     go : (x : Bool) → eqb kind 4 ≡ x → ((k′ : ℕ) → see kind p seen .tableCount ≤ 512 → see kind p seen .tableCount + length (tablesOf k′ others) ≤ 512) → seen .tableCount + length (tablesOf k (entry at kind p others)) ≤ 512
     go true r i =
         let four = eqb-true kind 4 r in
@@ -247,6 +251,7 @@ table-more p k o as′ seen rest some h i = (λ topic. go topic (eqb (k - 1) top
   where
     f : Fresh (seen .tables) (tableNames (k - 1) rest) × (isAmong (drop 1 p) (tableNames (k - 1) rest) ≡ false)
     f = fresh-more (drop 1 p) (seen .tables) (tableNames (k - 1) rest) (i .1 some)
+
     go : (topic : ℕ) (x : Bool) → eqb (k - 1) topic ≡ x → goodNames (tableNames topic (record { topic = k - 1; optional = o; name = drop 1 p; attributes = as′ } ∷ rest)) ≡ true
     go topic true e = rw e (names-cons (drop 1 p) (tableNames topic rest) (holds _ 1 h) (subst (λ (x : ℕ). isAmong (drop 1 p) (tableNames x rest) ≡ false) (eqb-true (k - 1) topic e) (f .1)) (i .0 topic))
     go topic false e = rw e (i .0 topic)
@@ -268,6 +273,7 @@ names-good (entry at kind p others) before k seen u m b h =
   where
     e : (follows before kind ≡ true) × (keeps kind p seen ≡ true) × (checkRecords kind (see kind p seen) others u ≡ good m)
     e = entry-passes before at kind seen p others u m h
+
     go : (x y : Bool) → eqb kind 3 ≡ x → eqb kind 4 ≡ y → ((k′ : ℕ) → (3 ≤ kind → 1 ≤ k′) → Names k′ (see kind p seen .tables) others) → Names k (seen .tables) (entry at kind p others)
     go true y q r i =
         let three = eqb-true kind 3 q in

@@ -1,7 +1,7 @@
 -- What the writer's cut to a width gives is a cut of the lines. Assumes nothing.
 use Prim.Native.Nat.{ℕ, zero, suc, _-_}
 use mathlib.Core.Path.{_≡_, refl}
-use mathlib.Core.Bool.{Bool, true, false, not, _&&_}
+use mathlib.Core.Bool.{Bool, true, false}
 use mathlib.Core.List.{List, [], _∷_, _++_, append-assoc}
 use lib.ListN.{length}
 use lib.Dec.{leb}
@@ -9,7 +9,8 @@ use borrow.Author.Tests.{not-true}
 use Rattle.meaning.specs.Bytes.{choose, permitted, every, allPermitted, ends}
 use Rattle.meaning.specs.Cut.{lf, last, more, Cut, done, Permitted}
 use Rattle.meaning.specs.Width.{goesWhole, cutRest, cutLine, cutLines}
-use Rattle.meaning.proofs.Cuts.{both, permitted-snoc}
+use Rattle.meaning.proofs.Refuse.{both}
+use Rattle.meaning.proofs.Cuts.{permitted-snoc}
 
 -- what goes out whole does not end in the mark
 whole-ends : (mark room : ℕ) (l : List ℕ) → goesWhole mark room l ≡ true → ends mark l ≡ false

@@ -1,0 +1,40 @@
+-- Tests that refuse: what is known where they did not. Assumes nothing.
+use Prim.Native.Nat.{ℕ, zero, suc}
+use mathlib.Core.Path.{_≡_, refl, sym}
+use mathlib.Core.Bool.{Bool, true, false, _&&_, _||_, false≢true}
+use mathlib.Core.List.{List, [], _∷_}
+use lib.ListN.{getD}
+use Rattle.meaning.specs.Bytes.{choose, refuse, allOf}
+
+-- a test whose refusal is not what came out did not refuse
+pub passed : {A : Type 0} (t : Bool) (refusal rest x : A) → (refusal ≡ x → ⊥) → refuse t refusal rest ≡ x → (t ≡ false) × (rest ≡ x)
+unfolding refuse
+passed true refusal rest x other h = absurd (other h)
+passed false refusal rest x other h = (refl, h)
+
+-- a property of what refuses and of what follows where the test does not hold is one of both together
+pub refuse-keeps : {A : Type 0} (P : A → Type 0) (t : Bool) (refusal rest : A) → P refusal → (t ≡ false → P rest) → P (refuse t refusal rest)
+unfolding refuse
+refuse-keeps P true refusal rest h k = h
+refuse-keeps P false refusal rest h k = k refl
+
+pub choose-keeps : {A : Type 0} (P : A → Type 0) (t : Bool) (a b : A) → (t ≡ true → P a) → (t ≡ false → P b) → P (choose t a b)
+unfolding choose
+choose-keeps P true a b h k = h refl
+choose-keeps P false a b h k = k refl
+
+-- both tests hold, neither does
+pub both : (a b : Bool) → (a && b) ≡ true → (a ≡ true) × (b ≡ true)
+both true b h = (refl, h)
+both false b h = absurd (false≢true h)
+
+pub neither : (a b : Bool) → (a || b) ≡ false → (a ≡ false) × (b ≡ false)
+neither true b h = absurd (false≢true (sym h))
+neither false b h = (refl, h)
+
+-- one of the tests that all hold
+pub holds : (ts : List Bool) (n : ℕ) → allOf ts ≡ true → getD ts n true ≡ true
+unfolding allOf
+holds [] n h = refl
+holds (t ∷ ts) zero h = both t _ h .0
+holds (t ∷ ts) (suc n) h = holds ts n (both t _ h .1)
