@@ -2,12 +2,26 @@
 use std::time::Instant;
 
 extern "C" {
-    // Proved: the text's length, or the number of the refusal.
-    fn vendorfinch_unfold_with_mark(file: *const u8, size: usize, mark: u8, text: *mut u8, room: usize) -> u64;
+    fn vendorfinch_unfold(
+        model: *const u8,
+        model_size: usize,
+        file: *const u8,
+        size: usize,
+        text: *mut u8,
+        room: usize,
+    ) -> u64;
 }
 
+// The sample's model, whose mark is \.
+const MODEL: &[u8] = include_bytes!("../sample/model.bin");
+
+// Proved, the check of the model included: the text's length, or the number of the refusal.
 fn proved(file: &[u8], mark: u8, text: &mut [u8]) -> u64 {
-    unsafe { vendorfinch_unfold_with_mark(file.as_ptr(), file.len(), mark, text.as_mut_ptr(), text.len()) }
+    assert_eq!(mark, b'\\');
+    let answer = unsafe {
+        vendorfinch_unfold(MODEL.as_ptr(), MODEL.len(), file.as_ptr(), file.len(), text.as_mut_ptr(), text.len())
+    };
+    if answer % 256 == 0 { answer / 256 } else { answer % 256 }
 }
 
 fn permitted(b: u8) -> bool {
