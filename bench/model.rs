@@ -36,8 +36,8 @@ fn model(tables: usize, attributes: usize, size: usize) -> Vec<u8> {
 fn main() {
     for (what, tables, attributes, size) in [
         ("512 tables of 1 attribute, names of 24 bytes", 512, 1, 24),
-        ("34 tables of 64 attributes, names of 24 bytes", 34, 64, 24),
-        ("512 tables of 14 attributes, names of 3 bytes", 512, 14, 3),
+        ("33 tables of 64 attributes, names of 24 bytes", 33, 64, 24),
+        ("512 tables of 13 attributes, names of 3 bytes", 512, 13, 3),
     ] {
         let m = model(tables, attributes, size);
         assert!(m.len() <= 65536, "{}", m.len());
