@@ -1,3 +1,5 @@
 pub mod Stretches
 pub mod Named
 pub mod Walk
+pub mod Attributes
+pub mod Resolving

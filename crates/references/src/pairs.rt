@@ -36,7 +36,7 @@ fn cut_stretch(size: usize, start: usize, len: usize) -> Part
 }
 
 // The size of a cell.
-fn size_at(cells: &[i64], cell: usize) -> usize
+pub fn size_at(cells: &[i64], cell: usize) -> usize
     requires { ⌜ cell < length (now cells) ⌝ }
     ensures { λ r. ⌜ r ≡ cellAt (now (cells .entry)) cell ⌝ }
 {
