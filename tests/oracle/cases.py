@@ -10,6 +10,7 @@ A case is a tuple of its name, its call and that call's arguments:
 import random
 import sys
 
+import models
 import oracle as o
 
 LAGE = [(1, 0, 999), (1, 0, 999)]
@@ -1237,6 +1238,8 @@ def known():
             yield name, "check", (model,), answer
         else:
             yield name, "listing", (model + file,), answer
+    for name, model, answer in models.VECTORS:
+        yield name, "check", (model,), answer + " 0 0"
     for name, file, answer in unfold_readings():
         yield name, "listing", (SAMPLE_MODEL + file,), answer
     for source in (line_readings, object_readings, neighbours, printed_example):
