@@ -63,6 +63,13 @@ reads-valid m g ls text c h =
 pub own-lines-read : (m : Model) → GoodModel m → (ls : List (List ℕ)) (text : List ℕ) (c : Content) → readsAs m ls text c ≡ true → readsAs m (linesOf m text c) text c ≡ true
 own-lines-read m g ls text c h = valid-reads m text c g (reads-valid m g ls text c h)
 
+-- and so where lines are read as it into any rooms: a table that was read can be written
+pub own-lines-read-anywhere : (m : Model) → GoodModel m → (rooms : Rooms) (ls : List (List ℕ)) (s : State) (cs : List ℤ) (text : List ℕ) (c : Content)
+    → readLines m rooms (unfoldedText ls) (startOf m) ls ≡ ran s → resolve m (unfoldedText ls) (s .content) ≡ resolved cs
+    → sameTable m (unfoldedText ls) (resolvedTable (s .content) cs) text c ≡ true → readsAs m (linesOf m text c) text c ≡ true
+own-lines-read-anywhere m g rooms ls s cs text c e r h =
+    valid-reads m text c g (valid-alike m (unfoldedText ls) _ text c (tables-alike m (unfoldedText ls) _ text c h) (read-valid m g rooms ls s cs e r))
+
 -- these lines read as a lent table, whose counts are no more than is lent
 pub record ReadAs (m : Model) (t : Lent) (ls : List (List ℕ)) : Type 0 where
   pub fits : countsFit m t ≡ true
