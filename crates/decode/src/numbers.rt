@@ -2,11 +2,18 @@
 ghost use mathlib.Core.Path.{_≡_};
 ghost use Prim.Native.Nat.{_+_, _*_, _≤_};
 ghost use lib.ListN.{length};
-ghost use Rattle.meaning.specs.Bytes.{u16At, u32At, u64At, i64At, twos};
+ghost use Rattle.meaning.specs.Bytes.{byteAt, u16At, u32At, u64At, i64At, twos};
 ghost use Rattle.meaning.specs.Model.{componentOf};
 ghost use Rattle.decode.specs.Held.{declaredOf, Held};
 use component::Component;
 use component::Components;
+
+// The byte at an index, 0 behind the end.
+pub fn byte_at(s: &[u8], at: usize) -> u8
+    ensures { λ r. ⌜ r ≡ byteAt (now (s .entry)) at ⌝ }
+{
+    if at < s.len() { s[at] } else { 0 }
+}
 
 pub fn u16_at(s: &[u8], at: usize) -> u16
     requires { ⌜ at + 2 ≤ length (now s) ⌝ }

@@ -1,4 +1,4 @@
--- The components that a loop reads into a small array are those of the payload. Assumes nothing.
+-- Whether each of some components is good, one after the other. Assumes nothing.
 use Prim.Native.Nat.{ℕ, zero, suc, _+_, _*_, _≤_, _<_}
 use native.Mathlib.Omega.{arith}
 use mathlib.Core.Path.{_≡_, refl, sym, ap, _∙_}
@@ -12,25 +12,6 @@ use Rattle.meaning.specs.Model as meaning
 use Rattle.meaning.specs.Check as meaning-check
 use Rattle.component.specs.Meant.{componentOf, listOf}
 use Rattle.component.specs.declared.Component.{Component}
-use Rattle.model.specs.Meant.{declaredOf}
-
-abbrev none : Component
-none = record { decimals = 0; least = pos 0; greatest = pos 0 }
-
--- the first n of three, the others zero
-unfoldable pub itemsOf : List ℕ → ℕ → List Component
-itemsOf p zero = none ∷ none ∷ none ∷ []
-itemsOf p (suc n) = set (itemsOf p n) n (declaredOf (meaning.componentOf (drop (17 * n) p)))
-
-pub items : (p : List ℕ) (n : ℕ) → n ≤ 3 → listOf (take n (itemsOf p n)) ≡ meaning.componentsOf n p
-unfolding itemsOf listOf meaning.componentsOf
-items p zero h = refl
-items p (suc zero) h = refl
-items p (suc (suc zero)) h = refl
-items p (suc (suc (suc zero))) h = rw (drop-drop 17 17 p)
-items p (suc (suc (suc (suc n)))) h = absurd (omega arith)
-
--- ## Whether each of some components is good
 
 module _ (cs : List Component) (i : ℕ) (d : Component) where
   pub good-at : i < length cs → meaning-check.goodComponents (listOf (drop i cs)) ≡ (meaning-check.goodComponent (componentOf (getD cs i d)) && meaning-check.goodComponents (listOf (drop (i + 1) cs)))
@@ -44,8 +25,3 @@ module _ (cs : List Component) (i : ℕ) (d : Component) where
 pub good-end : (cs : List Component) (i : ℕ) (all whole : Bool) → length cs ≤ i → (all && meaning-check.goodComponents (listOf (drop i cs))) ≡ whole → all ≡ whole
 unfolding meaning-check.goodComponents listOf
 good-end cs i all whole h inv = sym (and-true all) ∙ rw (drop-of-length-le cs h) at inv
-
-pub items-length : (p : List ℕ) (n : ℕ) → length (itemsOf p n) ≡ 3
-unfolding itemsOf
-items-length p zero = refl
-items-length p (suc n) = length-set (itemsOf p n) n _ ∙ items-length p n

@@ -1,4 +1,3 @@
-pub mod Twos
 pub mod Components
 pub mod Ranges
 pub mod Words

@@ -6,7 +6,6 @@ use mathlib.Core.List.{List, [], _∷_}
 use lib.ListN.{length, take, drop, length-take, length-drop, drop-of-length-le}
 use lib.Seq.{take-nil, drop-nil, drop-drop, length-take-le, getD-take, getD-drop}
 use Rattle.meaning.specs.Bytes.{byteAt, u16At}
-use Rattle.model.specs.Decode.{Named}
 use Rattle.model.specs.Names.{nameOf}
 use Rattle.model.specs.Records.{payloadAt, nextAt}
 
@@ -33,18 +32,3 @@ unfolding nameOf
 word-none b s k f h =
     let q : length (take k (drop s b)) ≤ f = rw (length-take k (drop s b)) (omega arith) in
     sym (drop-of-length-le (take k (drop s b)) q)
-
--- a name behind the first f bytes of a payload, by its place in the model
-pub named : (b : List ℕ) (at f size : ℕ) → size ≡ u16At b at → nextAt b at ≤ length b → f ≤ u16At b at → Named b (drop f (payloadAt b at)) (record { start = at + 4 + f; size = size - f })
-named b at f size e h g =
-    let l : length (drop f (payloadAt b at)) ≡ u16At b at - f =
-    length-drop f (payloadAt b at) ∙ ap (λ (n : ℕ). n - f) (length-take-le (u16At b at) (drop (at + 4) b) (rw (length-drop (at + 4) b) (omega arith))) in
-    record {
-      inside = omega arith;
-      size = rw e (sym l);
-      is = rw (e, drop-take f (u16At b at) (drop (at + 4) b), drop-drop f (at + 4) b);
-    }
-
--- the first byte of a payload
-pub first-byte : (b : List ℕ) (at : ℕ) → 0 < u16At b at → byteAt (payloadAt b at) 0 ≡ byteAt b (at + 4)
-first-byte b at h = let e : at + 4 + 0 ≡ at + 4 = omega arith in getD-take (u16At b at) (drop (at + 4) b) 0 0 h ∙ getD-drop (at + 4) b 0 0 ∙ ap (byteAt b) e

@@ -17,7 +17,7 @@ use Rattle.model.specs.declared.attributes.Attribute.{Attribute}
 use Rattle.component.specs.Meant.{componentOf, componentsOf, listOf}
 use Rattle.component.specs.declared.Component.{Component}
 use Rattle.component.specs.declared.Components.{Components}
-use Rattle.model.specs.Meant.{Held}
+use Rattle.decode.specs.Held.{Held}
 use Rattle.model.specs.Attributes.{typeMeant, firstOf, Sized, PlainNumber}
 
 -- ## Sizes

@@ -1,7 +1,5 @@
-pub mod Meant
 pub mod Names
 pub mod Attributes
 pub mod Records
 pub mod References
 pub mod Walk
-pub mod Decode

@@ -12,7 +12,7 @@ ghost use Rattle.meaning.specs.Check.{isDimension, goodComponent, goodComponent
 ghost use Rattle.model.specs.Names.{namesOf};
 ghost use Rattle.model.specs.Attributes.{typeMeant, firstOf, Sized, PlainNumber, Decoded, attributesSeen};
 use crate::names;
-use crate::numbers;
+use decode::numbers;
 use crate::rules;
 use component::Component;
 use component::Components;

@@ -10,7 +10,7 @@ ghost use Rattle.model.specs.Records.{nextAt};
 ghost use Rattle.model.specs.Walk.{seenOf, passesAt, advanced, topicsSeen, tablesSeen, Walked, checkedRecords, checkedMeant};
 use crate::attributes;
 use crate::names;
-use crate::numbers;
+use decode::numbers;
 use crate::records;
 use crate::references;
 use crate::references::Outside;

@@ -1,9 +1,7 @@
 // The compiled model: its check, and the decoding of its records.
 pub mod attributes;
 pub mod check;
-pub mod decode;
 pub mod names;
-pub mod numbers;
 pub mod records;
 pub mod references;
 pub mod rules;

@@ -7,7 +7,7 @@ ghost use Rattle.meaning.specs.Bytes.{u16At};
 ghost use Rattle.model.specs.Records.{payloadAt, nextAt, nameStart};
 ghost use Rattle.model.specs.Names.{nameOf};
 use crate::attributes;
-use crate::numbers;
+use decode::numbers;
 
 // Whether a record fits the model: its four bytes, and its payload.
 pub fn fits_at(model: &[u8], at: usize) -> bool

@@ -7,7 +7,7 @@ use lib.ListN.{drop, length-drop}
 use borrow.Author.Needs.{needs}
 use Rattle.meaning.specs.Model.{flagOf}
 use Rattle.text.proofs.Fill.{to-end}
-use Rattle.model.specs.Meant.{Held}
+use Rattle.decode.specs.Held.{Held}
 use Rattle.model.proofs.Types.{size-coordinate, decoded-coordinate}
 use Rattle.model.proofs.attributes.read_coordinate.Statement.{statement}
 use Rattle.model.proofs.attributes.read_coordinate.Tie as tie

@@ -9,7 +9,7 @@ use borrow.Author.Needs.{needs}
 use Rattle.meaning.specs.Model.{flagOf}
 use Rattle.meaning.specs.Bytes.{byteAt}
 use Rattle.text.proofs.Fill.{to-end}
-use Rattle.model.specs.Meant.{Held}
+use Rattle.decode.specs.Held.{Held}
 use Rattle.model.proofs.Types.{size-line, dimension-bounds, decoded-line}
 use Rattle.model.proofs.attributes.read_line.Statement.{statement}
 use Rattle.model.proofs.attributes.read_line.Tie as tie

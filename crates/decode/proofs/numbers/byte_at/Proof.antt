@@ -1,9 +1,9 @@
--- `model::numbers::byte_at` meets its contract. Assumes nothing.
+-- `decode::numbers::byte_at` meets its contract. Assumes nothing.
 use mathlib.Core.Path.{sym}
 use lib.ListN.{List·getD-eq-default}
 use borrow.Author.Needs.{needs}
-use Rattle.model.proofs.numbers.byte_at.Statement.{statement}
-use Rattle.model.proofs.numbers.byte_at.Tie as tie
+use Rattle.decode.proofs.numbers.byte_at.Statement.{statement}
+use Rattle.decode.proofs.numbers.byte_at.Tie as tie
 
 shared-slice-read-result : tie.Need-shared-slice-read-result
 shared-slice-read-result c = search needs
