@@ -12,10 +12,10 @@ ghost use Rattle.meaning.specs.Check.{isDimension, goodComponent, goodComponent
 ghost use Rattle.model.specs.Names.{namesOf};
 ghost use Rattle.model.specs.Attributes.{typeMeant, firstOf, Sized, PlainNumber, Decoded, attributesSeen};
 use crate::names;
-use decode::numbers;
 use crate::rules;
 use component::Component;
 use component::Components;
+use decode::numbers;
 use text::tests;
 
 // An attribute by value. Its number is a reference's table, a text's longest length, an enumeration's count of leaves or a line's forms;

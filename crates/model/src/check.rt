@@ -10,11 +10,11 @@ ghost use Rattle.model.specs.Records.{nextAt};
 ghost use Rattle.model.specs.Walk.{seenOf, passesAt, advanced, topicsSeen, tablesSeen, Walked, checkedRecords, checkedMeant};
 use crate::attributes;
 use crate::names;
-use decode::numbers;
 use crate::records;
 use crate::references;
 use crate::references::Outside;
 use crate::rules;
+use decode::numbers;
 use text::tests;
 
 // A good model with its count of topics, or the byte of the first bad record.

@@ -8,8 +8,8 @@ ghost use Rattle.meaning.specs.Model.{Table, found, tablesOf, typeOf, targetOf}
 ghost use Rattle.meaning.specs.Check.{Checked, judgeReferences, isOutside};
 ghost use Rattle.model.specs.Records.{recordsAt, nextAt, payloadAt};
 ghost use Rattle.model.specs.References.{topicNumbers, outsideMeant, judges, judged};
-use decode::numbers;
 use crate::records;
+use decode::numbers;
 
 // The byte of the first reference to a table that is not there or in another topic, or none.
 pub enum Outside {

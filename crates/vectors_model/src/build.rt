@@ -61,12 +61,29 @@ pub fn tell(name: &[u8], room: &[u8], used: usize) {
 }
 
 // Six records of these kinds with the usual payloads.
-pub fn run_of(name: &[u8], first: u16, second: u16, third: u16, fourth: u16, fifth: u16, sixth: u16) {
+pub fn run_of(
+    name: &[u8],
+    first: u16,
+    second: u16,
+    third: u16,
+    fourth: u16,
+    fifth: u16,
+    sixth: u16,
+) {
     let mut room = [0u8; 64];
     check_in_of(&mut room, name, first, second, third, fourth, fifth, sixth);
 }
 
-fn check_in_of(room: &mut [u8], name: &[u8], first: u16, second: u16, third: u16, fourth: u16, fifth: u16, sixth: u16) {
+fn check_in_of(
+    room: &mut [u8],
+    name: &[u8],
+    first: u16,
+    second: u16,
+    third: u16,
+    fourth: u16,
+    fifth: u16,
+    sixth: u16,
+) {
     let a = add(room, 0, first, b"_@\\T");
     let b = add(room, a, second, b"M");
     let c = add(room, b, third, b"N");
@@ -77,12 +94,38 @@ fn check_in_of(room: &mut [u8], name: &[u8], first: u16, second: u16, third: u16
 }
 
 // The usual records with these payloads.
-pub fn run(name: &[u8], transfer: &[u8], model: &[u8], topic: &[u8], table: &[u8], attribute: &[u8], end: &[u8]) {
+pub fn run(
+    name: &[u8],
+    transfer: &[u8],
+    model: &[u8],
+    topic: &[u8],
+    table: &[u8],
+    attribute: &[u8],
+    end: &[u8],
+) {
     let mut room = [0u8; 400];
-    check_in(&mut room, name, transfer, model, topic, table, attribute, end);
+    check_in(
+        &mut room,
+        name,
+        transfer,
+        model,
+        topic,
+        table,
+        attribute,
+        end,
+    );
 }
 
-fn check_in(room: &mut [u8], name: &[u8], transfer: &[u8], model: &[u8], topic: &[u8], table: &[u8], attribute: &[u8], end: &[u8]) {
+fn check_in(
+    room: &mut [u8],
+    name: &[u8],
+    transfer: &[u8],
+    model: &[u8],
+    topic: &[u8],
+    table: &[u8],
+    attribute: &[u8],
+    end: &[u8],
+) {
     let a = add(room, 0, 1, transfer);
     let b = add(room, a, 2, model);
     let c = add(room, b, 3, topic);

@@ -95,7 +95,15 @@ pub fn run_kinds() {
 pub fn run_ends() {
     io::write_all(1, b"# no topic, the end and the length\n");
     run_no_topic();
-    build::run(b"end with a byte", b"_@\\T", b"M", b"N", b"\x00A", b"\x00\x06a", b"x");
+    build::run(
+        b"end with a byte",
+        b"_@\\T",
+        b"M",
+        b"N",
+        b"\x00A",
+        b"\x00\x06a",
+        b"x",
+    );
     run_cut(b"no end", 31);
     run_cut(b"one byte of the end", 32);
     run_cut(b"three bytes of the end", 34);
