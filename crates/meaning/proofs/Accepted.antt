@@ -9,9 +9,10 @@ use borrow.Author.Tests.{not-false}
 use Rattle.meaning.specs.Unfold.{unfoldedText}
 use Rattle.meaning.specs.Model.{Model}
 use Rattle.meaning.specs.Check.{GoodModel}
-use Rattle.meaning.specs.Reading.{Due, opening, description, transfer, modelName, topicFrom, tableFrom, objectOf, lineOf, closing, nothing, isComplete, Content, State, startOf, nothingRead, Rooms, Object, objectsOf}
+use Rattle.meaning.specs.Reading.{opening, description, transfer, modelName, topicFrom, tableFrom, objectOf, lineOf, closing, nothing, Due, isComplete, Content, State, nothingRead, startOf, Rooms, Object, objectsOf}
 use Rattle.meaning.specs.Lines.{Run, ran, stopped, afterRun, run, atEnd, readLines}
-use Rattle.meaning.specs.Table.{resolved, resolve, resolveRows}
+use Rattle.meaning.specs.Table.{resolved, resolveRows, resolve}
+use Rattle.meaning.specs.WritingClaims.{resolvedTable}
 use Rattle.meaning.proofs.Apart.{no-ran}
 use Rattle.meaning.proofs.Refuse.{passed}
 use Rattle.meaning.proofs.Valid.{lentObjects, topicsFrom, Rest, Valid}
@@ -49,9 +50,6 @@ read-to m rooms text s ls final e = by (run m rooms text s ls) refl e
         record { runs = p ∙ ap ran same; complete = ap (λ (x : State). x .due) (sym same) ∙ complete-due (s′ .due) (not-false _ (q .0)) }
 
 -- ## The table is fine
-
-abbrev pub resolvedTable : Content → List ℤ → Content
-resolvedTable c cs = record { marks = c .marks; rows = c .rows; cells = cs; points = c .points }
 
 pub read-valid : (m : Model) → GoodModel m → (rooms : Rooms) (ls : List (List ℕ)) (s : State) (cs : List ℤ) → readLines m rooms (unfoldedText ls) (startOf m) ls ≡ ran s
     → resolve m (unfoldedText ls) (s .content) ≡ resolved cs → Valid m (unfoldedText ls) (resolvedTable (s .content) cs)

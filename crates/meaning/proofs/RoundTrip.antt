@@ -16,29 +16,21 @@ use Rattle.meaning.specs.Model.{Model}
 use Rattle.meaning.specs.Check.{good, checkModel, GoodModel}
 use Rattle.meaning.specs.Answer.{Answer, accepted, refusal, filled}
 use Rattle.meaning.specs.Reading.{Content, startOf, Rooms}
-use Rattle.meaning.specs.Table.{Result, acceptedWith, readResolved, readRun, readText, read}
+use Rattle.meaning.specs.Table.{read, Result, acceptedWith, readResolved, readRun, readText}
 use Rattle.meaning.specs.Writing.{Lent, markCount, countsFit, contentOf, linesOf}
-use Rattle.meaning.specs.Readback.{sameTable, isTable}
+use Rattle.meaning.specs.Readback.{isTable}
 use Rattle.meaning.specs.Width.{cutLines, Written, writingRefused, writeBytes, writeChecked, write}
+use Rattle.meaning.specs.WritingClaims.{Enough, ReadBack}
 use Rattle.meaning.proofs.Refuse.{neither, holds}
 use Rattle.meaning.proofs.GoodModels.{checked-good}
 use Rattle.meaning.proofs.Rooms.{Wider, lines-wider}
 use Rattle.meaning.proofs.Widths.{width-cuts}
-use Rattle.meaning.proofs.Accepted.{resolvedTable}
 use Rattle.meaning.proofs.Alike.{tables-alike}
 use Rattle.meaning.proofs.Permits.{valid-permits}
 use Rattle.meaning.proofs.Unwritable.{roomsOf, ReadsTo, reads-to, reads-valid, table-reads}
 use Rattle.meaning.proofs.Claims.{cut-reads-as-lines}
 
 -- ## Room enough
-
--- room enough for lines and the table that they read as
-pub record Enough (m : Model) (ls : List (List ℕ)) (c : Content) (rooms : Rooms) : Type 0 where
-  pub text : length (unfoldedText ls) ≤ rooms .text
-  pub marks : markCount m ≤ rooms .marks
-  pub rows : length (c .rows) ≤ rooms .rows
-  pub cells : length (c .cells) ≤ rooms .cells
-  pub points : length (c .points) ≤ rooms .points
 
 pub reads-text : (m : Model) (ls : List (List ℕ)) (text : List ℕ) (c : Content) (rooms : Rooms) → Enough m ls c rooms → (r : ReadsTo m ls text c)
     → readText m rooms ls ≡ acceptedWith rooms (unfoldedText ls) (r .state .content) (r .cells)
@@ -88,14 +80,6 @@ written-as model m t width room n e h =
     }
 
 -- ## Round trip
-
--- a result of reading is the lent table, in some text of its own
-pub record ReadBack (m : Model) (t : Lent) (rooms : Rooms) (r : Result) : Type 0 where
-  pub text : List ℕ
-  pub content : Content
-  pub cells : List ℤ
-  pub is : r ≡ acceptedWith rooms text content cells
-  pub same : sameTable m text (resolvedTable content cells) (t .text) (contentOf m t) ≡ true
 
 -- the bytes that were written, read into rooms that have enough, give the lent table: its marks, rows, cells and points, its texts and identifications by their bytes
 pub round-trip : (model : List ℕ) (m : Model) (t : Lent) (width room n : ℕ) (rooms : Rooms) → checkModel model ≡ good m → write model t width room .answer ≡ accepted n 0 0

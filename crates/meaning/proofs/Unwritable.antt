@@ -16,15 +16,16 @@ use Rattle.meaning.specs.Check.{good, checkModel, GoodModel}
 use Rattle.meaning.specs.Answer.{Answer, accepted, refusal}
 use Rattle.meaning.specs.Reading.{Content, State, startOf, Rooms}
 use Rattle.meaning.specs.Lines.{Run, ran, stopped, readLines}
-use Rattle.meaning.specs.Table.{Resolved, resolved, unresolved, resolve}
-use Rattle.meaning.specs.Writing.{Lent, countsFit, contentOf, linesOf}
+use Rattle.meaning.specs.Table.{resolved, Resolved, unresolved, resolve}
+use Rattle.meaning.specs.Writing.{Lent, contentOf, linesOf}
 use Rattle.meaning.specs.Readback.{sameTable, isResolvedAs, isRunAs, readsAs, isTable}
 use Rattle.meaning.specs.Width.{cutLines, Written, writingRefused, writeBytes, writeChecked, write}
+use Rattle.meaning.specs.WritingClaims.{ReadAs, NoLines, resolvedTable}
 use Rattle.meaning.proofs.Refuse.{refuse-keeps, holds}
 use Rattle.meaning.proofs.GoodModels.{checked-good}
 use Rattle.meaning.proofs.Valid.{Valid}
 use Rattle.meaning.proofs.Writable.{valid-reads}
-use Rattle.meaning.proofs.Accepted.{resolvedTable, read-valid}
+use Rattle.meaning.proofs.Accepted.{read-valid}
 use Rattle.meaning.proofs.Alike.{tables-alike, valid-alike}
 
 -- ## Lines that read as a table
@@ -70,11 +71,6 @@ pub own-lines-read-anywhere : (m : Model) → GoodModel m → (rooms : Rooms) (l
 own-lines-read-anywhere m g rooms ls s cs text c e r h =
     valid-reads m text c g (valid-alike m (unfoldedText ls) _ text c (tables-alike m (unfoldedText ls) _ text c h) (read-valid m g rooms ls s cs e r))
 
--- these lines read as a lent table, whose counts are no more than is lent
-pub record ReadAs (m : Model) (t : Lent) (ls : List (List ℕ)) : Type 0 where
-  pub fits : countsFit m t ≡ true
-  pub reads : readsAs m ls (t .text) (contentOf m t) ≡ true
-
 pub table-reads : (m : Model) (t : Lent) → isTable m t ≡ true → ReadAs m t (linesOf m (t .text) (contentOf m t))
 unfolding isTable
 table-reads m t h = record { fits = holds _ 0 h; reads = holds _ 1 h }
@@ -82,10 +78,6 @@ table-reads m t h = record { fits = holds _ 0 h; reads = holds _ 1 h }
 pub read-table : (m : Model) → GoodModel m → (t : Lent) (ls : List (List ℕ)) → ReadAs m t ls → isTable m t ≡ true
 unfolding isTable allOf
 read-table m g t ls r = rw (r .fits, own-lines-read m g ls (t .text) (contentOf m t) (r .reads))
-
--- no lines read as a lent table
-abbrev pub NoLines : Model → Lent → Type 0
-NoLines m t = (ls : List (List ℕ)) → ReadAs m t ls → ⊥
 
 pub no-table : (m : Model) → GoodModel m → (t : Lent) → (isTable m t ≡ false) ↔ NoLines m t
 no-table m g t = (λ e ls r. true≢false (sym (read-table m g t ls r) ∙ e), λ none. by none (isTable m t) refl)
