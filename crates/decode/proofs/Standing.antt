@@ -14,7 +14,7 @@ use Rattle.meaning.specs.Bytes.{choose, byteAt, u16At}
 use Rattle.meaning.specs.Model.{Records, finish, overrun, entry, Table, Model, noTable, tableAt, flagOf, attributeOf, attributesOf, tablesOf, topicsOf, nameOf, modelOf}
 use Rattle.meaning.specs.Check.{good, special, isFlag, keepsTransfer, keepsTopic, keepsTable, keepsAttribute, keeps, see, nothingSeen, checkRecords, checkModel}
 use Rattle.meaning.proofs.Cuts.{both}
-use Rattle.decode.specs.Records.{recordsAt, kindAt, payloadAt, nextAt, attributesAt}
+use Rattle.decode.specs.Records.{recordsAt, kindAt, payloadAt, nextAt, attributesAt, modelAt}
 use Rattle.decode.specs.Standing.{Standing, Here, TopicHere, TableHere, AttributeNext, EndHere, Beginning}
 use Rattle.decode.proofs.Types.{payload-room}
 use Rattle.decode.proofs.Checked.{holds, begun, Turn, turn, behind-nothing, behind-transfer, in-order, at-end}
@@ -126,6 +126,7 @@ module _ (m : Model) (b : List ℕ) (at k t : ℕ) (s : Standing m b at k t) whe
           topicCount = omega arith;
           tableCount = s .tableCount;
           earlier = λ n q. omega (arith, s .earlier n q);
+          counted = omega (arith, s .counted);
         };
       }
 
@@ -165,6 +166,7 @@ module _ (m : Model) (b : List ℕ) (at k t : ℕ) (s : Standing m b at k t) whe
           topicCount = s .topicCount;
           tableCount = omega arith;
           earlier = λ n q. earlier-too g (ap (λ (x : Table). x .topic) i) n q (leb t n) refl;
+          counted = omega (arith, s .counted);
         };
       }
 
@@ -189,6 +191,7 @@ module _ (m : Model) (b : List ℕ) (at k t : ℕ) (s : Standing m b at k t) whe
           topicCount = s .topicCount;
           tableCount = s .tableCount;
           earlier = s .earlier;
+          counted = omega (arith, s .counted);
         };
       }
 
@@ -284,8 +287,13 @@ module _ (m : Model) (b : List ℕ) (ok : checkModel b ≡ good m) where
           topicCount = omega arith;
           tableCount = omega arith;
           earlier = λ n q. absurd (omega arith);
+          counted = omega arith;
         };
       }
 
   pub start : Standing m b (nextAt b (nextAt b 0)) 0 0
   start = beginning .topics
+
+-- the model that the check finds good is the one that the bytes say
+pub good-model : (m : Model) (b : List ℕ) → checkModel b ≡ good m → modelAt b ≡ m
+good-model m b ok = begun m b ok .model

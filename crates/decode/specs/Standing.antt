@@ -25,6 +25,7 @@ pub record Standing (m : Model) (b : List ℕ) (at k t : ℕ) : Type 0 where
   pub topicCount : k ≤ length (m .topics)
   pub tableCount : t ≤ length (m .tables)
   pub earlier : (n : ℕ) → n < t → tableAt (m .tables) n .topic < k
+  pub counted : k + t ≤ at
 
 -- a record lies in the model
 pub record Here (b : List ℕ) (at : ℕ) : Type 0 where
