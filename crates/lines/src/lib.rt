@@ -9,6 +9,9 @@ ghost use Rattle.decode.specs.Standing.{Standing};
 ghost use Rattle.state.specs.Meant.{dueOf, linesAt};
 ghost use Rattle.held.specs.Holds.{TableHolds, DueHolds};
 ghost use Rattle.lines.specs.Cells.{pairCells};
+
+pub mod moves;
+
 use state::Due;
 use state::LineState;
 use state::TableHere;
