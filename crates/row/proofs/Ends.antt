@@ -19,7 +19,7 @@ use Rattle.row.specs.declared.filling.Filling.{Filling}
 use Rattle.row.specs.declared.filling.Filled.the-variants.{On, Rest}
 use Rattle.row.specs.declared.rows.RowOut.{RowOut}
 use Rattle.row.specs.declared.rows.RowOut.the-variants.{Full, No}
-use Rattle.row.proofs.Stores.{sets-append, length-zeros}
+use Rattle.row.proofs.Stores.{sets-append, sets-front, length-zeros}
 use Rattle.row.proofs.Steps.{none, both, wider, renamed, before, refuses}
 use Rattle.row.proofs.Records.{pairs-next, no-record}
 
@@ -113,3 +113,10 @@ pub row-start : (u start : ℕ) (rest b : List ℕ) (at : ℕ) (l : List ℤ) (s
 row-start u start rest b at l s e =
     wider (2 * (at - at)) (omega arith) (renamed (λ ps. pairCells u true 3 (pairsAt b at) (fieldsOf start rest)) (fromRecord u start rest b at s)
     (λ ps. rw e (rw (add-zero start))) (λ ps. refl) (none rest (fromRecord u start rest b at s) s l (rw e (omega arith)) (rw e (omega arith))))
+
+-- ## For the caller: a row that has room
+
+pub stored-front : {meant : Cells} {most n : ℕ} {entry exit : List ℤ} (e : EndsFull meant most 0 n entry exit) → n ≤ length entry → exit ≡ e .values ++ drop n entry
+stored-front {meant} {most} {n} {entry} e h =
+    let z : length (e .values) ≡ n = omega (arith, e .size) in
+    e .stored ∙ rw z at (sets-front (e .values) entry (omega arith))

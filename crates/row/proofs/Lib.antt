@@ -6,3 +6,4 @@ pub mod Coordinates
 pub mod Attributes
 pub mod Records
 pub mod Ends
+pub mod PointFields

@@ -1,3 +1,4 @@
 pub mod Taken
 pub mod Filled
 pub mod Rows
+pub mod Points
