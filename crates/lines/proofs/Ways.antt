@@ -17,7 +17,7 @@ use Rattle.meaning.specs.Field.{Field, fieldsOf, moreThan, hasCode, STPT, LIPT,
 use Rattle.meaning.specs.Row.{pairsOf, pairsOfType}
 use Rattle.meaning.specs.Reading as meaning
 use Rattle.meaning.specs.Reading.{LineAttribute, lineAttributes, lineOf, dueLines, Content, pointCount, withLine, Rooms, cellAt, ended, undefinedLine}
-use Rattle.meaning.specs.Lines.{Step, go, no, bare, attributeLine}
+use Rattle.meaning.specs.Lines.{Step, go, no, bare, attributeLine, lineDue}
 use Rattle.component.specs.Meant.{componentsOf}
 use Rattle.decode.specs.declared.Attribute.{Attribute}
 use Rattle.decode.specs.Records.{modelAt, payloadAt, nextAt, attributesAt, pairsAt}
@@ -29,15 +29,16 @@ use Rattle.index.proofs.Kept.{beside-behind, held-pair}
 use Rattle.state.specs.declared.Underway.{Underway}
 use Rattle.state.specs.declared.State.{State}
 use Rattle.state.specs.declared.Due.the-variants.{LineOf}
+use Rattle.state.specs.declared.Step as state
 use Rattle.state.specs.declared.Step.the-variants.{Go, No}
-use Rattle.state.specs.Meant.{linesAt, underwayOf, dueOf, contentOf}
+use Rattle.state.specs.Meant.{lineStateOf, linesAt, underwayOf, dueOf, contentOf}
 use Rattle.held.specs.Holds.{LineHolds, Laid, Holds}
 use Rattle.frame.specs.Codes.{codes}
 use Rattle.frame.specs.Heads.{HeadOf}
 use Rattle.frame.specs.declared.codes.Head.{Head}
 use Rattle.frame.proofs.Moves.{behind-more}
 use Rattle.lines.specs.Codes.{codeOf}
-use Rattle.lines.specs.Ways.{wayOf, Ready, Behind, Does}
+use Rattle.lines.specs.Ways.{wayOf, Given, Behind, Does}
 
 -- ## The code
 
@@ -183,3 +184,37 @@ behind-pair b a u s r h meant cells points inside fits e = record {
 
 pub refused-here : (b : List ℕ) (u : Underway) (s : State) (meant : Content → Step) (cells points : List ℤ) (number field : ℕ) → ((c : Content) → no number field ≡ meant c) → Does b u s meant cells points cells points (No number field)
 refused-here b u s meant cells points number field e = record { step = λ k marks rows. e (contentOf k s marks rows cells points); holds = λ text seed marks rows index l held. tt }
+
+-- ## A line by its move
+
+pub unexpected-line : (m : Model) (rooms : Rooms) (text : List ℕ) (w : meaning.Underway) (fs : List Field) (c : Content) → no 7 1 ≡ attributeLine m rooms text w fs c meaning.unexpected
+unfolding attributeLine
+unexpected-line m rooms text w fs c = refl
+
+pub by-move : (b : List ℕ) (u : Underway) (s : State) (m : Model) (rooms : Rooms) (text : List ℕ) (w : meaning.Underway) (fs : List Field) (cells points cells′ points′ : List ℤ) (move move′ : meaning.Move) → move ≡ move′
+    → (r : state.Step) → Does b u s (λ c. attributeLine m rooms text w fs c move) cells points cells′ points′ r → Does b u s (λ c. attributeLine m rooms text w fs c move′) cells points cells′ points′ r
+by-move b u s m rooms text w fs cells points cells′ points′ move move′ e r d = subst (λ (x : meaning.Move). Does b u s (λ c. attributeLine m rooms text w fs c x) cells points cells′ points′ r) e d
+
+-- a line of what is due is a line of the line attribute under way
+pub due-line : (b : List ℕ) (a : Attribute) (u : Underway) (s : State) → LineHolds (modelAt b) b [] 0 (s .cells) (s .points) u → Decoded b (u .at) a
+    → (rooms : Rooms) (text l : List ℕ) (fs : List Field) (cells points cells′ points′ : List ℤ) (r : state.Step)
+    → Does b u s (λ c. attributeLine (modelAt b) rooms text (wayOf b a u) fs c (meaning.move (lineStateOf (u .state)) (meaning.lineCodeOf fs))) cells points cells′ points′ r
+    → Does b u s (λ c. lineDue (modelAt b) rooms text (dueOf b (LineOf u)) l fs c) cells points cells′ points′ r
+unfolding lineDue
+due-line b a u s h d rooms text l fs cells points cells′ points′ r x = subst (λ (y : meaning.Due). Does b u s (λ c. lineDue (modelAt b) rooms text y l fs c) cells points cells′ points′ r) (sym (due-way (modelAt b) b [] 0 (s .cells) (s .points) u h a d)) x
+
+-- ## What a caller has
+
+-- between two lines a line attribute is under way
+pub line-held : (b text : List ℕ) (seed : ℕ) (s : State) (marks rows : List ℕ) (cells points : List ℤ) (index : List ℕ) (u : Underway) → s .due ≡ LineOf u → Holds (modelAt b) b text seed s marks rows cells points index
+    → LineHolds (modelAt b) b rows (s .rows) (s .cells) (s .points) u
+line-held b text seed s marks rows cells points index u e h = rw e at (h .due)
+
+pub given : (b text : List ℕ) (seed : ℕ) (s : State) (marks rows : List ℕ) (cells points : List ℤ) (index : List ℕ) (u : Underway) (undefined : ℕ) → s .due ≡ LineOf u → modelAt b .undefined ≡ undefined → Holds (modelAt b) b text seed s marks rows cells points index
+    → Given b undefined u s cells points
+given b text seed s marks rows cells points index u undefined e f h = record {
+  line = without-rows (modelAt b) b rows (s .rows) (s .cells) (s .points) u (line-held b text seed s marks rows cells points index u e h);
+  cellsFit = h .objects .cells-in;
+  pointsFit = h .pointsFit;
+  undefinedByte = f;
+}

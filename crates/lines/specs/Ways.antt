@@ -1,8 +1,9 @@
 -- What a line of the line attribute under way makes of the table, under the model's bytes b.
-use Prim.Native.Nat.{ℕ, _+_, _≤_, _<_, _^_}
+use Prim.Native.Nat.{ℕ, _+_, _*_, _≤_, _<_, _^_}
 use mathlib.Core.Path.{_≡_}
 use mathlib.Core.List.{List, []}
 use lib.IntN.{ℤ}
+use lib.ListN.{length}
 use Rattle.meaning.specs.Model.{Model}
 use Rattle.meaning.specs.Reading as meaning
 use Rattle.meaning.specs.Reading.{Content, dueLines}
@@ -32,6 +33,13 @@ pub record Ready (b : List ℕ) (u : Underway) (s : State) : Type 0 where
   pub line : LineHolds (modelAt b) b [] 0 (s .cells) (s .points) u
   pub cells : s .cells < 2 ^ 63
   pub points : s .points < 2 ^ 61
+
+-- the same with the buffers lent to it, and the model's undefined byte
+pub record Given (b : List ℕ) (undefined : ℕ) (u : Underway) (s : State) (cells points : List ℤ) : Type 0 where
+  pub line : LineHolds (modelAt b) b [] 0 (s .cells) (s .points) u
+  pub cellsFit : s .cells ≤ length cells
+  pub pointsFit : 4 * s .points ≤ length points
+  pub undefinedByte : modelAt b .undefined ≡ undefined
 
 -- r is the state behind the last line of the line attribute under way, with this first point for the next one
 pub record Behind (b : List ℕ) (u : Underway) (s : State) (first : ℕ) (r : State) : Type 0 where
