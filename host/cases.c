@@ -1,15 +1,7 @@
 /* Asks the proved library every case of a file that tests/oracle/for_c.py wrote, and compares each answer and each byte of the text room with what the
  * independent implementation answers. Its exit status is 0 only where all agree. */
 #include "vendorfinch.h"
-
-typedef struct file FILE;
-extern FILE *fopen(const char *, const char *);
-extern unsigned long fread(void *, unsigned long, unsigned long, FILE *);
-extern int fclose(FILE *);
-extern int printf(const char *, ...);
-extern void *malloc(unsigned long);
-extern void *memset(void *, int, unsigned long);
-extern int memcmp(const void *, const void *, unsigned long);
+#include "kit/calls.h"
 
 static uint64_t number(const uint8_t *at, int size)
 {

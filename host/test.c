@@ -1,17 +1,7 @@
 /* Calls the proved library as the station does, and compares every answer and buffer with what 01 says. Its exit status
  * is 0 only where all agree. argv[1] and argv[2]: the sample's compiled model and file. */
 #include "vendorfinch.h"
-
-typedef struct file FILE;
-extern FILE *fopen(const char *, const char *);
-extern unsigned long fread(void *, unsigned long, unsigned long, FILE *);
-extern int fclose(FILE *);
-extern int printf(const char *, ...);
-extern void *malloc(unsigned long);
-extern void *memset(void *, int, unsigned long);
-extern void *memcpy(void *, const void *, unsigned long);
-extern int memcmp(const void *, const void *, unsigned long);
-extern unsigned long strlen(const char *);
+#include "kit/calls.h"
 
 static uint8_t model[65536], file[65536], text[65536], zeros[65536];
 static size_t model_length, file_length;

@@ -1,2 +1,3 @@
 // Reading: a file under a model into lent buffers.
 mod ends;
+mod marks;
