@@ -4,7 +4,6 @@ use native.Mathlib.Omega.{arith}
 use mathlib.Core.Path.{_≡_, refl, sym, _∙_}
 use mathlib.Core.Bool.{Bool}
 use mathlib.Core.List.{List, [], _∷_, _++_}
-use lib.Dec.{eqb}
 use lib.ListN.{length, drop, getD, length-append}
 use Rattle.meaning.specs.Bytes.{choose, byteAt}
 use Rattle.meaning.specs.Model.{Model, typeOf, componentsOf, attributeOf}

@@ -1,9 +1,9 @@
 -- A point of the line attribute under way: where it is stored, what it means, and what then holds. Assumes nothing.
 use Prim.Native.Nat.{ℕ, suc, _+_, _*_, _≤_, _<_}
 use native.Mathlib.Omega.{arith}
-use mathlib.Core.Path.{_≡_, refl, sym, ap, subst, _∙_}
-use mathlib.Core.Bool.{Bool, true, false, false≢true, _||_}
-use mathlib.Core.List.{List, [], _∷_, _++_}
+use mathlib.Core.Path.{_≡_, refl, sym, ap, _∙_}
+use mathlib.Core.Bool.{Bool, true, false, false≢true}
+use mathlib.Core.List.{List, [], _++_}
 use lib.Dec.{ltb, eqb}
 use lib.IntN.{ℤ, pos}
 use lib.ListN.{length, take, drop, replicate, length-append}
@@ -16,10 +16,9 @@ use Rattle.meaning.specs.Field.{Field}
 use Rattle.meaning.specs.Row as row
 use Rattle.meaning.specs.Row.{Cells, componentValues, pointCells}
 use Rattle.meaning.specs.Reading as meaning
-use Rattle.meaning.specs.Reading.{Content, Rooms, lineOf, isForbidden, point, withState, withPoint}
+use Rattle.meaning.specs.Reading.{Content, Rooms, lineOf, isForbidden, point, withState}
 use Rattle.meaning.specs.Lines.{go, no, storePoint, attributeLine}
 use Rattle.meaning.specs.Lines as lines
-use Rattle.component.specs.Meant.{componentsOf}
 use Rattle.decode.specs.declared.Attribute.{Attribute}
 use Rattle.decode.specs.Records.{modelAt}
 use Rattle.decode.specs.Meant.{Decoded}
@@ -32,7 +31,7 @@ use Rattle.state.specs.declared.Step.the-variants.{Go, No}
 use Rattle.state.specs.Meant.{lineStateOf, dueOf, contentOf, stepOf}
 use Rattle.held.specs.Holds.{LineHolds, Holds}
 use Rattle.lines.specs.Ways.{wayOf, Does}
-use Rattle.lines.specs.Points.{movedTo, pointAdded, Stored, NoRoom, Stores, Joins}
+use Rattle.lines.specs.Points.{movedTo, pointAdded, Stores, Joins}
 use Rattle.lines.proofs.Ways.{due-way, refused-here}
 
 -- a line has two or three components

@@ -1,30 +1,28 @@
 -- The line attribute under way, what each move makes of it, and what then holds. Assumes nothing.
-use Prim.Native.Nat.{ℕ, suc, _+_, _*_, _-_, _/_, _≤_, _<_}
+use Prim.Native.Nat.{ℕ, _+_, _*_, _-_, _/_, _≤_, _<_}
 use native.Mathlib.Omega.{arith}
-use native.Mathlib.Numerals.{add-one}
 use mathlib.Core.Path.{_≡_, refl, sym, ap, subst, _∙_}
 use mathlib.Core.Bool.{Bool, true, false, not}
-use mathlib.Core.List.{List, [], _∷_, _++_}
-use lib.Dec.{eqb, ltb}
+use mathlib.Core.List.{List, [], _∷_}
+use lib.Dec.{eqb}
 use lib.IntN.{ℤ, pos}
-use lib.ListN.{length, take, drop, getD, set, length-set}
+use lib.ListN.{length, take, drop, getD, set}
 use lib.Seq.{take-set-lt, length-take-le, getD-set-other}
 use borrow.Author.Tests.{not-true, not-false}
-use Rattle.meaning.specs.Bytes.{choose, refuse, byteAt}
+use Rattle.meaning.specs.Bytes.{choose, refuse}
 use Rattle.meaning.specs.Model as model
 use Rattle.meaning.specs.Model.{Model, attributeOf, Line}
 use Rattle.meaning.specs.Field.{Field, fieldsOf, moreThan, hasCode, STPT, LIPT, ARCP, ELIN}
 use Rattle.meaning.specs.Row.{pairsOf, pairsOfType}
 use Rattle.meaning.specs.Reading as meaning
-use Rattle.meaning.specs.Reading.{LineAttribute, lineAttributes, lineOf, dueLines, Content, pointCount, withLine, Rooms, cellAt, ended, undefinedLine}
+use Rattle.meaning.specs.Reading.{lineAttributes, lineOf, dueLines, Content, pointCount, withLine, Rooms, ended, undefinedLine}
 use Rattle.meaning.specs.Lines.{Step, go, no, bare, attributeLine, lineDue}
 use Rattle.component.specs.Meant.{componentsOf}
 use Rattle.decode.specs.declared.Attribute.{Attribute}
-use Rattle.decode.specs.Records.{modelAt, payloadAt, nextAt, attributesAt, pairsAt}
+use Rattle.decode.specs.Records.{modelAt, payloadAt, nextAt, pairsAt}
 use Rattle.decode.specs.Standing.{Standing, AttributeNext}
 use Rattle.decode.specs.Meant.{typeOf, Decoded}
 use Rattle.decode.proofs.Standing.{attribute-here}
-use Rattle.index.specs.Holds.{Held, Beside}
 use Rattle.index.proofs.Kept.{beside-behind, held-pair}
 use Rattle.state.specs.declared.Underway.{Underway}
 use Rattle.state.specs.declared.State.{State}
@@ -33,7 +31,6 @@ use Rattle.state.specs.declared.Step as state
 use Rattle.state.specs.declared.Step.the-variants.{Go, No}
 use Rattle.state.specs.Meant.{lineStateOf, linesAt, underwayOf, dueOf, contentOf}
 use Rattle.held.specs.Holds.{LineHolds, Laid, Holds}
-use Rattle.frame.specs.Codes.{codes}
 use Rattle.frame.specs.Heads.{HeadOf}
 use Rattle.frame.specs.declared.codes.Head.{Head}
 use Rattle.frame.proofs.Moves.{behind-more}

@@ -1,6 +1,9 @@
 -- `lines::put_line` meets its contract. Assumes nothing.
 use Prim.Native.Nat.{_+_}
 use native.Mathlib.Omega.{arith}
+use mathlib.Core.Path.{ap₂}
+use lib.IntN.{ℤ}
+use lib.ListN.{set}
 use mir.Syntax.{w64}
 use mir.ValLaws.{toZ-pos}
 use borrow.Author.Needs.{needs}
@@ -35,7 +38,9 @@ same-length : tie.Need-same-length
 same-length c = search needs
 
 returns : tie.Need-returns
-returns c = rw (toZ-pos w64 (1 + c .args .count) (omega arith), toZ-pos w64 (c .args .first) (omega arith))
+returns c =
+    let a = c .args in
+    ap₂ (λ (x y : ℤ). set (set (a .cells .now) (a .cell) x) (a .cell + 1) y) (toZ-pos w64 (1 + a .count) (omega arith)) (toZ-pos w64 (a .first) (omega arith))
 
 pub put-line-spec : {M : Type 1} → statement M
 put-line-spec =
