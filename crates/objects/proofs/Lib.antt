@@ -1,0 +1,4 @@
+pub mod Sizes
+pub mod Cells
+pub mod Names
+pub mod Rows
