@@ -1,11 +1,11 @@
 -- Cells stored in a part that is lent, and a row's first three cells stored in front of its values. Assumes nothing.
-use Prim.Native.Nat.{ℕ, zero, suc, _+_, _-_, _<_, _≤_}
+use Prim.Native.Nat.{ℕ, suc, _+_, _-_, _<_, _≤_}
 use mathlib.Core.Path.{_≡_, refl, sym, ap, _∙_}
 use mathlib.Core.List.{List, [], _∷_, _++_, append-assoc}
 use native.Mathlib.Nat.{zero-add, add-zero, suc-add, add-suc, le-refl}
 use native.Mathlib.Numerals.{add-one}
 use native.Mathlib.Omega.{arith}
-use lib.ListN.{length, take, drop, set, getD, length-set, length-append, length-drop}
+use lib.ListN.{length, take, drop, set, getD, length-set, length-append}
 use lib.Seq.{sets, sets-eq, length-sets, take-at, drop-at, take-take, take-suc-set, set-append-left, length-take-le, getD-at}
 use borrow.Rule.Slice.PartMut.{putMid, midOf, postOf, mid-len, put-same}
 

@@ -2,3 +2,4 @@ pub mod Sizes
 pub mod Cells
 pub mod Names
 pub mod Rows
+pub mod Fields

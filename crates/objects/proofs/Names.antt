@@ -2,15 +2,14 @@
 use Prim.Native.Nat.{ℕ, suc, _+_}
 use native.Mathlib.Omega.{arith}
 use mathlib.Core.Path.{_≡_, refl}
-use mathlib.Core.Bool.{Bool, true, false, not, _||_}
+use mathlib.Core.Bool.{Bool, true, false, _||_}
 use mathlib.Core.List.{List, [], _∷_}
 use lib.ListN.{length, take, drop}
 use borrow.Author.Tests.{lt-ltb}
 use Rattle.meaning.specs.Bytes.{refuse}
-use Rattle.meaning.specs.Field.{Field, fieldsOf, fieldAt, moreThan}
+use Rattle.meaning.specs.Field.{Field, fieldsOf}
 use Rattle.meaning.specs.Value.{isIdentification, isUndefined, isUndefinedTwice}
 use Rattle.meaning.specs.Lines.{Step, no}
-use Rattle.text.specs.Fields.{FirstField}
 use Rattle.row.specs.Taken.{FieldTaken, TwiceTaken}
 use Rattle.objects.specs.Names.{identifyIn, IdentifiedAt}
 

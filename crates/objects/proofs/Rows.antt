@@ -1,5 +1,5 @@
 -- A row that joins the table: what it means, and what then holds. Assumes nothing.
-use Prim.Native.Nat.{ℕ, suc, _+_, _*_, _-_, _/_, _≤_, _<_, min}
+use Prim.Native.Nat.{ℕ, _+_, _*_, _-_, _≤_, _<_, min}
 use native.Mathlib.Omega.{arith}
 use mathlib.Core.Path.{_≡_, refl, sym, ap, subst, _∙_}
 use mathlib.Core.Bool.{Bool, true, false, _||_, true≢false}
@@ -16,7 +16,7 @@ use Rattle.meaning.specs.Field.{Field, fieldsOf}
 use Rattle.meaning.specs.Row.{Cells, cells, refused, pairsOf, pairCells}
 use Rattle.meaning.specs.Reading.{stretch, cellAt, objectsOf, isUsed, Content, Rooms, pointCount, withRow, lineAttributes, dueLines}
 use Rattle.meaning.specs.Lines.{Step, go, no, storeRow}
-use Rattle.decode.specs.Records.{modelAt, attributesAt, pairsAt}
+use Rattle.decode.specs.Records.{modelAt, pairsAt}
 use Rattle.value.specs.Meant.{fieldOf}
 use Rattle.index.specs.Index.{hashOf, insertOf}
 use Rattle.index.specs.Holds.{Held}
@@ -24,8 +24,8 @@ use Rattle.index.proofs.More.{held-more}
 use Rattle.state.specs.declared.TableHere.{TableHere}
 use Rattle.state.specs.declared.State.{State}
 use Rattle.state.specs.declared.Step.the-variants.{Go, No}
-use Rattle.state.specs.Meant.{linesAt, contentOf, stepOf}
-use Rattle.held.specs.Holds.{TableHolds, rowSize, Laid, Holds}
+use Rattle.state.specs.Meant.{contentOf, stepOf}
+use Rattle.held.specs.Holds.{TableHolds, rowSize, Laid}
 use Rattle.lines.proofs.Ways.{point-count}
 use borrow.Rule.Slice.PartMut.{putMid, midOf}
 use Rattle.decode.proofs.Standing.{here}

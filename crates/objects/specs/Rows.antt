@@ -8,7 +8,7 @@ use lib.Seq.{sets}
 use Rattle.meaning.specs.Row.{Cells, cells, refused}
 use Rattle.meaning.specs.Reading.{Content, Rooms, dueLines}
 use Rattle.meaning.specs.Lines as lines
-use Rattle.decode.specs.Records.{modelAt, pairsAt}
+use Rattle.decode.specs.Records.{modelAt}
 use Rattle.state.specs.declared.TableHere.{TableHere}
 use Rattle.state.specs.declared.State.{State}
 use Rattle.state.specs.declared.Step.{Step}
