@@ -44,7 +44,7 @@ texts-are [] (b ∷ k) h = absurd (false≢true h)
 texts-are (a ∷ l) [] h = absurd (false≢true h)
 texts-are (a ∷ l) (b ∷ k) h = ap₂ (λ (x : List ℕ) (y : List (List ℕ)). x ∷ y) (same-is a b (holds _ 0 h)) (texts-are l k (holds _ 1 h))
 
-cons-inv : {A : Type 0} (x y : A) (xs ys : List A) → x ∷ xs ≡ y ∷ ys → (x ≡ y) × (xs ≡ ys)
+pub cons-inv : {A : Type 0} (x y : A) (xs ys : List A) → x ∷ xs ≡ y ∷ ys → (x ≡ y) × (xs ≡ ys)
 cons-inv x y xs ys e = (cc, cc)
 
 append-inv : {A : Type 0} (a b c d : List A) → length a ≡ length b → a ++ c ≡ b ++ d → (a ≡ b) × (c ≡ d)
@@ -68,17 +68,17 @@ texts-length text (p ∷ ps) cs = let ih = texts-length text ps (drop 2 cs) in o
 
 -- ## One pair
 
-record PairAlike (text text′ : List ℕ) (p : Pair) (ps : List Pair) (a b : ℤ) (xs ys : List ℤ) : Type 0 where
-  b′ : ℤ
-  others : List ℤ
-  is : ys ≡ a ∷ b′ ∷ others
-  second : choose (hasStart p a) (pos 0) b ≡ choose (hasStart p a) (pos 0) b′
-  bytes : choose (hasStart p a) (stretchBytes text b (natAbs a - 1)) [] ≡ choose (hasStart p a) (stretchBytes text′ b′ (natAbs a - 1)) []
-  long : length others ≡ length xs
-  cells : pairsWithoutStarts ps xs ≡ pairsWithoutStarts ps others
-  texts : pairTexts text ps xs ≡ pairTexts text′ ps others
+pub record PairAlike (text text′ : List ℕ) (p : Pair) (ps : List Pair) (a b : ℤ) (xs ys : List ℤ) : Type 0 where
+  pub b′ : ℤ
+  pub others : List ℤ
+  pub is : ys ≡ a ∷ b′ ∷ others
+  pub second : choose (hasStart p a) (pos 0) b ≡ choose (hasStart p a) (pos 0) b′
+  pub bytes : choose (hasStart p a) (stretchBytes text b (natAbs a - 1)) [] ≡ choose (hasStart p a) (stretchBytes text′ b′ (natAbs a - 1)) []
+  pub long : length others ≡ length xs
+  pub cells : pairsWithoutStarts ps xs ≡ pairsWithoutStarts ps others
+  pub texts : pairTexts text ps xs ≡ pairTexts text′ ps others
 
-pair-alike : (text text′ : List ℕ) (p : Pair) (ps : List Pair) (a b : ℤ) (xs ys : List ℤ) → length ys ≡ suc (suc (length xs)) → pairsWithoutStarts (p ∷ ps) (a ∷ b ∷ xs) ≡ pairsWithoutStarts (p ∷ ps) ys
+pub pair-alike : (text text′ : List ℕ) (p : Pair) (ps : List Pair) (a b : ℤ) (xs ys : List ℤ) → length ys ≡ suc (suc (length xs)) → pairsWithoutStarts (p ∷ ps) (a ∷ b ∷ xs) ≡ pairsWithoutStarts (p ∷ ps) ys
     → pairTexts text (p ∷ ps) (a ∷ b ∷ xs) ≡ pairTexts text′ (p ∷ ps) ys → PairAlike text text′ p ps a b xs ys
 unfolding pairsWithoutStarts pairTexts
 pair-alike text text′ p ps a b xs [] l e t = absurd (omega arith)
@@ -98,7 +98,7 @@ pair-alike text text′ p ps a b xs (a′ ∷ (b′ ∷ ys)) l e t =
       texts = s .1;
     }
 
-start-zero : (p : Pair) → hasStart p (pos 0) ≡ false
+pub start-zero : (p : Pair) → hasStart p (pos 0) ≡ false
 unfolding hasStart
 start-zero (OfAttribute o type) = by (isText type)
   where
@@ -108,25 +108,25 @@ start-zero (OfAttribute o type) = by (isText type)
 start-zero (OfComponent x) = refl
 start-zero (OfLine o forms ks) = refl
 
-start-plain : (o : Bool) (type : AttributeType) (a : ℤ) → isText type ≡ false → hasStart (OfAttribute o type) a ≡ false
+pub start-plain : (o : Bool) (type : AttributeType) (a : ℤ) → isText type ≡ false → hasStart (OfAttribute o type) a ≡ false
 unfolding hasStart
 start-plain o type a e = rw e
 
-start-word : (o : Bool) (longest size : ℕ) → hasStart (OfAttribute o (Text longest)) (pos (1 + size)) ≡ true
+pub start-word : (o : Bool) (longest size : ℕ) → hasStart (OfAttribute o (Text longest)) (pos (1 + size)) ≡ true
 unfolding hasStart isText
 start-word o longest size = rw (ne-eqb (1 + size) 0 (omega arith))
 
-reference-start : (o : Bool) (target : ℕ) → hasStart (OfAttribute o (Reference target)) (pos 1) ≡ false
+pub reference-start : (o : Bool) (target : ℕ) → hasStart (OfAttribute o (Reference target)) (pos 1) ≡ false
 unfolding hasStart isText
 reference-start o target = refl
 
 -- a second cell that is no start is the same
-kept : (t : Bool) (b b′ : ℤ) → t ≡ false → choose t (pos 0) b ≡ choose t (pos 0) b′ → b ≡ b′
+pub kept : (t : Bool) (b b′ : ℤ) → t ≡ false → choose t (pos 0) b ≡ choose t (pos 0) b′ → b ≡ b′
 unfolding choose
 kept true b b′ h e = absurd (true≢false h)
 kept false b b′ h e = e
 
-taken : (t : Bool) (s s′ : List ℕ) → t ≡ true → choose t s [] ≡ choose t s′ [] → s ≡ s′
+pub taken : (t : Bool) (s s′ : List ℕ) → t ≡ true → choose t s [] ≡ choose t s′ [] → s ≡ s′
 unfolding choose
 taken true s s′ h e = e
 taken false s s′ h e = absurd (false≢true h)
@@ -135,7 +135,7 @@ taken false s s′ h e = absurd (false≢true h)
 
 module _ (text : List ℕ) (c : Content) (text′ : List ℕ) (c′ : Content) (same-points : c .points ≡ c′ .points)
     (same-objects : lentObjects text (c .cells) (c .rows) ≡ lentObjects text′ (c′ .cells) (c′ .rows)) where
-  plain-bytes : (type : AttributeType) (a b : ℤ) → isText type ≡ false → targetOf type ≡ missing → typeBytes text c type a b ≡ typeBytes text′ c′ type a b
+  pub plain-bytes : (type : AttributeType) (a b : ℤ) → isText type ≡ false → targetOf type ≡ missing → typeBytes text c type a b ≡ typeBytes text′ c′ type a b
   unfolding isText targetOf typeBytes
   plain-bytes (Reference t) a b h g = absurd (no-found t (sym g))
   plain-bytes (Coordinate ks) a b h g = refl
@@ -185,17 +185,17 @@ module _ (text : List ℕ) (c : Content) (text′ : List ℕ) (c′ : Content) (
 -- ## Rows
 
 module _ (m : Model) (text : List ℕ) (cs : List ℤ) (text′ : List ℕ) (cs′ : List ℤ) where
-  abbrev pairsAt : ℕ → List Pair
+  abbrev pub pairsAt : ℕ → List Pair
   pairsAt row = pairsOf (tableAt (m .tables) (cellAt cs row) .attributes)
 
-  record RowAlike (row : ℕ) : Type 0 where
-    table : getD cs row (pos 0) ≡ getD cs′ row (pos 0)
-    size : getD cs (row + 2) (pos 0) ≡ getD cs′ (row + 2) (pos 0)
-    identification : identificationBytes text cs row ≡ identificationBytes text′ cs′ row
-    pairs : pairsWithoutStarts (pairsAt row) (drop (row + 3) cs) ≡ pairsWithoutStarts (pairsAt row) (drop (row + 3) cs′)
-    texts : pairTexts text (pairsAt row) (drop (row + 3) cs) ≡ pairTexts text′ (pairsAt row) (drop (row + 3) cs′)
+  pub record RowAlike (row : ℕ) : Type 0 where
+    pub table : getD cs row (pos 0) ≡ getD cs′ row (pos 0)
+    pub size : getD cs (row + 2) (pos 0) ≡ getD cs′ (row + 2) (pos 0)
+    pub identification : identificationBytes text cs row ≡ identificationBytes text′ cs′ row
+    pub pairs : pairsWithoutStarts (pairsAt row) (drop (row + 3) cs) ≡ pairsWithoutStarts (pairsAt row) (drop (row + 3) cs′)
+    pub texts : pairTexts text (pairsAt row) (drop (row + 3) cs) ≡ pairTexts text′ (pairsAt row) (drop (row + 3) cs′)
 
-  abbrev AllAlike : List ℕ → Type 0
+  abbrev pub AllAlike : List ℕ → Type 0
   AllAlike [] = Unit {0}
   AllAlike (row ∷ rows) = RowAlike row × AllAlike rows
 
@@ -203,7 +203,7 @@ module _ (m : Model) (text : List ℕ) (cs : List ℤ) (text′ : List ℕ) (cs�
   alike-append [] others h k = k
   alike-append (row ∷ rows) others h k = (h .0, alike-append rows others (h .1) k)
 
-  rows-alike : (rows : List ℕ) → cellsWithoutStarts m cs rows ≡ cellsWithoutStarts m cs′ rows → textsOf m text cs rows ≡ textsOf m text′ cs′ rows → AllAlike rows
+  pub rows-alike : (rows : List ℕ) → cellsWithoutStarts m cs rows ≡ cellsWithoutStarts m cs′ rows → textsOf m text cs rows ≡ textsOf m text′ cs′ rows → AllAlike rows
   unfolding cellsWithoutStarts textsOf
   rows-alike [] e t = tt
   rows-alike (row ∷ rows) e t =
@@ -219,22 +219,22 @@ module _ (m : Model) (text : List ℕ) (cs : List ℤ) (text′ : List ℕ) (cs�
       let q = append-inv _ _ _ _ (texts-length text ps (drop (row + 3) cs) ∙ sym (texts-length text′ ps (drop (row + 3) cs′))) tail-t in
       (record { table = a .0; size = b .0; identification = d .0; pairs = p .0; texts = q .0 }, rows-alike rows (p .1) (q .1))
 
-  objects-alike : (rows : List ℕ) → AllAlike rows → lentObjects text cs rows ≡ lentObjects text′ cs′ rows
+  pub objects-alike : (rows : List ℕ) → AllAlike rows → lentObjects text cs rows ≡ lentObjects text′ cs′ rows
   unfolding lentObjects
   objects-alike [] h = refl
   objects-alike (row ∷ rows) h = rw (h .0 .table, h .0 .identification, objects-alike rows (h .1))
 
-  of-table : (t : ℕ) (rows : List ℕ) → AllAlike rows → rowsOfTable t cs rows ≡ rowsOfTable t cs′ rows
+  pub of-table : (t : ℕ) (rows : List ℕ) → AllAlike rows → rowsOfTable t cs rows ≡ rowsOfTable t cs′ rows
   unfolding rowsOfTable
   of-table t [] h = refl
   of-table t (row ∷ rows) h = rw (h .0 .table, of-table t rows (h .1))
 
-  behind-table : (t : ℕ) (rows : List ℕ) → AllAlike rows → rowsBehindTable t cs rows ≡ rowsBehindTable t cs′ rows
+  pub behind-table : (t : ℕ) (rows : List ℕ) → AllAlike rows → rowsBehindTable t cs rows ≡ rowsBehindTable t cs′ rows
   unfolding rowsBehindTable
   behind-table t [] h = refl
   behind-table t (row ∷ rows) h = rw (h .0 .table, behind-table t rows (h .1))
 
-  behind-topic : (p : ℕ) (rows : List ℕ) → AllAlike rows → rowsBehindTopic (m .tables) p cs rows ≡ rowsBehindTopic (m .tables) p cs′ rows
+  pub behind-topic : (p : ℕ) (rows : List ℕ) → AllAlike rows → rowsBehindTopic (m .tables) p cs rows ≡ rowsBehindTopic (m .tables) p cs′ rows
   unfolding rowsBehindTopic
   behind-topic p [] h = refl
   behind-topic p (row ∷ rows) h = rw (h .0 .table, behind-topic p rows (h .1))
@@ -261,10 +261,10 @@ tables-alike m text c text′ c′ h = record {
 }
 
 module _ (m : Model) (text : List ℕ) (c : Content) (text′ : List ℕ) (c′ : Content) (s : TablesAlike m text c text′ c′) where
-  abbrev Alikes : List ℕ → Type 0
+  abbrev pub Alikes : List ℕ → Type 0
   Alikes rows = AllAlike m text (c .cells) text′ (c′ .cells) rows
 
-  all-objects : lentObjects text (c .cells) (c .rows) ≡ lentObjects text′ (c′ .cells) (c′ .rows)
+  pub all-objects : lentObjects text (c .cells) (c .rows) ≡ lentObjects text′ (c′ .cells) (c′ .rows)
   all-objects = objects-alike m text (c .cells) text′ (c′ .cells) (c .rows) (rows-alike m text (c .cells) text′ (c′ .cells) (c .rows) (s .cells) (s .texts)) ∙ ap (lentObjects text′ (c′ .cells)) (s .rows)
 
   object-alike : {t : ℕ} {before : List ℕ} {at k k′ : ℕ} → Alikes before → RowAlike m text (c .cells) text′ (c′ .cells) at → ObjectOk m text c t before at k k′ → ObjectOk m text′ c′ t before at k k′

@@ -7,7 +7,8 @@ use Rattle.meaning.specs.Unfold.{lines, fault, Unfolded, unfoldFile}
 use Rattle.meaning.specs.Check.{bad, good, Checked, checkModel}
 use Rattle.meaning.specs.Answer.{Answer, textChecked, unfoldText}
 use Rattle.meaning.specs.Table.{read, readUnfolded, readChecked}
-use Rattle.meaning.specs.Claims.{CutUnfolds, UnfoldsCut, OnlyCut, OneCut, CheckedGood, GoodMark, CutReadsAsLines, CutUnfoldsToText, BadModelReads, CutUnder, CutsReadAlike, RefusalZeroes, BuffersKept, CountsSayWhatIsUsed, WidthCuts}
+use Rattle.meaning.specs.Claims.{CutUnfolds, UnfoldsCut, OnlyCut, OneCut, CheckedGood, GoodMark, CutReadsAsLines, CutUnfoldsToText, BadModelReads, CutUnder, CutsReadAlike, RefusalZeroes, BuffersKept, CountsSayWhatIsUsed, UnfoldingRefusalZeroes, UnfoldingKeepsRoom, WidthCuts}
+use Rattle.meaning.proofs.TextLeft as text-left
 use Rattle.meaning.proofs.Cuts as cuts
 use Rattle.meaning.proofs.Marks as marks
 use Rattle.meaning.proofs.GoodModels as models
@@ -69,3 +70,9 @@ counts-say-what-is-used model file rooms objects count points e = subst (λ (a :
 
 pub width-cuts : WidthCuts
 width-cuts mark width ls h = widths.width-cuts mark width ls h
+
+pub unfolding-refusal-zeroes : UnfoldingRefusalZeroes
+unfolding-refusal-zeroes model file room = text-left.unfolding-left model file room .zeroes
+
+pub unfolding-keeps-room : UnfoldingKeepsRoom
+unfolding-keeps-room model file room = text-left.unfolding-left model file room .keeps

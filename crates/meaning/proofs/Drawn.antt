@@ -103,7 +103,7 @@ record PointGiven (u : ℕ) (ks : List Component) (vs : List ℤ) : Type 0 where
   values : PointValues u ks x y z
   four : (kind : ℕ) → pointCells kind vs ≡ pos kind ∷ x ∷ y ∷ z ∷ []
 
-no-dimension : (n : ℕ) → isDimension (suc (suc (suc (suc n)))) ≡ true → ⊥
+pub no-dimension : (n : ℕ) → isDimension (suc (suc (suc (suc n)))) ≡ true → ⊥
 unfolding isDimension
 no-dimension n h = by (eqb (suc (suc (suc (suc n)))) 2) (eqb (suc (suc (suc (suc n)))) 3) refl refl h
   where

@@ -107,7 +107,7 @@ delivered-not marks j e = rw e
 delivered-is : (marks : List ℕ) (j : ℕ) → getD marks j 0 ≡ 1 → not (eqb (getD marks j 0) 0) ≡ true
 delivered-is marks j e = rw e
 
-drop-next : {A : Type 0} (l : List A) (i : ℕ) (d : A) → i < length l → drop i l ≡ getD l i d ∷ drop (i + 1) l
+pub drop-next : {A : Type 0} (l : List A) (i : ℕ) (d : A) → i < length l → drop i l ≡ getD l i d ∷ drop (i + 1) l
 drop-next l i d h = rw (add-one i) (drop-cons l i d h)
 
 module _ (m : Model) (text : List ℕ) (c : Content) {marks before : List ℕ} {at k : ℕ} {rows : List ℕ} where

@@ -41,15 +41,15 @@ fields-are start (b ∷ l) = by (separator b) refl (goesOn l) (fieldsOf (start +
 
 -- ## What did not refuse
 
-record Put (v : Value) (others : Cells) (xs : List ℤ) : Type 0 where
-  a : ℤ
-  b : ℤ
-  ys : List ℤ
-  value : v ≡ pair a b
-  rest : others ≡ cells ys
-  whole : xs ≡ a ∷ b ∷ ys
+pub record Put (v : Value) (others : Cells) (xs : List ℤ) : Type 0 where
+  pub a : ℤ
+  pub b : ℤ
+  pub ys : List ℤ
+  pub value : v ≡ pair a b
+  pub rest : others ≡ cells ys
+  pub whole : xs ≡ a ∷ b ∷ ys
 
-put-inv : (place : ℕ) (v : Value) (others : Cells) (xs : List ℤ) → putPair place v others ≡ cells xs → Put v others xs
+pub put-inv : (place : ℕ) (v : Value) (others : Cells) (xs : List ℤ) → putPair place v others ≡ cells xs → Put v others xs
 unfolding putPair
 put-inv place (wrong n) others xs e = absurd (no-cells n place xs e)
 put-inv place (pair a b) (refused n f) xs e = absurd (no-cells n f xs e)

@@ -7,10 +7,10 @@ use mathlib.Core.Bool.{Bool, true, false, not, _&&_, _||_, true≢false, false�
 use mathlib.Core.List.{List, [], _∷_, _++_}
 use lib.Dec.{leb, ltb, eqb}
 use lib.ListN.{length, drop, getD, length-append}
-use borrow.Author.Tests.{ltb-true, lt-ltb, le-leb, eqb-true, eqb-false, eq-eqb, ne-eqb, not-false, not-true}
+use borrow.Author.Tests.{ltb-true, lt-ltb, leb-true, le-leb, eqb-true, eqb-false, eq-eqb, ne-eqb, not-false, not-true}
 use Rattle.meaning.specs.Bytes.{choose, refuse, allOf, same, byteAt}
 use Rattle.meaning.specs.Model.{Records, finish, overrun, entry, Attribute, Table, Model, flagOf, typeOf, targetOf, attributeOf, attributesOf, tablesOf, topicsOf, modelOf, nameOf}
-use Rattle.meaning.specs.Check.{Checked, good, bad, Seen, nothingSeen, special, isName, isType, goodType, isAmong, follows, followsTransfer, keeps, keepsTransfer, keepsTopic, keepsTable, keepsAttribute, see, isOutside, judgeAttributes, judgeReferences, checkRecords, checkModel, goodNames, attributeNames, tableNames, goodTypes, goodTables, GoodModel}
+use Rattle.meaning.specs.Check.{Checked, good, bad, Seen, nothingSeen, special, isName, isType, goodType, isAmong, follows, followsTransfer, keeps, keepsTransfer, keepsTopic, keepsTable, keepsAttribute, see, isOutside, judgeAttributes, judgeReferences, checkRecords, checkModel, goodNames, attributeNames, tableNames, goodTypes, goodTables, inTopicOrder, GoodModel}
 use Rattle.meaning.proofs.Cuts.{both}
 use Rattle.meaning.proofs.Marks.{bad-good, passed, references-good, attributes-good, holds, rest-good, is-transfer}
 use Rattle.meaning.proofs.Same.{same-is, same-refl, same-not}
@@ -28,7 +28,7 @@ neither : (a b : Bool) → (a || b) ≡ false → (a ≡ false) × (b ≡ false)
 neither true b h = absurd (true≢false h)
 neither false b h = (refl, h)
 
-same-swap : (s t : List ℕ) → same s t ≡ false → same t s ≡ false
+pub same-swap : (s t : List ℕ) → same s t ≡ false → same t s ≡ false
 same-swap s t h = same-not t s (λ e. true≢false (sym (same-refl s) ∙ ap (same s) (sym e) ∙ h))
 
 -- not among these and one more
@@ -305,6 +305,24 @@ all-good n ts (t ∷ others) u m a h =
     let y = types-good ts (t .topic) (t .attributes) _ m (o .4) h in
     rw (lt-ltb (t .topic) n (o .0), le-leb 1 (length (t .attributes)) (o .1), le-leb (length (t .attributes)) 64 (o .2), o .3, y, r)
 
+-- ## The order of tables
+
+order-later : (a b : ℕ) (ts : List Table) → b ≤ a → inTopicOrder a ts ≡ true → inTopicOrder b ts ≡ true
+unfolding inTopicOrder
+order-later a b [] l h = refl
+order-later a b (t ∷ ts) l h = let r = both (leb a (t .topic)) _ h in rw (le-leb b (t .topic) (omega (arith, leb-true a (t .topic) (r .0)))) (r .1)
+
+in-order : (rs : Records) (k : ℕ) → inTopicOrder (k - 1) (tablesOf k rs) ≡ true
+unfolding tablesOf choose inTopicOrder
+in-order (finish at) k = refl
+in-order (overrun at) k = refl
+in-order (entry at kind p others) k = go (eqb kind 3) (eqb kind 4) refl refl (λ k′. in-order others k′)
+  where
+    go : (x y : Bool) → eqb kind 3 ≡ x → eqb kind 4 ≡ y → ((k′ : ℕ) → inTopicOrder (k′ - 1) (tablesOf k′ others) ≡ true) → inTopicOrder (k - 1) (tablesOf k (entry at kind p others)) ≡ true
+    go true y q r i = rw (eqb-true kind 3 q) (order-later (k + 1 - 1) (k - 1) (tablesOf (k + 1) others) (omega arith) (i (k + 1)))
+    go false true q r i = rw (eqb-true kind 4 r, le-leb (k - 1) (k - 1) (omega arith)) (i k)
+    go false false q r i = rw (q, r) (i k)
+
 -- ## The model
 
 module _ (b : List ℕ) (m : Model) (h : checkModel b ≡ good m) where
@@ -362,4 +380,5 @@ module _ (b : List ℕ) (m : Model) (h : checkModel b ≡ good m) where
     tableLimit = omega (arith, tables-limit, ap length tables-are);
     tables = all-good (length (m .topics)) (m .tables) (m .tables) (good m) m all-ok references;
     namesInTopic = λ topic. subst (λ (ts : List Table). goodNames (tableNames topic ts) ≡ true) tables-are (names-good rs 0 0 nothingSeen last m (λ q. omega arith) passes .0 topic);
+    tableOrder = subst (λ (ts : List Table). inTopicOrder 0 ts ≡ true) tables-are (in-order rs 0);
   }

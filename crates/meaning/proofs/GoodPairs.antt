@@ -57,7 +57,7 @@ pairs-good m good t = tables-good (length (m .topics)) (m .tables) (m .tables) t
 
 -- ## Names
 
-names-good : (names : List (List ℕ)) (n : ℕ) → goodNames names ≡ true → n < length names → isName 24 (getD names n []) ≡ true
+pub names-good : (names : List (List ℕ)) (n : ℕ) → goodNames names ≡ true → n < length names → isName 24 (getD names n []) ≡ true
 unfolding goodNames
 names-good [] n h l = absurd (omega arith)
 names-good (name ∷ names) zero h l = holds _ 0 h

@@ -58,6 +58,7 @@ went-on true room k at n w h = absurd (not-accepted k at n h)
 went-on false room k at n w h = (refl, h, refl)
 
 pub record WrittenAs (m : Model) (t : Lent) (width room n : ℕ) (w : Written) : Type 0 where
+  pub wide : 16 ≤ width
   pub table : isTable m t ≡ true
   pub size : length (cutLines (m .mark) width (linesOf m (t .text) (contentOf m t))) ≡ n
   pub fits : n ≤ 16777216
@@ -73,6 +74,7 @@ written-as model m t width room n e h =
     let size : length file ≡ n = cc (d .1) in
     let q = neither (ltb room (length file)) (ltb 16777216 (length file)) (d .0) in
     record {
+      wide = ltb-false width 16 (neither (ltb width 16) (ltb 65535 width) (a .0) .0);
       table = not-false _ (b .0);
       size = size;
       fits = omega (arith, ltb-false 16777216 (length file) (q .1));

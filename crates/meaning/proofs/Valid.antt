@@ -12,10 +12,11 @@ use Rattle.meaning.specs.Model.{Component, AttributeType, Reference, Tex
 use Rattle.meaning.specs.Field.{STPT, LIPT, ARCP}
 use Rattle.meaning.specs.Value.{pair, isIdentification, valueOf}
 use Rattle.meaning.specs.Row.{Pair, OfAttribute, OfComponent, OfLine, pairsOf}
-use Rattle.meaning.specs.Reading.{LineState, unstarted, reached, LineCode, stpt, lipt, arcp, point, move, isForbidden, Content, findTopic, findTable, mandatoryBetween, Object, cellAt, isUsed}
+use Rattle.meaning.specs.Reading.{LineState, unstarted, reached, LineCode, stpt, lipt, arcp, point, move, isForbidden, Content, findTopic, findTable, mandatoryBetween, isUsed}
 use Rattle.meaning.specs.Table.{findObject}
 use Rattle.meaning.specs.Writing.{stretchBytes, identificationBytes, typeBytes, rowsOfTable, rowsBehindTable, rowsBehindTopic, isDelivered}
 use Rattle.meaning.specs.Readback.{isText}
+unfoldable pub use Rattle.meaning.specs.Judge.{lentObjects}
 use Rattle.meaning.proofs.Fields.{Solid}
 use Rattle.meaning.proofs.Numerals.{Defined, NumberOk}
 
@@ -52,11 +53,6 @@ pub data PointsOk (u forms : ℕ) (ks : List Component) : LineState → ℕ → 
       → PointsOk u forms ks state (suc n) (pos (kindCell kind) ∷ x ∷ y ∷ z ∷ points)
 
 -- ## Rows
-
--- the objects of a table, each with its table and the bytes of its identification
-unfoldable pub lentObjects : (text : List ℕ) → List ℤ → (rows : List ℕ) → List Object
-lentObjects text cs [] = []
-lentObjects text cs (row ∷ rows) = record { table = cellAt cs row; identification = identificationBytes text cs row } ∷ lentObjects text cs rows
 
 -- the pairs of a row whose cells are these, and its line attributes from point k on, up to another point
 pub data RowOk (u : ℕ) (text : List ℕ) (c : Content) : (before : Bool) (k : ℕ) → List Pair → List ℤ → ℕ → Type 0 where

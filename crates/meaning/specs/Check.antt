@@ -239,6 +239,11 @@ goodTables topics ts (t ∷ others) = allOf
     ∷ goodTables topics ts others
     ∷ [])
 
+-- the tables stand in the order of their topics, the first of them in topic `least` or a later one
+unfoldable pub inTopicOrder : (least : ℕ) → List Table → Bool
+inTopicOrder least [] = true
+inTopicOrder least (t ∷ others) = leb least (t .topic) && inTopicOrder (t .topic) others
+
 -- what is known of every model that the check calls good
 pub record GoodModel (m : Model) : Type 0 where
   pub blank : special (m .blank) ≡ true
@@ -255,3 +260,4 @@ pub record GoodModel (m : Model) : Type 0 where
   pub tableLimit : length (m .tables) ≤ 512
   pub tables : goodTables (length (m .topics)) (m .tables) (m .tables) ≡ true
   pub namesInTopic : (topic : ℕ) → goodNames (tableNames topic (m .tables)) ≡ true
+  pub tableOrder : inTopicOrder 0 (m .tables) ≡ true

@@ -113,6 +113,13 @@ CountsSayWhatIsUsed =
     (model file : List ℕ) (rooms : Rooms) (objects count points : ℕ) → read model file rooms .answer ≡ accepted objects count points
     → UsedBy rooms objects count points (read model file rooms)
 
+-- the unfolding's text room, likewise
+abbrev pub UnfoldingRefusalZeroes : Type 0
+UnfoldingRefusalZeroes = (model file : List ℕ) (room number first second : ℕ) → unfoldText model file room .answer ≡ refusal number first second → unfoldText model file room .text ≡ replicate room 0
+
+abbrev pub UnfoldingKeepsRoom : Type 0
+UnfoldingKeepsRoom = (model file : List ℕ) (room : ℕ) → length (unfoldText model file room .text) ≡ room
+
 -- ## Writing
 
 -- the writer's lines, cut to any width, are a cut of them

@@ -1,11 +1,13 @@
--- What is proved of writing: unwritable exactly when no lines read as the table, and the round trip. Proved in proofs/WritingClaims.antt.
-use Prim.Native.Nat.{ℕ, _≤_}
+-- What is proved of writing: unwritable exactly when no lines read as the table, the judge that says so, and the round trip. Proved in proofs/WritingClaims.antt.
+use Prim.Native.Nat.{ℕ, _+_, _-_, _≤_}
 use mathlib.Core.Path.{_≡_}
-use mathlib.Core.Bool.{true}
-use mathlib.Core.List.{List}
+use mathlib.Core.Bool.{Bool, true, _&&_}
+use mathlib.Core.List.{List, [], _∷_}
 use mathlib.Core.Logic.{_↔_}
 use lib.IntN.{ℤ}
-use lib.ListN.{length, take}
+use lib.Dec.{ltb, eqb}
+use lib.ListN.{length, take, drop, replicate}
+use Rattle.meaning.specs.Bytes.{choose}
 use Rattle.meaning.specs.Unfold.{unfoldedText}
 use Rattle.meaning.specs.Model.{Model}
 use Rattle.meaning.specs.Check.{good, checkModel}
@@ -13,7 +15,8 @@ use Rattle.meaning.specs.Answer.{accepted, refusal}
 use Rattle.meaning.specs.Reading.{Content, Rooms}
 use Rattle.meaning.specs.Table.{Result, acceptedWith, read}
 use Rattle.meaning.specs.Writing.{Lent, markCount, countsFit, contentOf, linesOf}
-use Rattle.meaning.specs.Readback.{sameTable, readsAs}
+use Rattle.meaning.specs.Readback.{sameTable, readsAs, isTable}
+use Rattle.meaning.specs.Judge.{judge}
 use Rattle.meaning.specs.Width.{write}
 
 -- ## Unwritable exactly when
@@ -32,6 +35,10 @@ abbrev pub Unwritable : Type 0
 Unwritable =
     (model : List ℕ) (m : Model) (t : Lent) (width room : ℕ) → checkModel model ≡ good m → 16 ≤ width → width ≤ 65535
     → (write model t width room .answer ≡ refusal 19 0 0) ↔ NoLines m t
+
+-- the judge of a lent table, which reads no lines, says exactly whether the table's own lines read as it
+abbrev pub JudgedExactly : Type 0
+JudgedExactly = (model : List ℕ) (m : Model) (t : Lent) → checkModel model ≡ good m → judge m t ≡ isTable m t
 
 -- ## The round trip
 
@@ -66,3 +73,45 @@ abbrev pub RoundTripCounts : Type 0
 RoundTripCounts =
     (m : Model) (t : Lent) (rooms : Rooms) (r : Result) → countsFit m t ≡ true → ReadBack m t rooms r
     → r .answer ≡ accepted (t .objects) (t .cellCount) (t .pointCount)
+
+-- a table that was read, as it is lent to writing: the whole buffers, and its counts
+abbrev pub lentAgain : Result → (objects cells points : ℕ) → Lent
+lentAgain r o c p = record { text = r .text; marks = r .marks; rows = r .rows; cells = r .cells; points = r .points; objects = o; cellCount = c; pointCount = p }
+
+-- and written again it gives the same bytes, at that width or another
+abbrev pub WrittenAgain : Type 0
+WrittenAgain =
+    (model : List ℕ) (m : Model) (t : Lent) (width room n : ℕ) (rooms : Rooms) → checkModel model ≡ good m → write model t width room .answer ≡ accepted n 0 0
+    → Enough m (linesOf m (t .text) (contentOf m t)) (contentOf m t) rooms → (width′ room′ : ℕ)
+    → write model (lentAgain (read model (take n (write model t width room .output)) rooms) (t .objects) (t .cellCount) (t .pointCount)) width′ room′ ≡ write model t width′ room′
+
+-- ## What writing leaves in its room
+
+-- "All result buffers are zeroed by every refusal"
+abbrev pub WritingRefusalZeroes : Type 0
+WritingRefusalZeroes =
+    (model : List ℕ) (t : Lent) (width room number first second : ℕ) → write model t width room .answer ≡ refusal number first second → write model t width room .output ≡ replicate room 0
+
+-- the room keeps its length, and behind the bytes written there are zeros
+pub record RoomUsed (room n : ℕ) (output : List ℕ) : Type 0 where
+  pub fits : n ≤ room
+  pub behind : drop n output ≡ replicate (room - n) 0
+
+abbrev pub WritingKeepsRoom : Type 0
+WritingKeepsRoom = (model : List ℕ) (t : Lent) (width room : ℕ) → length (write model t width room .output) ≡ room
+
+abbrev pub WrittenZeroBehind : Type 0
+WrittenZeroBehind = (model : List ℕ) (t : Lent) (width room n : ℕ) → write model t width room .answer ≡ accepted n 0 0 → RoomUsed room n (write model t width room .output)
+
+-- ## The width
+
+-- no physical line of these bytes is longer than the width, the first of which has so many bytes before them
+unfoldable pub fitsWidth : (width column : ℕ) → List ℕ → Bool
+fitsWidth width column [] = true
+fitsWidth width column (b ∷ s) = choose (eqb b 0x0a) (fitsWidth width 0 s) (ltb column width && fitsWidth width (column + 1) s)
+
+-- "the rest goes out whole if it fits the width": no line of what is written is longer
+abbrev pub WrittenFitsWidth : Type 0
+WrittenFitsWidth =
+    (model : List ℕ) (m : Model) (t : Lent) (width room n : ℕ) → checkModel model ≡ good m → write model t width room .answer ≡ accepted n 0 0
+    → fitsWidth width 0 (take n (write model t width room .output)) ≡ true
