@@ -5,7 +5,8 @@ ghost use lib.ListN.{length, drop};
 ghost use Rattle.meaning.specs.Bytes.{choose};
 ghost use lib.Dec.{eqb};
 ghost use Rattle.meaning.specs.Model.{flagOf};
-ghost use Rattle.decode.specs.Records.{kindAt, payloadAt, nextAt};
+ghost use Rattle.meaning.specs.Check.{good, checkModel};
+ghost use Rattle.decode.specs.Records.{kindAt, payloadAt, nextAt, modelAt};
 ghost use Rattle.decode.specs.Held.{Held};
 ghost use Rattle.decode.specs.Meant.{numberOf, countOf, startOf, Sized, Decoded};
 ghost use Rattle.decode.specs.Standing.{AttributeHere};
@@ -47,6 +48,22 @@ pub fn first_record(model: &[u8]) -> usize
 {
     let second = next_at(model, 0);
     next_at(model, second)
+}
+
+// A good model's undefined byte.
+pub fn undefined_of(model: &[u8]) -> u8
+    requires { ⌜ checkModel (now model) ≡ good (modelAt (now model)) ⌝ }
+    ensures { λ r. ⌜ r ≡ modelAt (now (model .entry)) .undefined ⌝ }
+{
+    model[5]
+}
+
+// A good model's mark.
+pub fn mark_of(model: &[u8]) -> u8
+    requires { ⌜ checkModel (now model) ≡ good (modelAt (now model)) ⌝ }
+    ensures { λ r. ⌜ r ≡ modelAt (now (model .entry)) .mark ⌝ }
+{
+    model[6]
 }
 
 // Whether the table or attribute of the record at a byte is optional.

@@ -12,19 +12,19 @@ use crate::Resolved;
 use index::Found;
 
 // A part of the text.
-struct Part {
-    start: usize,
-    len: usize,
+pub struct Part {
+    pub start: usize,
+    pub len: usize,
 }
 
-fn least_of(a: usize, b: usize) -> usize
+pub fn least_of(a: usize, b: usize) -> usize
     ensures { λ r. ⌜ r ≡ min a b ⌝ }
 {
     if a <= b { a } else { b }
 }
 
 // A stretch, cut at the end of a text of so many bytes.
-fn cut_stretch(size: usize, start: usize, len: usize) -> Part
+pub fn cut_stretch(size: usize, start: usize, len: usize) -> Part
     ensures { λ r. ⌜ Cut size start len (r .start) (r .len) ⌝ }
 {
     let from = least_of(start, size);

@@ -6,11 +6,12 @@ ghost use Rattle.decode.specs.Records.{modelAt};
 ghost use Rattle.decode.specs.Standing.{Standing};
 ghost use Rattle.references.specs.Placed.{Placed};
 
-// A walk over the records from `first` on, which stands behind the model record.
-pub fn place_tables(model: &[u8], first: usize, places: &mut [usize])
+// A walk over the records from `first` on, which stands behind the model record; it counts the tables.
+pub fn place_tables(model: &[u8], first: usize, places: &mut [usize]) -> usize
     requires { ⌜ Standing (modelAt (now model)) (now model) first 0 0 ⌝ }
     requires { ⌜ length (modelAt (now model) .tables) ≤ length (now places) ⌝ }
-    ensures { λ _. ⌜ Placed (modelAt (now (model .entry))) (now (model .entry)) (now (places .exit)) ⌝ }
+    ensures count { λ r. ⌜ r ≡ length (modelAt (now (model .entry)) .tables) ⌝ }
+    ensures placed { λ _. ⌜ Placed (modelAt (now (model .entry))) (now (model .entry)) (now (places .exit)) ⌝ }
 {
     let mut at = first;
     let mut tables = 0;
@@ -18,7 +19,7 @@ pub fn place_tables(model: &[u8], first: usize, places: &mut [usize])
         let kind = decode::kind_at(model, at);
         let next = decode::next_at(model, at);
         if kind == 6 {
-            return;
+            return tables;
         }
         if kind == 4 {
             places[tables] = next;

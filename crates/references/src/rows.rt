@@ -15,13 +15,13 @@ use crate::Resolved;
 use crate::pairs;
 
 // How many fields and pairs an attribute has, by its type's number.
-struct Counts {
-    fields: usize,
-    pairs: usize,
+pub struct Counts {
+    pub fields: usize,
+    pub pairs: usize,
 }
 
 // A coordinate has a field and a pair for each component, a line no field on its object's line.
-fn count_of(kind: u8) -> Counts
+pub fn count_of(kind: u8) -> Counts
     ensures { λ r. ⌜ Counted kind (r .fields) (r .pairs) ⌝ }
 {
     match kind {

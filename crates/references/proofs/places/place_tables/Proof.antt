@@ -32,7 +32,10 @@ same-length : tie.Need-same-length Inv-loop μ-loop
 same-length c = omega (arith, c .before .before .before .loop .inv .2)
 
 returns : tie.Need-returns Inv-loop μ-loop
-returns c = let i = c .before .before .before .loop .inv in rw (sym (end-here _ _ _ _ _ (i .0 .1) (sym (c .before .before .kind-at .ensures) ∙ c .if1 .taken) .tables)) (i .1)
+returns c =
+    let i = c .before .before .before .loop .inv in
+    let e = end-here _ _ _ _ _ (i .0 .1) (sym (c .before .before .kind-at .ensures) ∙ c .if1 .taken) .tables in
+    (e, rw (sym e) (i .1))
 
 mul-places : tie.Need-mul-places Inv-loop μ-loop
 mul-places c = let i = c .before .before .before .before .loop .inv in omega (arith, table-here _ _ _ _ _ (i .0 .1) (sym (c .before .before .before .kind-at .ensures) ∙ c .if2 .taken) .inside, c .before .before .before .before .before .before .before .pre .1, i .2)
