@@ -1,2 +1,4 @@
 pub mod Text
 pub mod Steps
+pub mod Outcomes
+pub mod Same
