@@ -1,0 +1,4 @@
+pub mod Meant
+pub mod Marks
+pub mod Rows
+pub mod Tables

@@ -1,0 +1,26 @@
+-- What judging the marks of the tables needs and answers.
+use Prim.Native.Nat.{ℕ, _+_, _≤_}
+use mathlib.Core.Path.{_≡_}
+use mathlib.Core.Bool.{Bool, not, _&&_, _||_}
+use mathlib.Core.List.{List, []}
+use lib.ListN.{length, drop}
+use Rattle.meaning.specs.Model.{Table, Model}
+use Rattle.meaning.specs.Reading.{Content}
+use Rattle.meaning.specs.Judge.{judgeTables}
+
+-- a mark for each topic and each table
+pub record MarksFor (m : Model) (topics : ℕ) (marks : List ℕ) : Type 0 where
+  pub topics-are : topics ≡ length (m .topics)
+  pub room : length (m .topics) + length (m .tables) ≤ length marks
+
+-- a table with these marks and nothing else
+abbrev pub marksOnly : List ℕ → Content
+marksOnly marks = record { marks = marks; rows = []; cells = []; points = [] }
+
+-- the judge of the tables from table n on
+unfoldable pub tablesFrom : (topics : ℕ) (marks : List ℕ) → List Table → (n : ℕ) → Bool
+tablesFrom topics marks ts n = judgeTables topics (marksOnly marks) n (drop n ts)
+
+-- of a table: whether it is delivered, whether its topic is, and whether it is optional
+unfoldable pub isFine : (delivered inTopic optional : Bool) → Bool
+isFine a b o = (not a || b) && (a || not b || o)
