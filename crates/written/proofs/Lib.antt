@@ -1,0 +1,4 @@
+pub mod Cutting
+pub mod Ending
+pub mod Puts
+pub mod Runs

@@ -1,0 +1,27 @@
+-- A line's cuts by their count and places.
+use Prim.Native.Nat.{ℕ, zero, suc, _+_, _*_, _-_, _≤_, _<_}
+use mathlib.Core.Path.{_≡_}
+use mathlib.Core.List.{List, [], _∷_, _++_}
+use lib.ListN.{length, take, drop}
+use Rattle.meaning.specs.Bytes.{choose, ends, cont}
+use Rattle.meaning.specs.Width.{cutRest}
+
+-- a cut: the mark, the line's end, and CONT with its space before the next part
+abbrev pub cutBytes : (mark : ℕ) → List ℕ
+cutBytes mark = mark ∷ 0x0a ∷ cont
+
+-- l, cut so many times, and what stands behind it: the last cut lies behind `last` bytes of l, each other `step` bytes before the next
+unfoldable pub withCuts : (mark step count last : ℕ) (l behind : List ℕ) → List ℕ
+withCuts mark step zero last l behind = l ++ behind
+withCuts mark step (suc count) last l behind = withCuts mark step count (last - step) (take last l) (cutBytes mark ++ (drop last l ++ behind))
+
+-- "the rest goes out whole if it fits the width .. and does not end in the mark": what the last part of l has room for
+unfoldable pub lastRoom : (mark room : ℕ) → List ℕ → ℕ
+lastRoom mark room l = choose (ends mark l) 0 room
+
+-- the cuts of l where it does not go out whole: their count, and behind how many bytes the last lies
+pub record Counted (mark width : ℕ) (l : List ℕ) (count last : ℕ) : Type 0 where
+  pub cut : cutRest mark width (width - 1) l ≡ withCuts mark (width - 6) count last l (0x0a ∷ [])
+  pub placed : last ≡ 5 + count * (width - 6)
+  pub few : 10 * count ≤ last
+  pub near : last < length l + width
