@@ -1,0 +1,5 @@
+pub mod Given
+pub mod Follows
+pub mod Walks
+pub mod Answers
+pub mod Same
