@@ -1,51 +1,104 @@
-/* Asks the proved library every case of a file that tests/oracle/for_c.py wrote, and compares each answer and each byte of the text room with what the
- * independent implementation answers. Its exit status is 0 only where all agree. */
+/* Asks the proved library every case of a file that tests/oracle/for_c.py wrote (its layout stands there), and compares each answer and the whole content of
+ * each room with what the independent implementation answers. Its exit status is 0 only where all agree. */
 #include "vendorfinch.h"
 #include "kit/calls.h"
 
-static uint64_t number(const uint8_t *at, int size)
+enum { TEXT, MARKS, ROWS, CELLS, POINTS, INDEX, ANSWER, COUNT };
+static const size_t size_of[COUNT] = {1, 1, 8, 8, 8, 8, 8};
+static const size_t most = 64 << 20, largest = 4 << 20;
+static uint8_t *room[COUNT];
+static size_t length[COUNT];
+static const uint8_t *at;
+
+static uint64_t number(int size)
 {
     uint64_t n = 0;
     for (int i = size; i > 0; i--)
         n = 256 * n + at[i - 1];
+    at += size;
     return n;
+}
+
+static const uint8_t *bytes(size_t count)
+{
+    const uint8_t *from = at;
+    at += count;
+    return from;
+}
+
+/* A room of so many numbers, full of ones, and eight bytes behind it. */
+static void lend(int which)
+{
+    length[which] = number(4);
+    memset(room[which], 1, length[which] * size_of[which] + 8);
+}
+
+/* Whether every byte from one to before another is this one. */
+static int all(const uint8_t *got, size_t from, size_t to, uint8_t byte)
+{
+    for (size_t i = from; i < to; i++)
+        if (got[i] != byte)
+            return 0;
+    return 1;
+}
+
+/* Whether a room holds what the case says and zeros, and nothing was written behind it. */
+static int holds(int which)
+{
+    size_t used = number(4) * size_of[which], end = length[which] * size_of[which];
+    const uint8_t *expected = bytes(used), *got = room[which];
+    return used <= end && memcmp(got, expected, used) == 0 && all(got, used, end, 0) && all(got, end, end + 8, 1);
+}
+
+static int unfolds(const uint8_t *model, size_t model_length, const uint8_t *file, size_t file_length, uint64_t expected, uint64_t *got)
+{
+    lend(TEXT);
+    *got = vendorfinch_unfold(model, model_length, file, file_length, room[TEXT], length[TEXT]);
+    return holds(TEXT) && *got == expected;
+}
+
+static int reads(const uint8_t *model, size_t model_length, const uint8_t *file, size_t file_length, uint64_t expected, uint64_t *got)
+{
+    for (int which = TEXT; which < COUNT; which++)
+        lend(which);
+    uint64_t seed = number(8);
+    *got = vendorfinch_read(model, model_length, file, file_length, room[TEXT], length[TEXT], room[MARKS], length[MARKS], (uint64_t *)room[ROWS],
+                            length[ROWS], (int64_t *)room[CELLS], length[CELLS], (int64_t *)room[POINTS], length[POINTS], (uint64_t *)room[INDEX],
+                            length[INDEX], seed, (uint64_t *)room[ANSWER], length[ANSWER]);
+    int same = *got == expected && all(room[INDEX], 0, 8 * length[INDEX], 0);
+    for (int which = TEXT; which < INDEX; which++)
+        same &= holds(which);
+    return holds(ANSWER) && same;
 }
 
 int main(int count, char **names)
 {
-    const size_t most = 64 << 20;
-    uint8_t *all = malloc(most), *room = malloc(most);
+    uint8_t *cases = malloc(most);
     FILE *f = count == 2 ? fopen(names[1], "rb") : 0;
-    if (!f || !all || !room)
+    if (!f || !cases)
         return 2;
-    size_t size = fread(all, 1, most, f), at = 0;
+    size_t size = fread(cases, 1, most, f);
     fclose(f);
-    if (size == most)
-        return 2;
-    int compared = 0, wrong = 0;
-    while (at < size) {
-        size_t name = number(all + at, 4), model = number(all + at + 4, 4), file = number(all + at + 8, 4);
-        size_t text = number(all + at + 12, 4);
-        uint64_t expected = number(all + at + 16, 8), got;
-        const uint8_t *what = all + at + 24, *m = what + name, *bytes = m + model, *content = bytes + file;
-        int differs;
-        if (text == 4294967295) {
-            text = 0;
-            got = vendorfinch_check_model(m, model);
-            differs = got != expected;
-        } else {
-            memset(room, 1, text);
-            got = vendorfinch_unfold(m, model, bytes, file, room, text);
-            differs = got != expected || memcmp(room, content, text) != 0;
-        }
-        compared++;
-        if (differs) {
+    for (int which = 0; which < COUNT; which++)
+        if (size == most || !(room[which] = malloc(largest)))
+            return 2;
+    int compared[3] = {0, 0, 0}, wrong = 0;
+    for (at = cases; at < cases + size;) {
+        size_t call = number(4), name = number(4), model_length = number(4), file_length = number(4);
+        const uint8_t *what = bytes(name), *model = bytes(model_length), *file = bytes(file_length);
+        uint64_t expected = number(8), got;
+        int same;
+        if (call == 0)
+            same = (got = vendorfinch_check_model(model, model_length)) == expected;
+        else
+            same = (call == 1 ? unfolds : reads)(model, model_length, file, file_length, expected, &got);
+        compared[call]++;
+        if (!same) {
             wrong++;
             printf("%.*s: %llu %llu, expected %llu %llu\n", (int)name, what, (unsigned long long)(got % 256), (unsigned long long)(got / 256),
                    (unsigned long long)(expected % 256), (unsigned long long)(expected / 256));
         }
-        at += 24 + name + model + file + text;
     }
-    printf("cases: %d compared, %d wrong\n", compared, wrong);
-    return wrong != 0 || compared == 0;
+    printf("cases: %d of the check, %d of unfolding, %d of reading compared, %d wrong\n", compared[0], compared[1], compared[2], wrong);
+    return wrong != 0 || compared[0] == 0 || compared[1] == 0 || compared[2] == 0;
 }

@@ -108,6 +108,94 @@ static void refuse_files(void)
     holds("a bad model", text, zeros, 50);
 }
 
+/* What a call of reading lends. */
+static uint8_t marks[8];
+static uint64_t rows[8], links[32], answer[8];
+static int64_t cells[32], points[32];
+
+/* Reads `bytes` into buffers of these lengths that were full of ones. */
+static uint64_t read_into(const uint8_t *bytes, size_t length, size_t text_room, size_t mark_room, size_t row_room, size_t cell_room, size_t point_room,
+                          size_t index_room, size_t answer_room)
+{
+    memset(text, 1, sizeof text);
+    memset(marks, 1, sizeof marks);
+    memset(rows, 1, sizeof rows);
+    memset(cells, 1, sizeof cells);
+    memset(points, 1, sizeof points);
+    memset(links, 1, sizeof links);
+    memset(answer, 1, sizeof answer);
+    return vendorfinch_read(model, model_length, bytes, length, text, text_room, marks, mark_room, rows, row_room, cells, cell_room, points, point_room, links,
+                            index_room, 20260101, answer, answer_room);
+}
+
+static void numbers(const char *what, uint64_t first, uint64_t second, uint64_t third, uint64_t fourth)
+{
+    uint64_t expected[8] = {first, second, third, fourth, 0, 0, 0, 0};
+    holds(what, (const uint8_t *)answer, (const uint8_t *)expected, sizeof expected);
+}
+
+static void read_refused(const char *what, const uint8_t *bytes, size_t length, size_t rooms[5], uint64_t number, uint64_t first, uint64_t second)
+{
+    same(what, read_into(bytes, length, rooms[0], rooms[1], rooms[2], rooms[3], rooms[4], 32, 8), number, first);
+    numbers(what, number, first, second, 0);
+    holds(what, text, zeros, rooms[0]);
+    holds(what, marks, zeros, rooms[1]);
+    holds(what, (const uint8_t *)rows, zeros, 8 * rooms[2]);
+    holds(what, (const uint8_t *)cells, zeros, 8 * rooms[3]);
+    holds(what, (const uint8_t *)points, zeros, 8 * rooms[4]);
+    holds(what, (const uint8_t *)links, zeros, sizeof links);
+}
+
+/* 01's table of the sample. */
+static void read_sample(void)
+{
+    static const uint8_t delivered[8] = {1, 1, 1};
+    static const uint64_t starts[8] = {0, 9};
+    static const int64_t row_cells[32] = {0, 51, 2, 4, 54, 1, 100, 1, 205, 1, 91, 2, 1, 0, 0, 0, 4, 0};
+    static const int64_t point_cells[32] = {0, 100, 205, 0, 2, 110, 210, 0, 1, 120, 205, 0};
+    uint8_t expected[200] = {0};
+    memcpy(expected, file, file_length);
+    for (size_t index_room = 0; index_room <= 32; index_room += 4) {
+        same("reading the sample", read_into(file, file_length, 200, 8, 8, 32, 32, index_room, 8), 0, 2);
+        numbers("reading the sample", 0, 2, 18, 3);
+        holds("its text", text, expected, 200);
+        holds("its marks", marks, delivered, 8);
+        holds("its rows", (const uint8_t *)rows, (const uint8_t *)starts, sizeof starts);
+        holds("its cells", (const uint8_t *)cells, (const uint8_t *)row_cells, sizeof row_cells);
+        holds("its points", (const uint8_t *)points, (const uint8_t *)point_cells, sizeof point_cells);
+        holds("its index", (const uint8_t *)links, zeros, 8 * index_room);
+    }
+    same("the sample, rooms just enough", read_into(file, file_length, 169, 3, 2, 18, 12, 32, 8), 0, 2);
+    numbers("the sample, rooms just enough", 0, 2, 18, 3);
+    holds("its cells, just enough", (const uint8_t *)cells, (const uint8_t *)row_cells, 8 * 18);
+}
+
+static void refuse_reading(void)
+{
+    size_t rooms[6][5] = {{200, 8, 8, 32, 32}, {168, 8, 8, 32, 32}, {200, 2, 8, 32, 32}, {200, 8, 1, 32, 32}, {200, 8, 8, 17, 32}, {200, 8, 8, 32, 11}};
+    uint8_t other[200];
+    read_refused("reading an empty file", file, 0, rooms[0], 7, 1, 1);
+    read_refused("one byte of text too few", file, file_length, rooms[1], 6, 0, 0);
+    read_refused("one mark too few", file, file_length, rooms[2], 6, 0, 0);
+    read_refused("one row too few", file, file_length, rooms[3], 16, 10, 0);
+    read_refused("one cell too few", file, file_length, rooms[4], 16, 10, 0);
+    read_refused("one point too few", file, file_length, rooms[5], 16, 13, 0);
+    memcpy(other, file, file_length);
+    other[95] = '9';
+    read_refused("k9", other, file_length, rooms[0], 17, 1, 3);
+}
+
+/* The answer in as many numbers as there is room for. */
+static void read_short_answers(void)
+{
+    for (size_t room = 0; room <= 8; room++) {
+        uint64_t expected[8] = {0, 2, 18, 3, 0, 0, 0, 0};
+        memset(expected + room, 1, 8 * (8 - room));
+        same("the sample, a short answer", read_into(file, file_length, 200, 8, 8, 32, 32, 32, room), 0, 2);
+        holds("the sample, a short answer", (const uint8_t *)answer, (const uint8_t *)expected, sizeof expected);
+    }
+}
+
 int main(int count, char **names)
 {
     if (count != 3)
@@ -121,6 +209,9 @@ int main(int count, char **names)
     check_model();
     unfold_sample();
     refuse_files();
+    read_sample();
+    refuse_reading();
+    read_short_answers();
     printf("host: %d compared, %d wrong\n", compared, wrong);
     return wrong != 0;
 }

@@ -4,11 +4,20 @@
  * not overlap any other slice of the same call. No call asks anything else of its caller: each looks at all it is given,
  * refuses what is wrong, and returns. Every byte of a lent buffer is settled when a call returns.
  *
- * A call answers one number: the answer's first number plus 256 times its second. The first is 0, or a refusal:
- *   1 file above 16,777,216 bytes              4 byte not permitted (second: logical line, from 1)
- *   2 model bad (second: the record's byte)    5 mark not followed by CONT and a space (second: logical line)
- *   3 last line has no LF, or ends in the      6 too little room for the unfolded text
- *     mark (second: logical line)
+ * A call answers one number: the answer's first number plus 256 times its second. The first is 0, or a refusal; the second is then its place:
+ *   1 file above 16,777,216 bytes (0)            10 mandatory table skipped (line)
+ *   2 model bad (the record's byte)              11 field missing or extra (line)
+ *   3 last line has no LF, or ends in the        12 undefined where not allowed, mixed coordinate (line)
+ *     mark (line)                                13 field has wrong shape (line)
+ *   4 byte not permitted (line)                  14 outside its domain, text too long (line)
+ *   5 mark not followed by CONT and a            15 identification used twice (line)
+ *     space (line)                               16 no room for a row, its cells or a point (line)
+ *   6 too little room for unfolded text or       17 reference names no object of its table (object, from 0)
+ *     marks (0)                                  18 straight or arc not in the forms (line)
+ *   7 another line code expected, or no line
+ *     left (line, one past the last)             A line is a logical line, counted from 1.
+ *   8 MOTR in place of MTID (line)
+ *   9 name wrong or not in order (line)
  */
 #ifndef VENDORFINCH_H
 #define VENDORFINCH_H
@@ -28,5 +37,27 @@ uint64_t vendorfinch_check_model(const uint8_t *model, size_t model_length);
  * 1, 2, 3, 4, 5 or 6, the first of them in this order: the room holds nothing but zeros. */
 uint64_t vendorfinch_unfold(const uint8_t *model, size_t model_length, const uint8_t *file, size_t file_length,
                             uint8_t *text, size_t text_length);
+
+/* Reads a file under a model into a table.
+ * 0 and the number of objects, and in the lent buffers, with zeros behind their used part:
+ *   text    the unfolded text; as many bytes as the file has are always enough
+ *   marks   a byte per topic, then per table, 1 where delivered; 576 are enough for every model
+ *   rows    for each object the number of its row's first cell
+ *   cells   for each object its row: table, start and length of its identification in the text; then a pair per attribute, per component of a coordinate:
+ *           0 0 undefined; 1 and the value of a number, date or enumeration; 1 plus length and start of a text; 1 and the object of a reference;
+ *           1 plus the count of points and the first point of a line
+ *   points  four numbers each: 0 STPT, 1 LIPT, 2 ARCP; east; north; height or 0. A rest below four stays zero
+ * A refusal, the first in the fixed order: each of them holds nothing but zeros.
+ *
+ * index is working room, all zeros behind every call: three numbers for each of rows make reading fast, and a shorter one, of length 0 too, only costs
+ * time. seed is any number: one that nobody can guess keeps every file from making reading slow. Neither changes what is answered.
+ *
+ * answer gets the four numbers 0, objects, cells, points; or the refusal, its two place numbers (the second is the field, from 1), 0. It gets as many
+ * as there is room for, and zeros behind the fourth. Its length may be 0. */
+uint64_t vendorfinch_read(const uint8_t *model, size_t model_length, const uint8_t *file, size_t file_length,
+                          uint8_t *text, size_t text_length, uint8_t *marks, size_t marks_length,
+                          uint64_t *rows, size_t rows_length, int64_t *cells, size_t cells_length,
+                          int64_t *points, size_t points_length, uint64_t *index, size_t index_length,
+                          uint64_t seed, uint64_t *answer, size_t answer_length);
 
 #endif

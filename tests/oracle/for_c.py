@@ -1,30 +1,57 @@
-"""for_c.py OUT: writes every case of the model check and of the unfolding, with the oracle's answer, for host/cases.c. Each case: the lengths (u32, little-endian) of
-its name, model and file, the room (u32) or 4294967295 for the check, the answer's one number (u64), then name, model, file, and the text room's content."""
+"""for_c.py OUT: writes every case of the model check, the unfolding and reading, with the oracle's answer, for host/cases.c.
+
+A case is its call (u32: 0 check, 1 unfold, 2 read), the lengths of its name, model and file (u32 each), their bytes, and the answer's one number (u64).
+Unfolding adds its text room (u32); reading adds its rooms for text, marks, rows, cells, points, index and answer (u32 each) and the seed (u64). What each
+room then holds follows (text; or text, marks, rows, cells, points and answer): the count up to the last that is not zero (u32), and these, a byte each in text
+and marks and eight in the others. All is little-endian."""
 
 import struct
 import sys
 
 import cases
 import oracle
+import reads
+
+CALLS = {"check": 0, "unfold": 1, "read": 2}
+
+
+def content(values, code):
+    """A room's content without the zeros at its end."""
+    used = len(values)
+    while used and values[used - 1] == 0:
+        used -= 1
+    return struct.pack("<I%d%s" % (used, code), used, *values[:used])
+
+
+def put(out, call, name, model, file, answer, rest):
+    name = name.encode("latin-1", "replace")
+    out.write(struct.pack("<IIII", CALLS[call], len(name), len(model), len(file)) + name + bytes(model) + bytes(file))
+    out.write(struct.pack("<Q", answer[0] + 256 * answer[1]) + rest)
+
+
+def read_rest(result, rooms, index, seed, answer_room):
+    numbers = (list(result.answer) + [0] * answer_room)[:answer_room]
+    return (struct.pack("<IIIIIIIQ", rooms.text, rooms.marks, rooms.rows, rooms.cells, rooms.points, index, answer_room, seed) + content(result.text, "B")
+            + content(result.marks, "B") + content(result.rows, "Q") + content(result.cells, "q") + content(result.points, "q") + content(numbers, "Q"))
 
 
 def write(out):
-    count = {"check": 0, "unfold": 0}
+    count = dict.fromkeys(CALLS, 0)
     known = [case[:3] for case in cases.known()]
     for name, call, arguments in [*known, *cases.generated(), *cases.large()]:
         if call == "check":
-            model, file, room, text = arguments[0], b"", 4294967295, b""
-            answer = oracle.check(model)
+            put(out, call, name, arguments[0], b"", oracle.check(arguments[0]), b"")
         elif call == "unfold":
             model, file, room = arguments
             answer, text = oracle.unfold(model, file, room)
-            text = bytes(text)
+            put(out, call, name, model, file, answer, struct.pack("<I", room) + content(text, "B"))
         else:
             continue
         count[call] += 1
-        name = name.encode("latin-1", "replace")
-        out.write(struct.pack("<IIIIQ", len(name), len(model), len(file), room, answer[0] + 256 * answer[1]))
-        out.write(name + bytes(model) + bytes(file) + text)
+    for name, model, file, rooms, index, seed, answer_room in reads.all_cases():
+        result = oracle.read(model, file, rooms)
+        put(out, "read", name, model, file, result.answer, read_rest(result, rooms, index, seed, answer_room))
+        count["read"] += 1
     return count
 
 

@@ -11,14 +11,12 @@ use Rattle.meaning.specs.Bytes.{refuse}
 use Rattle.meaning.specs.Unfold.{unfoldFile}
 use Rattle.meaning.specs.Model.{Model}
 use Rattle.meaning.specs.Check.{Checked, good, bad, checkModel}
-use Rattle.meaning.specs.Answer.{Answer, accepted, refusal, TextResult, textRefused, textUnfolded, textChecked, unfoldText, checkAnswer, check, codeForC}
+use Rattle.meaning.specs.Answer.{TextResult, textRefused, textUnfolded, textChecked, unfoldText, checkAnswer, check, codeForC}
 use Rattle.meaning.proofs.Bounds.{BadBelow, bad-below}
 use Rattle.meaning.proofs.GoodModels.{checked-good}
-use Rattle.decode.specs.Records.{modelAt}
 use Rattle.unfold.specs.Answer.{Within}
 use Rattle.unfold.specs.declared.Answer as unfolded
 use Rattle.unfold.specs.declared.Answer.the-variants.{Text, Fault, NoRoom}
-use Rattle.decode.proofs.Checked.{begun}
 
 -- the answer of a check is small
 pub check-small : (b : List ℕ) → codeForC (check b) ≤ 16777218
@@ -28,23 +26,6 @@ check-small b = go (checkModel b) refl (bad-below b)
     go : (c : Checked) → checkModel b ≡ c → BadBelow 65536 c → codeForC (checkAnswer c) ≤ 16777218
     go (good m) e h = omega (arith, checked-good b m e .topicLimit)
     go (bad at) e h = omega arith
-
--- what the check found, from its answer
-pub found-good : (b : List ℕ) (topics : ℕ) → accepted topics 0 0 ≡ check b → checkModel b ≡ good (modelAt b)
-unfolding check checkAnswer
-found-good b topics h = go (checkModel b) refl
-  where
-    go : (c : Checked) → checkModel b ≡ c → checkModel b ≡ good (modelAt b)
-    go (good m) e = e ∙ ap good (sym (begun m b e .model))
-    go (bad at) e = let g : accepted topics 0 0 ≡ refusal 2 at 0 = rw e at h in let z : _≡_ {A = ℕ} 0 1 = cc in absurd (omega arith)
-
-pub found-bad : (b : List ℕ) (at : ℕ) → refusal 2 at 0 ≡ check b → checkModel b ≡ bad at
-unfolding check checkAnswer
-found-bad b at h = go (checkModel b) refl
-  where
-    go : (c : Checked) → checkModel b ≡ c → checkModel b ≡ bad at
-    go (good m) e = let g : refusal 2 at 0 ≡ accepted (length (m .topics)) 0 0 = rw e at h in let z : _≡_ {A = ℕ} 0 1 = cc in absurd (omega arith)
-    go (bad k) e = let g : refusal 2 at 0 ≡ refusal 2 k 0 = rw e at h in let same : at ≡ k = cc in e ∙ ap bad (sym same)
 
 module _ (b file : List ℕ) (room : ℕ) where
   pub too-long : 16777216 < length file → unfoldText b file room ≡ textRefused room 1 0

@@ -1,1 +1,4 @@
 pub mod Codes
+pub mod LineCounts
+pub mod RowCounts
+pub mod Answers

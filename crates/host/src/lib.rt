@@ -1,12 +1,18 @@
-// The functions exported to C, each on byte slices, each answering one u64: the answer's first number plus 256 times its second.
+// The functions exported to C, each on slices, each answering one u64: the answer's first number plus 256 times its second.
 ghost use mathlib.Core.Path.{_≡_};
 ghost use Prim.Native.Nat.{_≤_};
-ghost use lib.ListN.{length};
+ghost use lib.ListN.{length, replicate};
 ghost use Rattle.meaning.specs.Check.{good, checkModel};
 ghost use Rattle.meaning.specs.Answer.{check, unfoldText, codeForC};
 ghost use Rattle.model.specs.Walk.{checkedMeant};
 ghost use Rattle.decode.specs.Records.{modelAt};
+ghost use Rattle.meaning.specs.Table as table;
 ghost use Rattle.unfold.specs.Answer.{answerOf, Within};
+ghost use Rattle.reader.specs.Steps.{roomsOf};
+ghost use Rattle.host.specs.Numbers.{numbersIn};
+
+mod numbers;
+
 use model::check::Checked;
 use unfold::Answer;
 
@@ -33,14 +39,6 @@ fn code_of_text(answer: Answer) -> u64
     }
 }
 
-// A good model's mark.
-fn mark_of(model: &[u8]) -> u8
-    requires { ⌜ checkModel (now model) ≡ good (modelAt (now model)) ⌝ }
-    ensures { λ r. ⌜ r ≡ modelAt (now (model .entry)) .mark ⌝ }
-{
-    model[6]
-}
-
 // 0 and the number of topics, or 2 and the byte of the first bad record.
 #[no_mangle]
 pub extern "C" fn vendorfinch_check_model(model: &[u8]) -> u64
@@ -65,6 +63,35 @@ pub extern "C" fn vendorfinch_unfold(model: &[u8], file: &[u8], text: &mut [u8])
             text::rooms::clear(text);
             code_of_check(checked)
         }
-        Checked::Good(_) => code_of_text(unfold::unfold_with(file, mark_of(model), text)),
+        Checked::Good(_) => code_of_text(unfold::unfold_with(file, decode::mark_of(model), text)),
     }
+}
+
+// 0 and the number of objects, or a refusal's number and its first place number; `answer` gets the four numbers, as many as it has room for. The table stands in the lent
+// buffers, with zeros behind; a refusal leaves nothing but zeros. The index is only working room, and zero again.
+#[no_mangle]
+pub extern "C" fn vendorfinch_read(
+    model: &[u8],
+    file: &[u8],
+    text: &mut [u8],
+    marks: &mut [u8],
+    rows: &mut [u64],
+    cells: &mut [i64],
+    points: &mut [i64],
+    index: &mut [u64],
+    seed: u64,
+    answer: &mut [u64],
+) -> u64
+    ensures code { λ r. ⌜ r ≡ codeForC (table.read (now (model .entry)) (now (file .entry)) (roomsOf (now (text .entry)) (now (marks .entry)) (now (rows .entry)) (now (cells .entry)) (now (points .entry))) .answer) ⌝ }
+    ensures text { λ _. ⌜ now (text .exit) ≡ table.read (now (model .entry)) (now (file .entry)) (roomsOf (now (text .entry)) (now (marks .entry)) (now (rows .entry)) (now (cells .entry)) (now (points .entry))) .text ⌝ }
+    ensures marks { λ _. ⌜ now (marks .exit) ≡ table.read (now (model .entry)) (now (file .entry)) (roomsOf (now (text .entry)) (now (marks .entry)) (now (rows .entry)) (now (cells .entry)) (now (points .entry))) .marks ⌝ }
+    ensures rows { λ _. ⌜ now (rows .exit) ≡ table.read (now (model .entry)) (now (file .entry)) (roomsOf (now (text .entry)) (now (marks .entry)) (now (rows .entry)) (now (cells .entry)) (now (points .entry))) .rows ⌝ }
+    ensures cells { λ _. ⌜ now (cells .exit) ≡ table.read (now (model .entry)) (now (file .entry)) (roomsOf (now (text .entry)) (now (marks .entry)) (now (rows .entry)) (now (cells .entry)) (now (points .entry))) .cells ⌝ }
+    ensures points { λ _. ⌜ now (points .exit) ≡ table.read (now (model .entry)) (now (file .entry)) (roomsOf (now (text .entry)) (now (marks .entry)) (now (rows .entry)) (now (cells .entry)) (now (points .entry))) .points ⌝ }
+    ensures index { λ _. ⌜ now (index .exit) ≡ replicate (length (now (index .entry))) 0 ⌝ }
+    ensures answer { λ _. ⌜ now (answer .exit) ≡ numbersIn (length (now (answer .entry))) (table.read (now (model .entry)) (now (file .entry)) (roomsOf (now (text .entry)) (now (marks .entry)) (now (rows .entry)) (now (cells .entry)) (now (points .entry))) .answer) ⌝ }
+{
+    let read = reader::read(model, file, text, marks, rows, cells, points, index, seed);
+    numbers::store(read, answer);
+    numbers::code_of_read(read)
 }

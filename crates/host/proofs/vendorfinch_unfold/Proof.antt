@@ -7,7 +7,8 @@ use Rattle.meaning.specs.Unfold.{unfoldFile}
 use Rattle.meaning.specs.Answer.{TextResult, textUnfolded, codeForC}
 use Rattle.model.specs.Walk.{checkedMeant}
 use Rattle.model.specs.declared.check.Checked.{Checked}
-use Rattle.host.proofs.Codes.{check-small, found-good, found-bad, too-long, under-bad, under-good, within-limit}
+use Rattle.model.proofs.Found.{found-good, found-bad}
+use Rattle.host.proofs.Codes.{check-small, too-long, under-bad, under-good, within-limit}
 use Rattle.host.proofs.vendorfinch_unfold.Statement.{statement}
 use Rattle.host.proofs.vendorfinch_unfold.Tie as tie
 
