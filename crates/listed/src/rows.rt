@@ -3,7 +3,7 @@ ghost use mathlib.Core.Path.{_≡_};
 ghost use mathlib.Core.List.{_++_, _∷_, []};
 ghost use Prim.Native.Nat.{_+_, _-_, _*_, _≤_, _<_};
 ghost use lib.Dec.{ltb};
-ghost use lib.ListN.{length, take, drop};
+ghost use lib.ListN.{length, take, drop, getD};
 ghost use Rattle.meaning.specs.Bytes.{choose};
 ghost use Rattle.meaning.specs.Digits.{numberBytes};
 ghost use Rattle.meaning.specs.Listing.{printRow};
@@ -76,7 +76,9 @@ pub fn put_part(cells: &[i64], from: usize, to: usize, out: &mut [u8]) -> usize
 }
 
 // The row's first cell, or the end of all behind the last row.
-pub fn row_end(rows: &[u64], i: usize, all: usize) -> usize {
+pub fn row_end(rows: &[u64], i: usize, all: usize) -> usize
+    ensures { λ r. ⌜ r ≡ choose (ltb i (length (now (rows .entry)))) (getD (now (rows .entry)) i 0) all ⌝ }
+{
     if i < rows.len() {
         rows[i] as usize
     } else {

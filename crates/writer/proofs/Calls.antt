@@ -17,31 +17,14 @@ use Rattle.meaning.specs.Readback.{isTable}
 use Rattle.meaning.specs.Width.{writingRefused, cutLines, writeBytes, writeChecked, write}
 use Rattle.text.proofs.Fill.{to-end}
 use Rattle.decode.specs.Records.{modelAt}
-use Rattle.decode.proofs.Checked.{begun, holds}
+use Rattle.decode.proofs.Checked.{holds}
+use Rattle.model.proofs.Found.{found-bad}
 use Rattle.written.specs.declared.Put.{Put}
 use Rattle.written.specs.declared.Put.the-variants.{At, Full}
 use Rattle.written.specs.Puts.{Puts}
 use Rattle.written.proofs.Puts.{keeps-room, at-front}
 use Rattle.writer.specs.Walks.{contentIn}
 use Rattle.writer.specs.Answers.{refusalOf, Fitting, Limited, Inside, settledOf}
-
--- ## What the check of the model found
-
-pub found-good : (b : List ℕ) (topics : ℕ) → accepted topics 0 0 ≡ check b → checkModel b ≡ good (modelAt b)
-unfolding check checkAnswer
-found-good b topics h = go (checkModel b) refl
-  where
-    go : (c : Checked) → checkModel b ≡ c → checkModel b ≡ good (modelAt b)
-    go (good m) e = e ∙ ap good (sym (begun m b e .model))
-    go (bad at) e = let g : accepted topics 0 0 ≡ refusal 2 at 0 = rw e at h in let z : _≡_ {A = ℕ} 0 1 = cc in absurd (omega arith)
-
-found-bad : (b : List ℕ) (at : ℕ) → refusal 2 at 0 ≡ check b → checkModel b ≡ bad at
-unfolding check checkAnswer
-found-bad b at h = go (checkModel b) refl
-  where
-    go : (c : Checked) → checkModel b ≡ c → checkModel b ≡ bad at
-    go (good m) e = let g : refusal 2 at 0 ≡ accepted (length (m .topics)) 0 0 = rw e at h in let z : _≡_ {A = ℕ} 0 1 = cc in absurd (omega arith)
-    go (bad k) e = let g : refusal 2 at 0 ≡ refusal 2 k 0 = rw e at h in let same : at ≡ k = cc in e ∙ ap bad (sym same)
 
 module _ (b : List ℕ) (t : Lent) (width room : ℕ) where
   pub under-bad : (at : ℕ) → refusal 2 at 0 ≡ check b → write b t width room ≡ writingRefused room 2 at

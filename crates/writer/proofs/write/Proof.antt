@@ -6,7 +6,8 @@ use lib.ListN.{length, replicate}
 use Rattle.meaning.specs.Width.{Written}
 use Rattle.model.specs.Walk.{checkedMeant}
 use Rattle.judge.specs.Tables.{lentOf}
-use Rattle.writer.proofs.Calls.{found-good, under-bad, under-good}
+use Rattle.model.proofs.Found.{found-good}
+use Rattle.writer.proofs.Calls.{under-bad, under-good}
 use borrow.Author.Needs.{needs}
 use Rattle.writer.proofs.write.Statement.{statement}
 use Rattle.writer.proofs.write.Tie as tie
