@@ -8,7 +8,7 @@ use lib.IntN.{ℤ, pos}
 use lib.ListN.{length, take, drop, getD, set, length-append, length-take}
 use lib.Seq.{getD-drop, drop-drop, take-add, set-append-seam, set-at}
 use Rattle.meaning.specs.Bytes.{choose, refuse, separator, every, same}
-use Rattle.meaning.specs.Model.{Component, AttributeType, Model}
+use Rattle.meaning.specs.Model.{Component, AttributeType, Reference, Text, Model}
 use Rattle.meaning.specs.Field.{hasCode, ELIN}
 use Rattle.meaning.specs.Row.{Pair, OfAttribute, OfComponent, OfLine}
 use Rattle.meaning.specs.Reading.{unstarted, reached, lineCodeOf, ended, move, LineAttribute, lineAttributes, Underway, Due, objectOf, lineOf, dueLines, withState, Content, withPoint, pointCount, withLine, Rooms}
@@ -122,46 +122,73 @@ module _ (m : Model) (rooms : Rooms) (own : List ℕ) (P : Content → Type 0) (
       rw (lines-drawn c a others n k e f (omega arith), append-assoc (pointLines (a .components) n ps) ((ELIN ∷ []) ∷ attributeLines c others) ks)
       (points-read m rooms own P w _ c₀ points (rw size (omega arith)) ended)
 
+  -- the lines of the line attributes of these pairs, whose cells are cs in the table and xs as far as they are read
+  abbrev AttributesRead : (k k′ : ℕ) → List Pair → (cs xs : List ℤ) → Type 0
+  AttributesRead k k′ ps cs xs = (d : Content) (cell : ℕ) (front : List ℤ) → length front ≡ cell → cs ≡ drop cell (c .cells)
+      → ((ys : List ℤ) → Like text c own true ps cs ys → Reads m rooms own P (objectOf t) (withCells d (front ++ ys) (take (4 * k′) (c .points))) ks)
+      → Then (dueLines t k (lineAttributes cell ps)) (withCells d (front ++ xs) (take (4 * k) (c .points))) (lineAttributes cell ps)
+
+  -- the lines behind a pair
+  behind-pair : (k k′ : ℕ) (p : Pair) (ps : List Pair) (a b x y : ℤ) (cs xs : List ℤ) → PairLike text c own true p a b x y → AttributesRead k k′ ps cs xs
+      → (d : Content) (cell : ℕ) (front : List ℤ) → length front ≡ cell → (a ∷ b ∷ cs) ≡ drop cell (c .cells)
+      → ((ys : List ℤ) → Like text c own true (p ∷ ps) (a ∷ b ∷ cs) ys → Reads m rooms own P (objectOf t) (withCells d (front ++ ys) (take (4 * k′) (c .points))) ks)
+      → Then (dueLines t k (lineAttributes (cell + 2) ps)) (withCells d (front ++ (x ∷ y ∷ xs)) (take (4 * k) (c .points))) (lineAttributes (cell + 2) ps)
+  behind-pair k k′ p ps a b x y cs xs q r d cell front e at then =
+      rw (moved front x y xs) at
+      (r d (cell + 2) (front ++ (x ∷ y ∷ [])) (moved-length front x y xs ∙ rw e) (cells-behind (c .cells) cell at)
+      (λ ys l. rw (moved front x y ys) (then (x ∷ y ∷ ys) (also q l))))
+
+  attribute-read : (k k′ : ℕ) (o : Bool) (type : AttributeType) (ps : List Pair) (a b : ℤ) (cs xs : List ℤ) → Like text c own false (OfAttribute o type ∷ ps) (a ∷ b ∷ cs) xs
+      → ((xs : List ℤ) → Like text c own false ps cs xs → AttributesRead k k′ ps cs xs) → AttributesRead k k′ (OfAttribute o type ∷ ps) (a ∷ b ∷ cs) xs
+  unfolding lineAttributes
+  attribute-read k k′ o type ps a b cs _ (also {x = x} {y = y} {xs = xs} q l) r = behind-pair k k′ (OfAttribute o type) ps a b x y cs xs (attribute-drawn q) (r xs l)
+
+  component-read : (k k′ : ℕ) (x : Component) (ps : List Pair) (a b : ℤ) (cs xs : List ℤ) → Like text c own false (OfComponent x ∷ ps) (a ∷ b ∷ cs) xs
+      → ((xs : List ℤ) → Like text c own false ps cs xs → AttributesRead k k′ ps cs xs) → AttributesRead k k′ (OfComponent x ∷ ps) (a ∷ b ∷ cs) xs
+  unfolding lineAttributes
+  component-read k k′ z ps a b cs _ (also {x = x} {y = y} {xs = xs} q l) r = behind-pair k k′ (OfComponent z) ps a b x y cs xs (component-drawn q) (r xs l)
+
+  undefined-line : (k k′ forms : ℕ) (comps : List Component) (ps : List Pair) (cs xs : List ℤ) → Like text c own false (OfLine true forms comps ∷ ps) (pos 0 ∷ pos 0 ∷ cs) xs
+      → ((xs : List ℤ) → Like text c own false ps cs xs → AttributesRead k k′ ps cs xs) → AttributesRead k k′ (OfLine true forms comps ∷ ps) (pos 0 ∷ pos 0 ∷ cs) xs
+  unfolding lineAttributes
+  undefined-line k k′ forms comps ps cs _ (also (alike h) l) r d cell front e at then = absurd (line-plain _ _ _ _ h)
+  undefined-line k k′ forms comps ps cs _ (also {xs = xs} undrawn l) r d cell front e at then =
+      undefined-read (record { cell = cell; optional = true; forms = forms; components = comps }) (lineAttributes (cell + 2) ps) k
+      (withCells d (front ++ (pos 0 ∷ pos 0 ∷ xs)) (take (4 * k) (c .points))) (first-cell (c .cells) cell at) refl
+      (behind-pair k k′ (OfLine true forms comps) ps (pos 0) (pos 0) (pos 0) (pos 0) cs xs isDrawn (r xs l) d cell front e at then)
+
+  drawn-line : (k k′ n : ℕ) (o : Bool) (forms : ℕ) (comps : List Component) (ps : List Pair) (cs xs : List ℤ) → 4 * (k + suc n) ≤ length (c .points)
+      → PointsOk (m .undefined) forms comps unstarted (suc n) (drop (4 * k) (c .points)) → Like text c own false (OfLine o forms comps ∷ ps) (pos (1 + suc n) ∷ pos k ∷ cs) xs
+      → ((xs : List ℤ) → Like text c own false ps cs xs → AttributesRead (k + suc n) k′ ps cs xs) → AttributesRead k k′ (OfLine o forms comps ∷ ps) (pos (1 + suc n) ∷ pos k ∷ cs) xs
+  unfolding lineAttributes
+  drawn-line k k′ n o forms comps ps cs _ room points (also (alike h) l) r d cell front e at then = absurd (line-plain _ _ _ _ h)
+  drawn-line k k′ n o forms comps ps cs _ room points (also {xs = xs} undrawn l) r d cell front e at then =
+      drawn-read (record { cell = cell; optional = o; forms = forms; components = comps }) (lineAttributes (cell + 2) ps) k (suc n) d front xs (pos 0) (pos 0)
+      (first-cell (c .cells) cell at) (second-cell (c .cells) cell at) e room points
+      (behind-pair (k + suc n) k′ (OfLine o forms comps) ps (pos (1 + suc n)) (pos k) (pos (1 + suc n)) (pos k) cs xs isDrawn (r xs l) d cell front e at then)
+
+  no-pairs-read : (k : ℕ) (cs xs : List ℤ) → Like text c own false [] cs xs → AttributesRead k k [] cs xs
+  unfolding lineAttributes dueLines attributeLines
+  no-pairs-read k cs _ nil d cell front e at then = then [] nil
+
   pub attributes-read : {before : Bool} {k k′ : ℕ} {ps : List Pair} {cs xs : List ℤ} → RowOk (m .undefined) text c before k ps cs k′ → Like text c own false ps cs xs
       → (d : Content) (cell : ℕ) (front : List ℤ) → length front ≡ cell → cs ≡ drop cell (c .cells)
       → ((ys : List ℤ) → Like text c own true ps cs ys → Reads m rooms own P (objectOf t) (withCells d (front ++ ys) (take (4 * k′) (c .points))) ks)
       → Then (dueLines t k (lineAttributes cell ps)) (withCells d (front ++ xs) (take (4 * k) (c .points))) (lineAttributes cell ps)
-  unfolding lineAttributes dueLines attributeLines
-  attributes-read done nil d cell front e at then = then [] nil
-  attributes-read (absent r) (also {x = x} {y = y} {xs = xs} p l) d cell front e at then =
-      rw (moved front x y xs) at
-      (attributes-read r l d (cell + 2) (front ++ (x ∷ y ∷ [])) (moved-length front x y xs ∙ rw e) (cells-behind (c .cells) cell at)
-      (λ ys q. rw (moved front x y ys) (then (x ∷ y ∷ ys) (also (attribute-drawn p) q))))
-  attributes-read (plain h g z w v r) (also {x = x} {y = y} {xs = xs} p l) d cell front e at then =
-      rw (moved front x y xs) at
-      (attributes-read r l d (cell + 2) (front ++ (x ∷ y ∷ [])) (moved-length front x y xs ∙ rw e) (cells-behind (c .cells) cell at)
-      (λ ys q. rw (moved front x y ys) (then (x ∷ y ∷ ys) (also (attribute-drawn p) q))))
-  attributes-read (word f w v h s r) (also {x = x} {y = y} {xs = xs} p l) d cell front e at then =
-      rw (moved front x y xs) at
-      (attributes-read r l d (cell + 2) (front ++ (x ∷ y ∷ [])) (moved-length front x y xs ∙ rw e) (cells-behind (c .cells) cell at)
-      (λ ys q. rw (moved front x y ys) (then (x ∷ y ∷ ys) (also (attribute-drawn p) q))))
-  attributes-read (name f w v s h r) (also {x = x} {y = y} {xs = xs} p l) d cell front e at then =
-      rw (moved front x y xs) at
-      (attributes-read r l d (cell + 2) (front ++ (x ∷ y ∷ [])) (moved-length front x y xs ∙ rw e) (cells-behind (c .cells) cell at)
-      (λ ys q. rw (moved front x y ys) (then (x ∷ y ∷ ys) (also (attribute-drawn p) q))))
-  attributes-read (without r) (also {x = x} {y = y} {xs = xs} p l) d cell front e at then =
-      rw (moved front x y xs) at
-      (attributes-read r l d (cell + 2) (front ++ (x ∷ y ∷ [])) (moved-length front x y xs ∙ rw e) (cells-behind (c .cells) cell at)
-      (λ ys q. rw (moved front x y ys) (then (x ∷ y ∷ ys) (also (component-drawn p) q))))
-  attributes-read (along w r) (also {x = x} {y = y} {xs = xs} p l) d cell front e at then =
-      rw (moved front x y xs) at
-      (attributes-read r l d (cell + 2) (front ++ (x ∷ y ∷ [])) (moved-length front x y xs ∙ rw e) (cells-behind (c .cells) cell at)
-      (λ ys q. rw (moved front x y ys) (then (x ∷ y ∷ ys) (also (component-drawn p) q))))
-  attributes-read {k = k} (noLine {forms = forms} {ks = comps} {ps = ps} r) (also {xs = xs} undrawn l) d cell front e at then =
-      undefined-read (record { cell = cell; optional = true; forms = forms; components = comps }) (lineAttributes (cell + 2) ps) k _ (first-cell (c .cells) cell at) refl
-      (rw (moved front (pos 0) (pos 0) xs) at
-      (attributes-read r l d (cell + 2) (front ++ (pos 0 ∷ pos 0 ∷ [])) (moved-length front (pos 0) (pos 0) xs ∙ rw e) (cells-behind (c .cells) cell at)
-      (λ ys q. rw (moved front (pos 0) (pos 0) ys) (then (pos 0 ∷ pos 0 ∷ ys) (also isDrawn q)))))
-  attributes-read (noLine r) (also (alike h) l) d cell front e at then = absurd (line-plain _ _ _ _ h)
-  attributes-read (line n room points r) (also (alike h) l) d cell front e at then = absurd (line-plain _ _ _ _ h)
-  attributes-read {k = k} (line {o = o} {forms = forms} {ks = comps} {ps = ps} n room points r) (also {xs = xs} undrawn l) d cell front e at then =
-      drawn-read (record { cell = cell; optional = o; forms = forms; components = comps }) (lineAttributes (cell + 2) ps) k (suc n) d front xs (pos 0) (pos 0)
-      (first-cell (c .cells) cell at) (second-cell (c .cells) cell at) e room points
-      (rw (moved front (pos (1 + suc n)) (pos k) xs) at
-      (attributes-read r l d (cell + 2) (front ++ (pos (1 + suc n) ∷ pos k ∷ [])) (moved-length front (pos (1 + suc n)) (pos k) xs ∙ rw e) (cells-behind (c .cells) cell at)
-      (λ ys q. rw (moved front (pos (1 + suc n)) (pos k) ys) (then (pos (1 + suc n) ∷ pos k ∷ ys) (also isDrawn q)))))
+  attributes-read {xs = xs} (done {k = k} {cs = cs}) l = no-pairs-read k cs xs l
+  attributes-read {xs = xs} (absent {k = k} {k′ = k′} {type = type} {ps = ps} {cs = cs} r) l =
+      attribute-read k k′ true type ps (pos 0) (pos 0) cs xs l (λ xs l. attributes-read r l)
+  attributes-read {xs = xs} (plain {o = o} {k = k} {k′ = k′} {type = type} {ps = ps} {a = a} {b = b} {cs = cs} h g z w v r) l =
+      attribute-read k k′ o type ps a b cs xs l (λ xs l. attributes-read r l)
+  attributes-read {xs = xs} (word {o = o} {k = k} {k′ = k′} {longest = longest} {ps = ps} {b = b} {cs = cs} f w v h s r) l =
+      attribute-read k k′ o (Text longest) ps (pos (1 + length f)) b cs xs l (λ xs l. attributes-read r l)
+  attributes-read {xs = xs} (name {o = o} {k = k} {k′ = k′} {target = target} {n = n} {ps = ps} {cs = cs} f w v s h r) l =
+      attribute-read k k′ o (Reference target) ps (pos 1) (pos n) cs xs l (λ xs l. attributes-read r l)
+  attributes-read {xs = xs} (without {k = k} {k′ = k′} {x = x} {ps = ps} {cs = cs} r) l =
+      component-read k k′ x ps (pos 0) (pos 0) cs xs l (λ xs l. attributes-read r l)
+  attributes-read {xs = xs} (along {k = k} {k′ = k′} {x = x} {ps = ps} {b = b} {cs = cs} w r) l =
+      component-read k k′ x ps (pos 1) b cs xs l (λ xs l. attributes-read r l)
+  attributes-read {xs = xs} (noLine {k = k} {k′ = k′} {forms = forms} {ks = comps} {ps = ps} {cs = cs} r) l =
+      undefined-line k k′ forms comps ps cs xs l (λ xs l. attributes-read r l)
+  attributes-read {xs = xs} (line {o = o} {k = k} {k′ = k′} {forms = forms} {ks = comps} {ps = ps} {cs = cs} n room points r) l =
+      drawn-line k k′ n o forms comps ps cs xs room points l (λ xs l. attributes-read r l)

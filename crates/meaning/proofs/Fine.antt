@@ -659,6 +659,25 @@ module _ (m : Model) (good : GoodModel m) (rooms : Rooms) (text : List ℕ) (fin
       ∙ sym (flat-append rs₀ (r ∷ []) ∙ ap (λ (l : List ℤ). flatRows rs₀ ++ l) (append-nil (rowCells r))) in
       ap₂ (λ (x : List ℕ) (y : List ℤ). record { marks = marks; rows = x; cells = y; points = points }) (sym rows-e) cells-e
 
+  -- an object and what follows it
+  object-then : (n : ℕ) → FineAt n → (t : ℕ) (fs : List Field) (ls : List (List ℕ)) (marks : List ℕ) (rs₀ : List Row) (points : List ℤ) (k : ℕ) (xs : List ℤ) → length ls ≤ n → 4 * k ≡ length points
+      → Unmarked m (objectNext t) marks → ObjectGiven m text t fs (soFar marks rs₀ points) xs → SecondField fs → Given (m .undefined) text true (pairsOf (tableAt (m .tables) t .attributes)) xs
+      → AttributesEnd m rooms text (good .undefined) final complete t k (pairsOf (tableAt (m .tables) t .attributes))
+      (withRow (pos t ∷ pos (fieldAt 2 fs .start) ∷ pos (length (fieldAt 2 fs .bytes)) ∷ xs) (soFar marks rs₀ points))
+      (flatRows rs₀ ++ (pos t ∷ pos (fieldAt 2 fs .start) ∷ pos (length (fieldAt 2 fs .bytes)) ∷ [])) xs (length ls)
+      → Fine (objectNext t) marks rs₀ points k
+  unfolding FineAt dueOf
+  object-then n ih t fs ls marks rs₀ points k xs short count un g s given′ e =
+      fine-object t k (e .k′) marks rs₀ (fieldAt 2 fs) (e .ys) points (e .points)
+      (record { stands = s .stands; identification = identification-ok t fs (soFar marks rs₀ points) xs g s; fresh = g .fresh; xs = xs; given′ = given′; drawing = e .drawing; count = count })
+      (ih (objectNext t) (e .at .others) (e .at .line) (e .at .start) marks (rs₀ ++ (rowOf t (fieldAt 2 fs) (e .ys) ∷ [])) (points ++ e .points) (e .k′)
+      (let shorter = e .at .shorter in omega arith) (e .at .stands) (drawing-count (e .drawing) ∙ (rw (length-append points (e .points)) (omega arith))) un runs′)
+    where
+      runs′ : run m rooms text (record { line = e .at .line; start = e .at .start; due = objectOf t; content = soFar marks (rs₀ ++ (rowOf t (fieldAt 2 fs) (e .ys) ∷ [])) (points ++ e .points) }) (e .at .others)
+          ≡ ran final
+      runs′ = subst (λ (c : Content). run m rooms text (record { line = e .at .line; start = e .at .start; due = objectOf t; content = c }) (e .at .others) ≡ ran final)
+          (behind-object t marks rs₀ (fieldAt 2 fs) (e .ys) (points ++ e .points)) (e .at .runs)
+
   object-by : (n : ℕ) → FineAt n → (t : ℕ) (fs : List Field) → AllStand text fs → AllAre fs → (ls : List (List ℕ)) (line start : ℕ) (marks : List ℕ) (rs₀ : List Row) (points : List ℤ) (k : ℕ) → length ls ≤ n
       → drop start text ≡ unfoldedText ls → 4 * k ≡ length points → Unmarked m (objectNext t) marks → (due : Due) (c : Content) → ObjectStep m text t fs (soFar marks rs₀ points) due c
       → run m rooms text (record { line = line; start = start; due = due; content = c }) ls ≡ ran final → Fine (objectNext t) marks rs₀ points k
@@ -668,29 +687,25 @@ module _ (m : Model) (good : GoodModel m) (rooms : Rooms) (text : List ℕ) (fin
       (ih (tableNext (topicOf m t) (t + 1)) ls line start marks rs₀ points k short stands count
       (record { size = un .size; within = un .within; among = un .among; topics = un .topics; tables = un .tables }) r)
   object-by n ih t fs st are ls line start marks rs₀ points k short stands count un _ _ (obje xs g) r =
-      let u : ℕ = m .undefined in
-      let ps : List Pair = pairsOf (tableAt (m .tables) t .attributes) in
-      let i : Field = fieldAt 2 fs in
-      let s = second-field fs (g .more) st are in
-      let head : List ℤ = pos t ∷ pos (i .start) ∷ pos (length (i .bytes)) ∷ [] in
-      let front : List ℤ = flatRows rs₀ ++ head in
-      let c₁ : Content = withRow (pos t ∷ pos (i .start) ∷ pos (length (i .bytes)) ∷ xs) (soFar marks rs₀ points) in
-      let given′ : Given u text true ps xs = pairs-given u text true 3 ps (drop 2 fs) xs (s .othersAre) (s .othersStand) (g .pairs) in
-      let at : length front ≡ length (flatRows rs₀) + 3 = length-append (flatRows rs₀) head in
-      let points-k : length points / 4 ≡ k = omega arith in
-      let e : AttributesEnd m rooms text (good .undefined) final complete t k ps c₁ front xs (length ls) =
-      object-ends m rooms text (good .undefined) final complete ls ps t k line start c₁ front xs (lines-good ps (pairs-good m good t)) (given-length given′)
-      (sym (append-assoc (flatRows rs₀) head xs)) count stands (rw at (rw points-k at r)) in
-      let o : ObjectRead t k (e .k′) rs₀ i (e .ys) points (e .points) =
-      record { stands = s .stands; identification = identification-ok t fs (soFar marks rs₀ points) xs g s; fresh = g .fresh; xs = xs; given′ = given′; drawing = e .drawing; count = count } in
-      let b = e .at in
-      let shorter = b .shorter in
-      let runs′ : run m rooms text (record { line = b .line; start = b .start; due = objectOf t; content = soFar marks (rs₀ ++ (rowOf t i (e .ys) ∷ [])) (points ++ e .points) }) (b .others) ≡ ran final =
-      subst (λ (c : Content). run m rooms text (record { line = b .line; start = b .start; due = objectOf t; content = c }) (b .others) ≡ ran final)
-      (behind-object t marks rs₀ i (e .ys) (points ++ e .points)) (b .runs) in
-      fine-object t k (e .k′) marks rs₀ i (e .ys) points (e .points) o
-      (ih (objectNext t) (b .others) (b .line) (b .start) marks (rs₀ ++ (rowOf t i (e .ys) ∷ [])) (points ++ e .points) (e .k′) (omega arith) (b .stands)
-      (drawing-count (e .drawing) ∙ (rw (length-append points (e .points)) (omega arith))) un runs′)
+      object-then n ih t fs ls marks rs₀ points k xs short count un g s given′
+      (object-ends m rooms text (good .undefined) final complete ls (pairsOf (tableAt (m .tables) t .attributes)) t k line start
+      (withRow (pos t ∷ pos (fieldAt 2 fs .start) ∷ pos (length (fieldAt 2 fs .bytes)) ∷ xs) (soFar marks rs₀ points)) (flatRows rs₀ ++ head) xs
+      (lines-good (pairsOf (tableAt (m .tables) t .attributes)) (pairs-good m good t)) (given-length given′) (sym (append-assoc (flatRows rs₀) head xs)) count stands (rw at (rw points-k at r)))
+    where
+      head : List ℤ
+      head = pos t ∷ pos (fieldAt 2 fs .start) ∷ pos (length (fieldAt 2 fs .bytes)) ∷ []
+
+      s : SecondField fs
+      s = second-field fs (g .more) st are
+
+      given′ : Given (m .undefined) text true (pairsOf (tableAt (m .tables) t .attributes)) xs
+      given′ = pairs-given (m .undefined) text true 3 (pairsOf (tableAt (m .tables) t .attributes)) (drop 2 fs) xs (s .othersAre) (s .othersStand) (g .pairs)
+
+      at : length (flatRows rs₀ ++ head) ≡ length (flatRows rs₀) + 3
+      at = length-append (flatRows rs₀) head
+
+      points-k : length points / 4 ≡ k
+      points-k = omega arith
 
   fine : (n : ℕ) → FineAt n
   unfolding FineAt run dueOf lineDue

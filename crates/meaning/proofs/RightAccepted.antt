@@ -17,7 +17,7 @@ use Rattle.meaning.specs.Reading.{Due, nothing, Content, State, nothingR
 use Rattle.meaning.specs.Lines.{go, Run, ran, stopped, run, readLines}
 use Rattle.meaning.specs.Table.{Resolved, resolved, unresolved, resolve, refusedWith, readResolved, readRun, readText}
 use Rattle.meaning.specs.WritingClaims.{Enough}
-use Rattle.meaning.specs.Right.{Delivered, DeliveredTopic, objectsOfTopics, placed, File, Unique, namesOf, pointsOf, cellsOfPoints, tableOf}
+use Rattle.meaning.specs.Right.{Delivered, DeliveredTopic, objectsOfTopics, withStarts, File, Unique, namesOf, pointsOf, cellsOfPoints, tableOf}
 use Rattle.meaning.specs.RightClaims.{RightWithin, IsAccepted, HasRoom}
 use Rattle.meaning.proofs.Apart.{no-resolved}
 use Rattle.meaning.proofs.Refuse.{neither}
@@ -45,18 +45,18 @@ module _ (m : Model) (rooms : Rooms) (ls : List (List ℕ)) where
   abbrev pub own : List ℕ
   own = unfoldedText ls
 
-  pub lines-right : (s : State) → readLines m rooms own (startOf m) ls ≡ ran s → FileOf m rooms own (s .content) (noMarks m) (placed 0 ls)
+  pub lines-right : (s : State) → readLines m rooms own (startOf m) ls ≡ ran s → FileOf m rooms own (s .content) (noMarks m) (withStarts 0 ls)
   unfolding startOf nothingRead rowsFrom flatRows rowStarts pointsOf cellsOfPoints
   lines-right s e =
       let to = read-to m rooms own (startOf m) ls s e in
-      file-of m rooms own (s .content) (noMarks m) (placed 0 ls) (lines-stand own 0 ls refl)
+      file-of m rooms own (s .content) (noMarks m) (withStarts 0 ls) (lines-stand own 0 ls refl)
       (run-steps m rooms own ls (startOf m) s (to .runs) ∙ ap (λ (d : Due). go d (s .content)) (to .complete))
 
   fits-of : (s : State) → readLines m rooms own (startOf m) ls ≡ ran s → Fits m rooms (s .content)
   unfolding Ran
   fits-of s e = subst (λ (r : Run). Ran m rooms own r) e (lines-fit m rooms own ls)
 
-  enough-of : HasRoom m ls rooms → (s : State) → readLines m rooms own (startOf m) ls ≡ ran s → (f : FileOf m rooms own (s .content) (noMarks m) (placed 0 ls)) → Enough m ls (tableOf m (f .ds)) rooms
+  enough-of : HasRoom m ls rooms → (s : State) → readLines m rooms own (startOf m) ls ≡ ran s → (f : FileOf m rooms own (s .content) (noMarks m) (withStarts 0 ls)) → Enough m ls (tableOf m (f .ds)) rooms
   unfolding tableOf
   enough-of room s e f =
       let os : List Delivered = objectsOfTopics (f .ds) in
@@ -70,21 +70,21 @@ module _ (m : Model) (rooms : Rooms) (ls : List (List ℕ)) where
       }
 
   -- all references of lines that were read
-  pub references-read : (s : State) → (f : FileOf m rooms own (s .content) (noMarks m) (placed 0 ls)) → References m own (tableOf m (f .ds) .marks) (objectsOfTopics (f .ds))
+  pub references-read : (s : State) → (f : FileOf m rooms own (s .content) (noMarks m) (withStarts 0 ls)) → References m own (tableOf m (f .ds) .marks) (objectsOfTopics (f .ds))
   references-read s f = references-of m own (tableOf m (f .ds) .marks) (objectsOfTopics (f .ds)) (file-read m own (f .structure) (lines-stand own 0 ls refl))
 
-  pub content-is : (s : State) → (f : FileOf m rooms own (s .content) (noMarks m) (placed 0 ls)) → contentOf (tableOf m (f .ds) .marks) (objectsOfTopics (f .ds)) ≡ s .content
+  pub content-is : (s : State) → (f : FileOf m rooms own (s .content) (noMarks m) (withStarts 0 ls)) → contentOf (tableOf m (f .ds) .marks) (objectsOfTopics (f .ds)) ≡ s .content
   unfolding tableOf
   content-is s f = f .same
 
   resolved-right : HasRoom m ls rooms → (s : State) (cs : List ℤ) → readLines m rooms own (startOf m) ls ≡ ran s → resolve m own (s .content) ≡ resolved cs → RightWithin m ls rooms
   resolved-right room s cs e q = by (lines-right s e)
     where
-      made : (f : FileOf m rooms own (s .content) (noMarks m) (placed 0 ls)) → References m own (tableOf m (f .ds) .marks) (objectsOfTopics (f .ds)) → RightWithin m ls rooms
+      made : (f : FileOf m rooms own (s .content) (noMarks m) (withStarts 0 ls)) → References m own (tableOf m (f .ds) .marks) (objectsOfTopics (f .ds)) → RightWithin m ls rooms
       made f (allNamed r h) = record { delivered = f .ds; right = record { file = f .structure; unique = f .unique; references = r }; enough = enough-of room s e f }
       made f (firstUnnamed a b n h) = absurd (no-resolved a b cs (sym h ∙ (ap (λ (c : Content). resolve m own c) (content-is s f) ∙ q)))
 
-      by : (f : FileOf m rooms own (s .content) (noMarks m) (placed 0 ls)) → RightWithin m ls rooms
+      by : (f : FileOf m rooms own (s .content) (noMarks m) (withStarts 0 ls)) → RightWithin m ls rooms
       by f = made f (references-read s f)
 
   has-room : (ltb (rooms .text) (length own) || ltb (rooms .marks) (length (m .topics) + length (m .tables))) ≡ false → HasRoom m ls rooms
@@ -120,7 +120,7 @@ module _ (m : Model) (rooms : Rooms) (ls : List (List ℕ)) where
   unfolding readLines
   full-lines line e = rw e
 
-  pub read-or-full : GoodModel m → (ds : List DeliveredTopic) → File m (placed 0 ls) ds → Unique (objectsOfTopics ds) → ReadOrFull ds
+  pub read-or-full : GoodModel m → (ds : List DeliveredTopic) → File m (withStarts 0 ls) ds → Unique (objectsOfTopics ds) → ReadOrFull ds
   read-or-full good ds structure unique = by (run-alike m rooms q own wide ls (startOf m)) (lines-read m good q ls ds structure unique space)
     where
       -- wider rooms, with space for all objects

@@ -16,7 +16,7 @@ use Rattle.meaning.specs.Reading.{Due, isComplete, Content, State, behin
 use Rattle.meaning.specs.Lines.{Step, go, no, stepOf, Run, ran, stopped, afterStep, run, atEnd, readLines}
 use Rattle.meaning.specs.Table.{Resolved, unresolved, resolve, Result, refusedWith, acceptedWith, readResolved, readRun, readText, readUnfolded, readChecked, read}
 use Rattle.meaning.specs.Row.{Pair}
-use Rattle.meaning.specs.Right.{Entry, Delivered, DeliveredTopic, objectsOfTopics, placed, File, Unique, tableOf}
+use Rattle.meaning.specs.Right.{Entry, Delivered, DeliveredTopic, objectsOfTopics, withStarts, File, Unique, tableOf}
 use Rattle.meaning.specs.RightClaims.{First, tooLarge, badModel, badUnfolding, noRoom, badLine, lineMissing, objectMissing, Opened, HasRoom, Short, FirstOfEntries, FirstOfObjects}
 use Rattle.meaning.specs.RightClaims as claims
 use Rattle.meaning.proofs.Apart.{no-ran}
@@ -167,7 +167,7 @@ module _ (model file : List ℕ) (rooms : Rooms) where
 
   -- lines whose structure and identifications are right came to the table of what they deliver
   content-of : (m : Model) (ls : List (List ℕ)) (s : State) (ds : List DeliveredTopic) → Opened model file m ls → run m rooms (unfoldedText ls) (startOf m) ls ≡ ran s → isComplete (s .due) ≡ true
-      → File m (placed 0 ls) ds → Unique (objectsOfTopics ds) → References m (unfoldedText ls) (tableOf m ds .marks) (objectsOfTopics ds) × (s .content ≡ contentOf (tableOf m ds .marks) (objectsOfTopics ds))
+      → File m (withStarts 0 ls) ds → Unique (objectsOfTopics ds) → References m (unfoldedText ls) (tableOf m ds .marks) (objectsOfTopics ds) × (s .content ≡ contentOf (tableOf m ds .marks) (objectsOfTopics ds))
   content-of m ls s ds o p d structure unique = (
     references-of m (unfoldedText ls) (tableOf m ds .marks) (objectsOfTopics ds) (file-read m (unfoldedText ls) structure (lines-stand (unfoldedText ls) 0 ls refl)),
     by (read-or-full m rooms ls (models.checked-good model m (o .isGood)) ds structure unique) (complete-lines m rooms (unfoldedText ls) (startOf m) s ls p d),
@@ -247,7 +247,7 @@ module _ (model file : List ℕ) (rooms : Rooms) where
         let read-to = complete-lines m rooms (unfoldedText ls) (startOf m) s ls e d in
         by (lines-right m rooms ls s read-to) (read-opened m ls o room _ read-to)
       where
-        outcome : (f : FileOf m rooms (unfoldedText ls) (s .content) (noMarks m) (placed 0 ls)) → References m (unfoldedText ls) (tableOf m (f .ds) .marks) (objectsOfTopics (f .ds))
+        outcome : (f : FileOf m rooms (unfoldedText ls) (s .content) (noMarks m) (withStarts 0 ls)) → References m (unfoldedText ls) (tableOf m (f .ds) .marks) (objectsOfTopics (f .ds))
             → read model file rooms ≡ readResolved rooms (unfoldedText ls) (s .content) (resolve m (unfoldedText ls) (s .content)) → Answered
         outcome f (allNamed r q) g =
             let there = ap (λ (c : Content). resolve m (unfoldedText ls) c) (sym (content-is m rooms ls s f)) ∙ q in
@@ -256,7 +256,7 @@ module _ (model file : List ℕ) (rooms : Rooms) where
             let there = ap (λ (c : Content). resolve m (unfoldedText ls) c) (sym (content-is m rooms ls s f)) ∙ q in
             given 17 a b (g ∙ ap (λ (x : Resolved). readResolved rooms (unfoldedText ls) (s .content) x) there) (objectMissing o room e d (f .structure) (f .unique) n)
 
-        by : (f : FileOf m rooms (unfoldedText ls) (s .content) (noMarks m) (placed 0 ls)) → read model file rooms ≡ readResolved rooms (unfoldedText ls) (s .content) (resolve m (unfoldedText ls) (s .content)) → Answered
+        by : (f : FileOf m rooms (unfoldedText ls) (s .content) (noMarks m) (withStarts 0 ls)) → read model file rooms ≡ readResolved rooms (unfoldedText ls) (s .content) (resolve m (unfoldedText ls) (s .content)) → Answered
         by f g = outcome f (references-read m rooms ls s f) g
 
     lines-given : (m : Model) (ls : List (List ℕ)) → Opened model file m ls → HasRoom m ls rooms → Answered

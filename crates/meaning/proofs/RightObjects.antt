@@ -16,7 +16,7 @@ use Rattle.meaning.specs.Value.{sameIdentification}
 use Rattle.meaning.specs.Row.{Pair, cells, pairsOf, pairCells}
 use Rattle.meaning.specs.Reading.{lineAttributes, objectOf, dueLines, Content, withRow, pointCount, Rooms, stretch, objectsOf, isUsed}
 use Rattle.meaning.specs.Lines.{go, storeRow, objectFields, objectLine, lineDue}
-use Rattle.meaning.specs.Right.{Delivered, Line, placed, Coded, Identification, wasDefined, Entries, ObjectLines, object, Objects, none, more, noObject, identificationAt, Unique, namesOf, entryPoints, pointsOf, cellsOfPoints}
+use Rattle.meaning.specs.Right.{Delivered, Line, withStarts, Coded, Identification, wasDefined, Entries, ObjectLines, object, Objects, none, more, noObject, identificationAt, Unique, namesOf, entryPoints, pointsOf, cellsOfPoints}
 use Rattle.meaning.proofs.Same.{same-not}
 use Rattle.meaning.proofs.Stretches.{AllStand, text-behind, line-stands}
 use Rattle.meaning.proofs.Resolve.{flatRows, rowStarts, flat-append}
@@ -32,8 +32,8 @@ abbrev pub LinesStand : (own : List ℕ) → List Line → Type 0
 LinesStand own [] = Unit {0}
 LinesStand own (l ∷ ls) = AllStand own (fieldsOf (l .start) (l .bytes)) × LinesStand own ls
 
-pub lines-stand : (own : List ℕ) (start : ℕ) (ls : List (List ℕ)) → drop start own ≡ unfoldedText ls → LinesStand own (placed start ls)
-unfolding placed
+pub lines-stand : (own : List ℕ) (start : ℕ) (ls : List (List ℕ)) → drop start own ≡ unfoldedText ls → LinesStand own (withStarts start ls)
+unfolding withStarts
 lines-stand own start [] e = tt
 lines-stand own start (l ∷ ls) e = (line-stands own start l ls e, lines-stand own (start + length l + 1) ls (text-behind own start l ls e))
 

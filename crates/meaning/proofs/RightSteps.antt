@@ -7,7 +7,7 @@ use Rattle.meaning.specs.Model.{Model}
 use Rattle.meaning.specs.Field.{fieldsOf}
 use Rattle.meaning.specs.Reading.{Due, Content, State, behind, Rooms}
 use Rattle.meaning.specs.Lines.{Step, go, no, lineDue, stepOf, ran, afterStep, run}
-use Rattle.meaning.specs.Right.{Line, placed}
+use Rattle.meaning.specs.Right.{Line, withStarts}
 use Rattle.meaning.proofs.Apart.{no-go, no-ran}
 
 abbrev pub afterGo : Step → (Due → Content → Step) → Step
@@ -55,14 +55,14 @@ module _ (m : Model) (rooms : Rooms) (text : List ℕ) where
       by (no number field) p e = absurd (no-go number field d x e)
 
   -- steps and a run are one
-  pub run-steps : (ls : List (List ℕ)) (s s′ : State) → run m rooms text s ls ≡ ran s′ → steps (s .due) (s .content) (placed (s .start) ls) ≡ go (s′ .due) (s′ .content)
-  unfolding run steps placed stepOf
+  pub run-steps : (ls : List (List ℕ)) (s s′ : State) → run m rooms text s ls ≡ ran s′ → steps (s .due) (s .content) (withStarts (s .start) ls) ≡ go (s′ .due) (s′ .content)
+  unfolding run steps withStarts stepOf
   run-steps [] s s′ e = let q : s ≡ s′ = cc in ap (λ (t : State). go (t .due) (t .content)) q
   run-steps (l ∷ ls) s s′ e = by (lineDue m rooms text (s .due) l (fieldsOf (s .start) l) (s .content)) e (λ a b. run-steps ls (behind l a b s) s′)
     where
       by : (o : Step) → afterStep o l s (λ s₁. run m rooms text s₁ ls) ≡ ran s′
-          → ((a : Due) (b : Content) → run m rooms text (behind l a b s) ls ≡ ran s′ → steps a b (placed (s .start + length l + 1) ls) ≡ go (s′ .due) (s′ .content))
-          → afterGo o (λ a b. steps a b (placed (s .start + length l + 1) ls)) ≡ go (s′ .due) (s′ .content)
+          → ((a : Due) (b : Content) → run m rooms text (behind l a b s) ls ≡ ran s′ → steps a b (withStarts (s .start + length l + 1) ls) ≡ go (s′ .due) (s′ .content))
+          → afterGo o (λ a b. steps a b (withStarts (s .start + length l + 1) ls)) ≡ go (s′ .due) (s′ .content)
       by (go a b) e ih = ih a b e
       by (no number field) e ih = absurd (no-ran number (s .line) field s′ e)
 
@@ -72,12 +72,12 @@ module _ (m : Model) (rooms : Rooms) (text : List ℕ) where
     pub due : final .due ≡ d
     pub content : final .content ≡ x
 
-  pub steps-run : (ls : List (List ℕ)) (s : State) (d : Due) (x : Content) → steps (s .due) (s .content) (placed (s .start) ls) ≡ go d x → RanTo s ls d x
-  unfolding run steps placed stepOf
+  pub steps-run : (ls : List (List ℕ)) (s : State) (d : Due) (x : Content) → steps (s .due) (s .content) (withStarts (s .start) ls) ≡ go d x → RanTo s ls d x
+  unfolding run steps withStarts stepOf
   steps-run [] s d x e = record { final = s; runs = refl; due = cc; content = cc }
   steps-run (l ∷ ls) s d x e = by (lineDue m rooms text (s .due) l (fieldsOf (s .start) l) (s .content)) refl e (λ a b. steps-run ls (behind l a b s) d x)
     where
-      by : (o : Step) → lineDue m rooms text (s .due) l (fieldsOf (s .start) l) (s .content) ≡ o → afterGo o (λ a b. steps a b (placed (s .start + length l + 1) ls)) ≡ go d x
-          → ((a : Due) (b : Content) → steps a b (placed (s .start + length l + 1) ls) ≡ go d x → RanTo (behind l a b s) ls d x) → RanTo s (l ∷ ls) d x
+      by : (o : Step) → lineDue m rooms text (s .due) l (fieldsOf (s .start) l) (s .content) ≡ o → afterGo o (λ a b. steps a b (withStarts (s .start + length l + 1) ls)) ≡ go d x
+          → ((a : Due) (b : Content) → steps a b (withStarts (s .start + length l + 1) ls) ≡ go d x → RanTo (behind l a b s) ls d x) → RanTo s (l ∷ ls) d x
       by (go a b) p e ih = let r = ih a b e in record { final = r .final; runs = rw p (r .runs); due = r .due; content = r .content }
       by (no number field) p e ih = absurd (no-go number field d x e)

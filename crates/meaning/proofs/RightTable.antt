@@ -17,7 +17,7 @@ use Rattle.meaning.specs.Reading.{nothing, isComplete, Content, State, n
 use Rattle.meaning.specs.Lines.{ran, run, atEnd, readLines}
 use Rattle.meaning.specs.Table.{Resolved, resolved, unresolved, afterResolved, resolvePairs, resolveRows, resolve, acceptedWith, readResolved, readRun, readText}
 use Rattle.meaning.specs.WritingClaims.{Enough}
-use Rattle.meaning.specs.Right.{Entry, Delivered, DeliveredTopic, objectsOfTopics, placed, File, Unique, AllNamed, Referred, Right, namesOf, entryCells, entryPoints, pointsOf, cellsOfPoints, rowsCells, tableOf}
+use Rattle.meaning.specs.Right.{Entry, Delivered, DeliveredTopic, objectsOfTopics, withStarts, File, Unique, AllNamed, Referred, Right, namesOf, entryCells, entryPoints, pointsOf, cellsOfPoints, rowsCells, tableOf}
 use Rattle.meaning.specs.RightClaims.{FirstOfEntries, FirstOfObjects}
 use Rattle.meaning.specs.RightClaims as claims
 use Rattle.meaning.proofs.Resolve.{rowCells, flatRows, rowStarts, table-at}
@@ -111,7 +111,7 @@ objects-unnamed m all (claims.FirstOfObjects.later i f) r = objects-unnamed m al
 -- ## The lines
 
 -- lines whose structure, values and identifications are right are read to their end, with room for their objects
-pub lines-read : (m : Model) → GoodModel m → (rooms : Rooms) (ls : List (List ℕ)) (ds : List DeliveredTopic) → File m (placed 0 ls) ds → Unique (objectsOfTopics ds) → RoomFor rooms (objectsOfTopics ds)
+pub lines-read : (m : Model) → GoodModel m → (rooms : Rooms) (ls : List (List ℕ)) (ds : List DeliveredTopic) → File m (withStarts 0 ls) ds → Unique (objectsOfTopics ds) → RoomFor rooms (objectsOfTopics ds)
     → RanTo m rooms (unfoldedText ls) (startOf m) ls nothing (contentOf (tableOf m ds .marks) (objectsOfTopics ds))
 unfolding startOf nothingRead tableOf rowStarts flatRows rowsFrom pointsOf cellsOfPoints
 lines-read m good rooms ls ds structure unique room =

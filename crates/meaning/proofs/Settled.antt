@@ -10,7 +10,7 @@ use lib.ListN.{length, drop, getD, length-append}
 use lib.Seq.{getD-append-seam, getD-append-add, drop-append-add}
 use borrow.Author.Tests.{ne-eqb, eq-eqb, le-ltb}
 use Rattle.meaning.specs.Bytes.{choose, allOf}
-use Rattle.meaning.specs.Model.{AttributeType, Reference, Coordinate, Number, Text, Date, Enumeration, Line, found, targetOf, Model, tableAt}
+use Rattle.meaning.specs.Model.{Component, AttributeType, Reference, Coordinate, Number, Text, Date, Enumeration, Line, found, targetOf, Model, tableAt}
 use Rattle.meaning.specs.Row.{Pair, OfAttribute, OfComponent, OfLine, pairsOf}
 use Rattle.meaning.specs.Reading.{Content, Object, stretch, objectsOf}
 use Rattle.meaning.specs.Table.{findObject, Resolved, resolved, putReference, resolvePair, resolvePairs, resolveRows, resolve}
@@ -19,7 +19,7 @@ use Rattle.meaning.specs.Readback.{isText, hasStart, pairsWithoutStarts,
 use Rattle.meaning.proofs.Stretches.{stretch-pos}
 use Rattle.meaning.proofs.Same.{same-refl}
 use Rattle.meaning.proofs.Valid.{lentObjects}
-use Rattle.meaning.proofs.Rows.{isPlain, alike, wordAt, nameAt, isDrawn, Like, nil, also}
+use Rattle.meaning.proofs.Rows.{isPlain, PairLike, alike, wordAt, nameAt, isDrawn, Like, nil, also}
 use Rattle.meaning.proofs.Attributes.{set-pair, moved, moved-length}
 use Rattle.meaning.proofs.Objects.{RowsLike, stop, row, rows-objects, like-length}
 use Rattle.meaning.proofs.Tables.{AllRead}
@@ -117,31 +117,72 @@ module _ (text : List ℕ) (c : Content) (own : List ℕ) where
       → PairsResolved ps cs (front ++ (x ∷ y ∷ [])) rest out → PairsResolved (p ∷ ps) (a ∷ b ∷ cs) front rest out
   pair-on {x = x} {y = y} ps cs front rest out s r = record { ys = x ∷ y ∷ r .ys; is = r .is ∙ ap resolved (moved front x y (r .ys ++ rest)); settled = one s (r .settled) }
 
+  -- a pair as it is read, and what resolving makes of it before the pairs that follow
+  record PairResolved (p : Pair) (object field : ℕ) (front : List ℤ) (a b x y : ℤ) : Type 0 where
+    field′ : ℕ
+    u : ℤ
+    v : ℤ
+    settled : PairSettled text own p a b u v
+    is : (ps : List Pair) (rest : List ℤ) → resolvePairs own all object field (length front) (p ∷ ps) (front ++ (x ∷ y ∷ rest)) ≡ resolvePairs own all object field′ (length front + 2) ps (front ++ (u ∷ v ∷ rest))
+
+  -- an attribute's pair
+  attribute-resolved : (o : Bool) (type : AttributeType) (object field : ℕ) (front : List ℤ) (a b x y u v : ℤ) → PairSettled text own (OfAttribute o type) a b u v
+      → ((rest : List ℤ) → resolvePair own all object field (length front) (targetOf type) (front ++ (x ∷ y ∷ rest)) ≡ resolved (front ++ (u ∷ v ∷ rest)))
+      → PairResolved (OfAttribute o type) object field front a b x y
+  unfolding resolvePairs
+  attribute-resolved o type object field front a b x y u v s e = record { field′ = field + 1; u = u; v = v; settled = s; is = λ ps rest. rw (e rest) }
+
+  component-resolved : (k : Component) (object field : ℕ) (front : List ℤ) (a b : ℤ) → PairSettled text own (OfComponent k) a b a b → PairResolved (OfComponent k) object field front a b a b
+  unfolding resolvePairs
+  component-resolved k object field front a b s = record { field′ = field + 1; u = a; v = b; settled = s; is = λ ps rest. refl }
+
+  line-resolved : (o : Bool) (forms : ℕ) (ks : List Component) (object field : ℕ) (front : List ℤ) (a b : ℤ) → PairSettled text own (OfLine o forms ks) a b a b
+      → PairResolved (OfLine o forms ks) object field front a b a b
+  unfolding resolvePairs
+  line-resolved o forms ks object field front a b s = record { field′ = field; u = a; v = b; settled = s; is = λ ps rest. refl }
+
+  plain-resolved : (p : Pair) (a b : ℤ) → isPlain p a ≡ true → (object field : ℕ) (front : List ℤ) → PairResolved p object field front a b a b
+  plain-resolved (OfAttribute o type) a b h object field front =
+      attribute-resolved o type object field front a b a b a b (equal (plain-start (OfAttribute o type) a h)) (λ rest. plain-stays own all object field front a b rest o type h)
+  plain-resolved (OfComponent k) a b h object field front = component-resolved k object field front a b (equal (plain-start (OfComponent k) a h))
+  plain-resolved (OfLine o forms ks) a b h object field front = line-resolved o forms ks object field front a b (equal (plain-start (OfLine o forms ks) a h))
+
+  reference-start : (o : Bool) (target : ℕ) (a : ℤ) → hasStart (OfAttribute o (Reference target)) a ≡ false
+  unfolding hasStart isText
+  reference-start o target a = refl
+
+  line-start : (o : Bool) (forms : ℕ) (ks : List Component) (a : ℤ) → hasStart (OfLine o forms ks) a ≡ false
+  unfolding hasStart
+  line-start o forms ks a = refl
+
+  pair-resolved : {p : Pair} {a b x y : ℤ} → PairLike text c own true p a b x y → (object field : ℕ) (front : List ℤ) → PairResolved p object field front a b x y
+  pair-resolved (alike {p = p} {a = a} {b = b} h) object field front = plain-resolved p a b h object field front
+  pair-resolved (wordAt {o = o} {longest = longest} {start = start} {b = b} size e) object field front =
+      attribute-resolved o (Text longest) object field front (pos (1 + size)) b (pos (1 + size)) (pos start) (pos (1 + size)) (pos start) (elsewhere size e)
+      (λ rest. text-stays own all object field longest (length front) (front ++ (pos (1 + size) ∷ pos start ∷ rest)))
+  pair-resolved (nameAt {o = o} {target = target} {start = start} {n = n} size e) object field front =
+      attribute-resolved o (Reference target) object field front (pos 1) (pos n) (pos (1 + size)) (pos start) (pos 1) (pos n) (equal (reference-start o target (pos 1)))
+      (λ rest. name-resolved own all object field target n start size front rest e)
+  pair-resolved (isDrawn {o = o} {forms = forms} {ks = ks} {a = a} {b = b}) object field front = line-resolved o forms ks object field front a b (equal (line-start o forms ks a))
+
+  -- a pair before pairs that are resolved
+  pairs-on : (p : Pair) (ps : List Pair) (a b x y : ℤ) (cs xs : List ℤ) (object field : ℕ) (front rest : List ℤ) (q : PairResolved p object field front a b x y)
+      → PairsResolved ps cs (front ++ (q .u ∷ q .v ∷ [])) rest
+      (resolvePairs own all object (q .field′) (length (front ++ (q .u ∷ q .v ∷ []))) ps ((front ++ (q .u ∷ q .v ∷ [])) ++ (xs ++ rest)))
+      → PairsResolved (p ∷ ps) (a ∷ b ∷ cs) front rest (resolvePairs own all object field (length front) (p ∷ ps) (front ++ (x ∷ y ∷ (xs ++ rest))))
+  pairs-on p ps a b x y cs xs object field front rest q r =
+      rw (q .is ps (xs ++ rest)) (pair-on ps cs front rest _ (q .settled) (rw (moved front (q .u) (q .v) (xs ++ rest), moved-length front (q .u) (q .v) rest) at r))
+
   resolve-pairs : {ps : List Pair} {cs xs : List ℤ} → Like text c own true ps cs xs → (object field : ℕ) (front rest : List ℤ)
       → PairsResolved ps cs front rest (resolvePairs own all object field (length front) ps (front ++ (xs ++ rest)))
-  unfolding resolvePairs hasStart isText
+  unfolding resolvePairs
   resolve-pairs nil object field front rest = record { ys = []; is = refl; settled = none }
-  resolve-pairs (also {p = OfAttribute o type} {ps = ps} {cs = cs} {xs = xs} (alike {a = a} {b = b} h) l) object field front rest =
-      rw (plain-stays own all object field front a b (xs ++ rest) o type h)
-      (pair-on ps cs front rest _ (equal (plain-start (OfAttribute o type) a h))
-      (rw (moved front a b (xs ++ rest), moved-length front a b rest) at (resolve-pairs l object (field + 1) (front ++ (a ∷ b ∷ [])) rest)))
-  resolve-pairs (also {p = OfComponent k} {ps = ps} {cs = cs} {xs = xs} (alike {a = a} {b = b} h) l) object field front rest =
-      pair-on ps cs front rest _ (equal (plain-start (OfComponent k) a h))
-      (rw (moved front a b (xs ++ rest), moved-length front a b rest) at (resolve-pairs l object (field + 1) (front ++ (a ∷ b ∷ [])) rest))
-  resolve-pairs (also {p = OfLine o forms ks} {ps = ps} {cs = cs} {xs = xs} (alike {a = a} {b = b} h) l) object field front rest =
-      pair-on ps cs front rest _ (equal (plain-start (OfLine o forms ks) a h))
-      (rw (moved front a b (xs ++ rest), moved-length front a b rest) at (resolve-pairs l object field (front ++ (a ∷ b ∷ [])) rest))
-  resolve-pairs (also {ps = ps} {cs = cs} {xs = xs} (wordAt {longest = longest} {start = start} size e) l) object field front rest =
-      rw (text-stays own all object field longest (length front) (front ++ (pos (1 + size) ∷ pos start ∷ (xs ++ rest))))
-      (pair-on ps cs front rest _ (elsewhere size e)
-      (rw (moved front (pos (1 + size)) (pos start) (xs ++ rest), moved-length front (pos (1 + size)) (pos start) rest) at (resolve-pairs l object (field + 1) (front ++ (pos (1 + size) ∷ pos start ∷ [])) rest)))
-  resolve-pairs (also {ps = ps} {cs = cs} {xs = xs} (nameAt {target = target} {start = start} {n = n} size e) l) object field front rest =
-      rw (name-resolved own all object field target n start size front (xs ++ rest) e)
-      (pair-on ps cs front rest _ (equal refl)
-      (rw (moved front (pos 1) (pos n) (xs ++ rest), moved-length front (pos 1) (pos n) rest) at (resolve-pairs l object (field + 1) (front ++ (pos 1 ∷ pos n ∷ [])) rest)))
-  resolve-pairs (also {ps = ps} {cs = cs} {xs = xs} (isDrawn {a = a} {b = b}) l) object field front rest =
-      pair-on ps cs front rest _ (equal refl)
-      (rw (moved front a b (xs ++ rest), moved-length front a b rest) at (resolve-pairs l object field (front ++ (a ∷ b ∷ [])) rest))
+  resolve-pairs (also {p = p} {ps = ps} {a = a} {b = b} {x = x} {y = y} {cs = cs} {xs = xs} r l) object field front rest =
+      by (pair-resolved r object field front) (λ field′ front′. resolve-pairs l object field′ front′ rest)
+    where
+      by : PairResolved p object field front a b x y → ((field : ℕ) (front : List ℤ) → PairsResolved ps cs front rest (resolvePairs own all object field (length front) ps (front ++ (xs ++ rest))))
+          → PairsResolved (p ∷ ps) (a ∷ b ∷ cs) front rest (resolvePairs own all object field (length front) (p ∷ ps) (front ++ (x ∷ y ∷ (xs ++ rest))))
+      by q ih = pairs-on p ps a b x y cs xs object field front rest q (ih (q .field′) (front ++ (q .u ∷ q .v ∷ [])))
 
 -- ## A row in a list of cells
 
@@ -182,29 +223,55 @@ module _ (m : Model) (text : List ℕ) (c : Content) (own : List ℕ) where
     is : out ≡ resolved (front ++ ys)
     settled : RowsSettled at rows ys to
 
+  -- a row's first three cells
+  abbrev rowHead : (t start size : ℕ) → List ℤ
+  rowHead t start size = pos t ∷ pos start ∷ pos size ∷ []
+
+  -- a resolved row before resolved rows
+  row-on : {at to : ℕ} {rows : List ℕ} (t start size n object : ℕ) (front xs zs : List ℤ) → length front ≡ at → getD (c .cells) at (pos 0) ≡ pos t
+      → getD (c .cells) (at + 2) (pos 0) ≡ pos size → stretch own start size ≡ identificationBytes text (c .cells) at
+      → (q : PairsResolved text c own (pairsOf (tableAt (m .tables) t .attributes)) (drop (at + 3) (c .cells)) (front ++ rowHead t start size) zs
+      (resolvePairs own (lentObjects text (c .cells) (c .rows)) object 3 (at + 3) (pairsOf (tableAt (m .tables) t .attributes)) (front ++ (rowHead t start size ++ (xs ++ zs)))))
+      → length (q .ys) ≡ n
+      → RowsResolved (at + (3 + n)) rows (front ++ (rowHead t start size ++ q .ys)) to
+      (resolveRows own (lentObjects text (c .cells) (c .rows)) (m .tables) (object + 1) rows ((front ++ (rowHead t start size ++ q .ys)) ++ zs))
+      → RowsResolved at (at ∷ rows) front to (resolveRows own (lentObjects text (c .cells) (c .rows)) (m .tables) object (at ∷ rows) (front ++ (rowHead t start size ++ (xs ++ zs))))
+  unfolding resolveRows
+  row-on {at = at} {to = to} {rows = rows} t start size n object front xs zs e a b i q count ih =
+      record {
+        ys = rowHead t start size ++ (q .ys ++ ih .ys);
+        is = rw (cell, first) (ih .is ∙ ap resolved (append-assoc front (rowHead t start size ++ q .ys) (ih .ys)));
+        settled = next a b i (q .settled) (subst (λ (k : ℕ). RowsSettled (at + (3 + k)) rows (ih .ys) to) (sym count) (ih .settled));
+      }
+    where
+      cell : getD (front ++ (rowHead t start size ++ (xs ++ zs))) at (pos 0) ≡ pos t
+      cell = rw (← e) (getD-append-seam front (pos t) _ (pos 0))
+
+      first : resolvePairs own (lentObjects text (c .cells) (c .rows)) object 3 (at + 3) (pairsOf (tableAt (m .tables) t .attributes)) (front ++ (rowHead t start size ++ (xs ++ zs)))
+          ≡ resolved ((front ++ (rowHead t start size ++ q .ys)) ++ zs)
+      first = q .is ∙ ap resolved (append-assoc front (rowHead t start size) (q .ys ++ zs) ∙ sym (append-assoc front (rowHead t start size ++ q .ys) zs))
+
   resolve-rows : {at to : ℕ} {rows : List ℕ} {zs : List ℤ} → RowsLike m text c own at rows zs to → (object : ℕ) (front : List ℤ) → length front ≡ at
       → RowsResolved at rows front to (resolveRows own (lentObjects text (c .cells) (c .rows)) (m .tables) object rows (front ++ zs))
   unfolding resolveRows
   resolve-rows stop object front e = record { ys = []; is = refl; settled = end }
   resolve-rows (row {at = at} {to = to} {t = t} {start = start} {size = size} {rows = rows} {xs = xs} {zs = zs} a b i l r) object front e =
-      let os : List Object = lentObjects text (c .cells) (c .rows) in
-      let ps : List Pair = pairsOf (tableAt (m .tables) t .attributes) in
-      let head : List ℤ = pos t ∷ pos start ∷ pos size ∷ [] in
-      let long : length (front ++ head) ≡ at + 3 = length-append front head ∙ rw e in
-      let cell : getD (front ++ (head ++ (xs ++ zs))) at (pos 0) ≡ pos t = rw (← e) (getD-append-seam front (pos t) _ (pos 0)) in
-      let q : PairsResolved text c own ps (drop (at + 3) (c .cells)) (front ++ head) zs (resolvePairs own os object 3 (at + 3) ps (front ++ (head ++ (xs ++ zs)))) =
-      rw (long, append-assoc front head (xs ++ zs)) at (resolve-pairs text c own l object 3 (front ++ head) zs) in
-      let here : List ℤ = head ++ q .ys in
-      let there : (front ++ head) ++ (q .ys ++ zs) ≡ (front ++ here) ++ zs = append-assoc front head (q .ys ++ zs) ∙ sym (append-assoc front here zs) in
-      let first : resolvePairs own os object 3 (at + 3) ps (front ++ (head ++ (xs ++ zs))) ≡ resolved ((front ++ here) ++ zs) = q .is ∙ ap resolved there in
-      let count : length (q .ys) ≡ length xs = settled-length text own (q .settled) ∙ sym (like-length l) in
-      let size-here : length (front ++ here) ≡ at + (3 + length xs) = length-append front here ∙ (let z : length here ≡ 3 + length xs = omega arith in rw (e, z)) in
-      let ih = resolve-rows r (object + 1) (front ++ here) size-here in
-      record {
-        ys = pos t ∷ pos start ∷ pos size ∷ (q .ys ++ ih .ys);
-        is = rw (cell, first) (ih .is ∙ ap resolved (append-assoc front here (ih .ys)));
-        settled = next a b i (q .settled) (subst (λ (n : ℕ). RowsSettled (at + (3 + n)) rows (ih .ys) to) (sym count) (ih .settled));
-      }
+      by (rw (long, append-assoc front (rowHead t start size) (xs ++ zs)) at (resolve-pairs text c own l object 3 (front ++ rowHead t start size) zs))
+      (λ front′ e′. resolve-rows r (object + 1) front′ e′)
+    where
+      long : length (front ++ rowHead t start size) ≡ at + 3
+      long = length-append front (rowHead t start size) ∙ rw e
+
+      by : PairsResolved text c own (pairsOf (tableAt (m .tables) t .attributes)) (drop (at + 3) (c .cells)) (front ++ rowHead t start size) zs
+          (resolvePairs own (lentObjects text (c .cells) (c .rows)) object 3 (at + 3) (pairsOf (tableAt (m .tables) t .attributes)) (front ++ (rowHead t start size ++ (xs ++ zs))))
+          → ((front′ : List ℤ) → length front′ ≡ at + (3 + length xs)
+          → RowsResolved (at + (3 + length xs)) rows front′ to (resolveRows own (lentObjects text (c .cells) (c .rows)) (m .tables) (object + 1) rows (front′ ++ zs)))
+          → RowsResolved at (at ∷ rows) front to
+          (resolveRows own (lentObjects text (c .cells) (c .rows)) (m .tables) object (at ∷ rows) (front ++ (rowHead t start size ++ (xs ++ zs))))
+      by q ih =
+          let count : length (q .ys) ≡ length xs = settled-length text own (q .settled) ∙ sym (like-length l) in
+          let long′ : length (rowHead t start size ++ q .ys) ≡ 3 + length xs = omega arith in
+          row-on t start size (length xs) object front xs zs e a b i q count (ih (front ++ (rowHead t start size ++ q .ys)) (length-append front (rowHead t start size ++ q .ys) ∙ rw (e, long′)))
 
   -- ## The same table
 

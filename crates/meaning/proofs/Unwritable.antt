@@ -64,13 +64,6 @@ reads-valid m g ls text c h =
 pub own-lines-read : (m : Model) → GoodModel m → (ls : List (List ℕ)) (text : List ℕ) (c : Content) → readsAs m ls text c ≡ true → readsAs m (linesOf m text c) text c ≡ true
 own-lines-read m g ls text c h = valid-reads m text c g (reads-valid m g ls text c h)
 
--- and so where lines are read as it into any rooms: a table that was read can be written
-pub own-lines-read-anywhere : (m : Model) → GoodModel m → (rooms : Rooms) (ls : List (List ℕ)) (s : State) (cs : List ℤ) (text : List ℕ) (c : Content)
-    → readLines m rooms (unfoldedText ls) (startOf m) ls ≡ ran s → resolve m (unfoldedText ls) (s .content) ≡ resolved cs
-    → sameTable m (unfoldedText ls) (resolvedTable (s .content) cs) text c ≡ true → readsAs m (linesOf m text c) text c ≡ true
-own-lines-read-anywhere m g rooms ls s cs text c e r h =
-    valid-reads m text c g (valid-alike m (unfoldedText ls) _ text c (tables-alike m (unfoldedText ls) _ text c h) (read-valid m g rooms ls s cs e r))
-
 pub table-reads : (m : Model) (t : Lent) → isTable m t ≡ true → ReadAs m t (linesOf m (t .text) (contentOf m t))
 unfolding isTable
 table-reads m t h = record { fits = holds _ 0 h; reads = holds _ 1 h }

@@ -1,10 +1,11 @@
 -- The claims of specs/WritingClaims.antt. Assumes nothing.
-use Rattle.meaning.specs.WritingClaims.{Unwritable, JudgedExactly, RoundTrip, RoundTripCounts, WritingRefusalZeroes, WritingKeepsRoom, WrittenZeroBehind, WrittenFitsWidth, WrittenAgain}
+use Rattle.meaning.specs.WritingClaims.{Unwritable, JudgedExactly, RoundTrip, RoundTripCounts, WritingRefusalZeroes, WritingKeepsRoom, WrittenZeroBehind, WrittenFitsWidth, WrittenAgain, ReadIsWritable}
 use Rattle.meaning.proofs.Unwritable as lines
 use Rattle.meaning.proofs.Judged as judged
 use Rattle.meaning.proofs.RoundTrip as back
 use Rattle.meaning.proofs.RoomsLeft as left
 use Rattle.meaning.proofs.WrittenAgain as again
+use Rattle.meaning.proofs.ReadWritable as writable
 
 pub unwritable : Unwritable
 unwritable = lines.unwritable
@@ -32,3 +33,6 @@ written-fits-width = left.written-fits
 
 pub written-again : WrittenAgain
 written-again = again.written-again
+
+pub read-is-writable : ReadIsWritable
+read-is-writable = writable.read-is-writable

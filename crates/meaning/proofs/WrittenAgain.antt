@@ -51,7 +51,7 @@ fits z room n xs e = le-leb n _ (rw (length-append xs (replicate (room - length 
 
 module _ (m : Model) (g : GoodModel m) (t : Lent) (counts : countsFit m t ≡ true) (valid : Valid m (t .text) (contentOf m t)) (rooms : Rooms) (text : List ℕ) (c : Content) (cs : List ℤ)
     (s : TablesAlike m text (resolvedTable c cs) (t .text) (contentOf m t)) where
-  abbrev again : Lent
+  abbrev pub again : Lent
   again = lentAgain (acceptedWith rooms text c cs) (t .objects) (t .cellCount) (t .pointCount)
 
   mark-size : length (c .marks) ≡ markCount m
@@ -103,7 +103,7 @@ module _ (m : Model) (g : GoodModel m) (t : Lent) (counts : countsFit m t ≡ tr
       ∙ (sym (lines-same m text (resolvedTable c cs) longer (resolvedTable c cs) (longer-alike text _ (resolvedTable c cs) m valid-text) valid-text)
       ∙ sym (lines-same m (t .text) (contentOf m t) text (resolvedTable c cs) (alike-back m text (resolvedTable c cs) (t .text) (contentOf m t) s) valid))
 
-  table-again : isTable m again ≡ true
+  pub table-again : isTable m again ≡ true
   unfolding isTable allOf acceptedWith
   table-again = rw (counts-again, content-again, valid-reads m longer (resolvedTable c cs) g valid-again)
 

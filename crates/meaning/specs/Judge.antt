@@ -21,7 +21,7 @@ use Rattle.meaning.specs.Writing.{Lent, countsFit, contentOf, stretchByt
 unfoldable pub cellIs : ℤ → ℕ → Bool
 cellIs a n = not (ltZ a (pos n)) && not (ltZ (pos n) a)
 
--- "Undefined is 0 0", where a is 0 and what the pair is of may be undefined
+-- "Undefined is 0 0": the second cell of a pair whose first is 0, which only an optional attribute has
 unfoldable pub judgeUndefined : (optional : Bool) (b : ℤ) → Bool
 judgeUndefined o b = o && cellIs b 0
 
@@ -107,8 +107,8 @@ judgeReference c target b =
     ∷ cellIs (getD (c .cells) row (pos 0)) target
     ∷ [])
 
--- the pair of an attribute whose first cell is not 0: "Number, date, enumeration: 1 and the value. Text: 1 plus length, start"
--- coordinates have a pair per component, and lines are judged by `judgeLine`
+-- the pair of an attribute whose first cell is not 0: "Number, date, enumeration: 1 and the value. Text: 1 plus length, start. Reference: 1 and
+-- the number of the object". No pair is of a coordinate as a whole, and lines are judged by `judgeLine`
 unfoldable pub judgeValue : (u : ℕ) (text : List ℕ) → Content → AttributeType → (a b : ℤ) → Bool
 judgeValue u text c (Reference target) a b = cellIs a 1 && judgeReference c target b
 judgeValue u text c (Coordinate ks) a b = false
@@ -149,6 +149,7 @@ definedBehind before (OfAttribute o type) a = not (cellIs a 0)
 definedBehind before (OfComponent x) a = before
 definedBehind before (OfLine o forms ks) a = before
 
+-- what follows where something is fine
 abbrev pub afterFound : {A : Type 0} → Found → A → (ℕ → A) → A
 afterFound (found k) not-fine next = next k
 afterFound missing not-fine next = not-fine

@@ -65,10 +65,10 @@ pub record Line : Type 0 where
   pub start : ℕ
   pub bytes : List ℕ
 
--- "The unfolded text is each logical line followed by one LF"
-unfoldable pub placed : (start : ℕ) → List (List ℕ) → List Line
-placed start [] = []
-placed start (l ∷ ls) = record { start = start; bytes = l } ∷ placed (start + length l + 1) ls
+-- the lines with their starts: "The unfolded text is each logical line followed by one LF"
+unfoldable pub withStarts : (start : ℕ) → List (List ℕ) → List Line
+withStarts start [] = []
+withStarts start (l ∷ ls) = record { start = start; bytes = l } ∷ withStarts (start + length l + 1) ls
 
 -- the line's fields are this code and then these
 pub record Coded (code : List ℕ) (l : Line) (others : List Field) : Type 0 where
@@ -135,6 +135,7 @@ pub data Segments (u forms : ℕ) (cs : List Component) : List Line → List Poi
   last : {ls : List Line} {ps : List Point} → Segment u forms cs ls ps → Segments u forms cs ls ps
   more : {ls others : List Line} {ps qs : List Point} → Segment u forms cs ls ps → Segments u forms cs others qs → Segments u forms cs (ls ++ others) (ps ++ qs)
 
+-- the lines from STPT to ELIN, and the points of the line
 pub data Drawn (u forms : ℕ) (cs : List Component) : List Line → List Point → Type 0 where
   drawn : {l e : Line} {ls : List Line} {vs : List ℤ} {ps : List Point} → PointLine u cs STPT l vs → Segments u forms cs ls ps → Alone ELIN e
       → Drawn u forms cs (l ∷ (ls ++ (e ∷ []))) (record { kind = 0; values = vs } ∷ ps)
@@ -180,6 +181,7 @@ pub data ObjectLines (m : Model) (t : ℕ) : List Line → Delivered → Type 0 
   object : {l : Line} {ls : List Line} {i : Field} {fs : List Field} {es : List Entry} → Coded OBJE l (i ∷ fs) → Identification (m .undefined) i
       → Entries (m .undefined) wasDefined (pairsOf (tableAt (m .tables) t .attributes)) fs ls es → ObjectLines m t (l ∷ ls) (record { table = t; identification = i; entries = es })
 
+-- any number of objects of table t
 pub data Objects (m : Model) (t : ℕ) : List Line → List Delivered → Type 0 where
   none : Objects m t [] []
   more : {ls others : List Line} {o : Delivered} {os : List Delivered} → ObjectLines m t ls o → Objects m t others os → Objects m t (ls ++ others) (o ∷ os)
@@ -221,13 +223,14 @@ pub data File (m : Model) : List Line → List DeliveredTopic → Type 0 where
       → Coded MODL modl (g ∷ []) → g .bytes ≡ m .name → Topics m 0 ls ts → Alone EMOD emod → Alone ENDE ende
       → File m (scnt ∷ (ds ++ (mtid ∷ modl ∷ (ls ++ (emod ∷ ende ∷ []))))) ts
 
--- "Equal means equal bytes; identifications are unique in the file"
+-- what an object beyond the last is taken for
 abbrev pub noObject : Delivered
 noObject = record { table = 0; identification = noField; entries = [] }
 
 abbrev pub identificationAt : List Delivered → ℕ → List ℕ
 identificationAt os n = getD os n noObject .identification .bytes
 
+-- "Equal means equal bytes; identifications are unique in the file"
 abbrev pub Unique : List Delivered → Type 0
 Unique os = (i j : ℕ) → i < j → j < length os → identificationAt os i ≡ identificationAt os j → ⊥
 
@@ -238,7 +241,7 @@ pub record Names (os : List Delivered) (target : ℕ) (identification : List ℕ
   pub table : getD os number noObject .table ≡ target
   pub same : identificationAt os number ≡ identification
 
--- each reference names an object of its table
+-- an entry that is a reference names an object of its table
 abbrev pub IsNamed : List Delivered → Entry → Type 0
 IsNamed os Undefined = Unit {0}
 IsNamed os (OfValue v) = Unit {0}
@@ -246,17 +249,19 @@ IsNamed os (OfText f) = Unit {0}
 IsNamed os (OfReference target f) = Names os target (f .bytes)
 IsNamed os (OfPoints ps) = Unit {0}
 
+-- all references of an object do
 abbrev pub AllNamed : List Delivered → List Entry → Type 0
 AllNamed os [] = Unit {0}
 AllNamed os (e ∷ es) = IsNamed os e × AllNamed os es
 
+-- and of these objects
 abbrev pub Referred : (all os : List Delivered) → Type 0
 Referred all [] = Unit {0}
 Referred all (o ∷ os) = AllNamed all (o .entries) × Referred all os
 
 -- the lines ls are right and deliver ds: structure and values, identifications, references
 pub record Right (m : Model) (ls : List (List ℕ)) (ds : List DeliveredTopic) : Type 0 where
-  pub file : File m (placed 0 ls) ds
+  pub file : File m (withStarts 0 ls) ds
   pub unique : Unique (objectsOfTopics ds)
   pub references : Referred (objectsOfTopics ds) (objectsOfTopics ds)
 
@@ -320,6 +325,7 @@ unfoldable pub markTopics : (topics : ℕ) → List DeliveredTopic → List ℕ 
 markTopics topics [] marks = marks
 markTopics topics (p ∷ ps) marks = markTopics topics ps (markTables topics (p .tables) (set marks (p .topic) 1))
 
+-- marks, row list, cells and points of what is delivered
 unfoldable pub tableOf : Model → List DeliveredTopic → Content
 tableOf m ds =
     let os : List Delivered = objectsOfTopics ds in

@@ -17,7 +17,7 @@ use Rattle.meaning.specs.Lines.{no, stepOf, ran, run}
 use Rattle.meaning.specs.Table.{findObject, Result, acceptedWith, refusedWith, readText, read}
 use Rattle.meaning.specs.Writing.{markCount}
 use Rattle.meaning.specs.WritingClaims.{Enough}
-use Rattle.meaning.specs.Right.{Entry, OfReference, Delivered, DeliveredTopic, objectsOfTopics, placed, File, Unique, Names, IsNamed, AllNamed, Right, namesOf, tableOf}
+use Rattle.meaning.specs.Right.{Entry, OfReference, Delivered, DeliveredTopic, objectsOfTopics, withStarts, File, Unique, Names, IsNamed, AllNamed, Right, namesOf, tableOf}
 use Rattle.meaning.specs.Sample.{sampleModel, with7}
 use Rattle.meaning.specs.Neighbours.{oneMore}
 
@@ -39,6 +39,7 @@ pub record RightWithin (m : Model) (ls : List (List ℕ)) (rooms : Rooms) : Type
   pub right : Right m ls delivered
   pub enough : Enough m ls (tableOf m delivered) rooms
 
+-- an answer is of a file that is accepted: 0 and three counts
 pub record IsAccepted (a : Answer) : Type 0 where
   pub first : ℕ
   pub second : ℕ
@@ -135,7 +136,7 @@ pub data First (model file : List ℕ) (rooms : Rooms) : (number first second : 
       → First model file rooms 7 (1 + length ls) 1
   -- all lines pass and none is due; of all that they deliver this is the first reference that names no object
   objectMissing : {m : Model} {ls : List (List ℕ)} {s : State} {ds : List DeliveredTopic} {object field : ℕ} → Opened model file m ls → HasRoom m ls rooms → Pass m rooms ls ls s
-      → isComplete (s .due) ≡ true → File m (placed 0 ls) ds → Unique (objectsOfTopics ds) → FirstOfObjects m (objectsOfTopics ds) 0 (objectsOfTopics ds) object field → First model file rooms 17 object field
+      → isComplete (s .due) ≡ true → File m (withStarts 0 ls) ds → Unique (objectsOfTopics ds) → FirstOfObjects m (objectsOfTopics ds) 0 (objectsOfTopics ds) object field → First model file rooms 17 object field
 
 -- "otherwise the first refusal in the fixed order is given": a refusal is the first one
 abbrev pub RefusalIsFirst : Type 0

@@ -85,6 +85,12 @@ WrittenAgain =
     → Enough m (linesOf m (t .text) (contentOf m t)) (contentOf m t) rooms → (width′ room′ : ℕ)
     → write model (lentAgain (read model (take n (write model t width room .output)) rooms) (t .objects) (t .cellCount) (t .pointCount)) width′ room′ ≡ write model t width′ room′
 
+-- every table of a reading can be written: the answer is never 19
+abbrev pub ReadIsWritable : Type 0
+ReadIsWritable =
+    (model file : List ℕ) (m : Model) (rooms : Rooms) (objects cells points width room : ℕ) → checkModel model ≡ good m → read model file rooms .answer ≡ accepted objects cells points
+    → 16 ≤ width → width ≤ 65535 → write model (lentAgain (read model file rooms) objects cells points) width room .answer ≡ refusal 19 0 0 → ⊥
+
 -- ## What writing leaves in its room
 
 -- "All result buffers are zeroed by every refusal"
