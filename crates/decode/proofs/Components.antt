@@ -3,10 +3,14 @@ use Prim.Native.Nat.{ℕ, zero, suc, _*_, _≤_}
 use native.Mathlib.Omega.{arith}
 use mathlib.Core.Path.{_≡_, refl, _∙_}
 use mathlib.Core.List.{List, [], _∷_}
-use lib.IntN.{pos}
-use lib.ListN.{length, take, drop, set, length-set}
+use lib.IntN.{ℤ, pos}
+use lib.ListN.{length, take, drop, set, length-set, getD}
 use lib.Seq.{drop-drop}
+use mir.Syntax.{w64}
+use mir.Val.{SFits, toZ, ofZ}
+use mir.ValLaws.{toZ-ofZ}
 use Rattle.meaning.specs.Model as meaning
+use Rattle.meaning.specs.Bytes.{i64At}
 use Rattle.component.specs.Meant.{componentOf, listOf}
 use Rattle.component.specs.declared.Component.{Component}
 use Rattle.decode.specs.Held.{declaredOf}
@@ -31,3 +35,9 @@ pub items-length : (p : List ℕ) (n : ℕ) → length (itemsOf p n) ≡ 3
 unfolding itemsOf
 items-length p zero = refl
 items-length p (suc n) = length-set (itemsOf p n) n _ ∙ items-length p n
+
+-- a component from its byte and its two numbers, each held in 64 bits
+pub component-read : (p : List ℕ) (least greatest : ℤ) → SFits w64 least → SFits w64 greatest → least ≡ i64At p 1 → greatest ≡ i64At p 9
+    → _≡_ {A = Component} (record { decimals = getD p 0 0; least = toZ w64 (ofZ w64 least); greatest = toZ w64 (ofZ w64 greatest) }) (declaredOf (meaning.componentOf p))
+unfolding meaning.componentOf
+component-read p least greatest f g a b = rw (toZ-ofZ w64 least f, toZ-ofZ w64 greatest g, a, b)

@@ -27,11 +27,11 @@ use Rattle.state.specs.declared.Moved.{Moved}
 use Rattle.state.specs.declared.Moved.the-variants.{To, No}
 use Rattle.state.specs.Meant.{dueOf, markedBy, movedOf, markedOf}
 use Rattle.held.specs.Holds.{TablesHold, TableHolds}
-use Rattle.frame.specs.declared.codes.Head.{Head}
-use Rattle.frame.specs.Heads.{HeadOf}
-use Rattle.frame.specs.Moves.{endIn, aloneIn, MovedHolds}
+use Rattle.coded_lines.specs.declared.codes.Head.{Head}
+use Rattle.coded_lines.specs.Heads.{HeadOf}
+use Rattle.coded_lines.specs.Moves.{endIn, aloneIn, MovedHolds}
 use Rattle.frame.specs.Walks.{Passed, InTopic, foundAt, TableSkipped, TableNext, FoundTable, tableIn, topicEndIn}
-use Rattle.frame.proofs.Moves.{marked-refuse, holds-refuse, behind-more, behind-at, some-field, alone-moved, alone-holds, has-code, has-not}
+use Rattle.coded_lines.proofs.Moves.{marked-refuse, holds-refuse, behind-more, behind-at, some-field, alone-moved, alone-holds, has-code, has-not}
 use Rattle.frame.proofs.Finds.{table-hit, table-pass, table-start, table-none, owed-more, owed-start, owed-end}
 
 -- ## The walk

@@ -23,11 +23,11 @@ use Rattle.state.specs.declared.Due.the-variants.{ModelName, TopicFrom, TableFr
 use Rattle.state.specs.declared.Moved.{Moved}
 use Rattle.state.specs.declared.Moved.the-variants.{To, No}
 use Rattle.state.specs.Meant.{dueOf, markedBy, movedOf, markedOf}
-use Rattle.frame.specs.declared.codes.Head.{Head}
-use Rattle.frame.specs.Heads.{HeadOf}
-use Rattle.frame.specs.Moves.{endIn, namedIn, MovedHolds}
+use Rattle.coded_lines.specs.declared.codes.Head.{Head}
+use Rattle.coded_lines.specs.Heads.{HeadOf}
+use Rattle.coded_lines.specs.Moves.{endIn, namedIn, MovedHolds}
 use Rattle.frame.specs.Walks.{Passed, TopicAt, topicIn}
-use Rattle.frame.proofs.Moves.{marked-refuse, holds-refuse, behind-more, behind-at, some-field, named-moved, has-code, has-not}
+use Rattle.coded_lines.proofs.Moves.{marked-refuse, holds-refuse, behind-more, behind-at, some-field, named-moved, has-code, has-not}
 use Rattle.frame.proofs.Finds.{topic-hit, topic-pass, topic-none, topic-start}
 
 -- the first 24 bytes, of a shorter name too

@@ -1,4 +1,1 @@
-pub mod Codes
-pub mod Heads
-pub mod Moves
 pub mod Walks

@@ -1,7 +1,5 @@
-// The lines outside objects: what each makes of what is due.
+// The lines of the transfer, its model, topics and tables: what each makes of what is due.
 pub mod beginning;
-pub mod codes;
-pub mod lines;
 pub mod names;
 pub mod tables;
 pub mod topics;

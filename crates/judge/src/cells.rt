@@ -19,7 +19,7 @@ pub fn is_below(a: i64, n: usize) -> bool
 pub fn size_of(a: i64) -> usize
     ensures { λ r. ⌜ r ≡ natAbs a ⌝ }
 {
-    value::written::magnitude(a) as usize
+    value_written::magnitude(a) as usize
 }
 
 // Is a cell this number?

@@ -31,9 +31,9 @@ use Rattle.state.specs.declared.Step as state
 use Rattle.state.specs.declared.Step.the-variants.{Go, No}
 use Rattle.state.specs.Meant.{lineStateOf, linesAt, underwayOf, dueOf, contentOf}
 use Rattle.held.specs.Holds.{LineHolds, Laid, Holds}
-use Rattle.frame.specs.Heads.{HeadOf}
-use Rattle.frame.specs.declared.codes.Head.{Head}
-use Rattle.frame.proofs.Moves.{behind-more}
+use Rattle.coded_lines.specs.Heads.{HeadOf}
+use Rattle.coded_lines.specs.declared.codes.Head.{Head}
+use Rattle.coded_lines.proofs.Moves.{behind-more}
 use Rattle.lines.specs.Codes.{codeOf}
 use Rattle.lines.specs.Ways.{wayOf, Given, Behind, Does}
 

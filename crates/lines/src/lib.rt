@@ -116,7 +116,7 @@ pub fn attribute_line(
     ensures { λ r. ⌜ ((rooms : Rooms) (text : List ℕ) (start : ℕ) → rooms .points ≡ length (now (points .entry)) → Does (now (model .entry)) u s (λ c. lineDue (modelAt (now (model .entry))) rooms text (dueOf (now (model .entry)) (LineOf u)) (now (l .entry)) (fieldsOf start (now (l .entry))) c) (now (cells .entry)) (now (points .entry)) (now (cells .exit)) (now (points .exit)) r) ⌝ }
 {
     let at = u.at;
-    let head = frame::codes::head_of(l);
+    let head = coded_lines::codes::head_of(l);
     let behind = head.behind;
     let a = decode::attribute_at(model, at);
     let code = moves::name_code(head.code);

@@ -55,7 +55,7 @@ pub fn undefined_line(model: &[u8], optional: bool, rest: &[u8], u: Underway, s:
     if !optional {
         return Step::No(12, 1);
     }
-    if !frame::lines::is_bare(rest) {
+    if !coded_lines::lines::is_bare(rest) {
         return Step::No(11, 2);
     }
     Step::Go(behind_line(model, u, s, u.first))
@@ -77,7 +77,7 @@ pub fn end_line(model: &[u8], rest: &[u8], cells: &mut [i64], u: Underway, s: St
     requires { ⌜ s .cells ≤ length (now cells) ⌝ }
     ensures { λ r. ⌜ ((a : Attribute) (rooms : Rooms) (text : List ℕ) (fs : List Field) (start : ℕ) (points : List ℤ) → 4 * s .points ≤ length points → drop 1 fs ≡ fieldsOf start (now (rest .entry)) → Does (now (model .entry)) u s (λ c. attributeLine (modelAt (now (model .entry))) rooms text (wayOf (now (model .entry)) a u) fs c ended) (now (cells .entry)) points (now (cells .exit)) points r) ⌝ }
 {
-    if !frame::lines::is_bare(rest) {
+    if !coded_lines::lines::is_bare(rest) {
         return Step::No(11, 2);
     }
     put_line(cells, u.cell, s.points - u.first, u.first);

@@ -18,7 +18,7 @@ ghost use Rattle.lines.specs.Ways.{wayOf, Does};
 ghost use Rattle.lines.specs.Points.{Stores, Joins};
 use component::Components;
 use decode::Attribute;
-use row::points::PointAnswer;
+use row_points::points::PointAnswer;
 use state::Due;
 use state::LineCode;
 use state::LineState;
@@ -43,7 +43,7 @@ fn store_point(
     if points.len() - at < 4 {
         return Step::No(16, 0);
     }
-    row::points::put_point(points, at, kind, values, count);
+    row_points::points::put_point(points, at, kind, values, count);
     Step::Go(State {
         due: Due::LineOf(u),
         rows: s.rows,
@@ -67,7 +67,7 @@ fn read_point(
     ensures { λ r. ⌜ ((start : ℕ) → Joins kind u s (now (points .entry)) (now (points .exit)) r (componentValues undefined 2 (componentsOf components) (fieldsOf start (now (rest .entry))))) ⌝ }
 {
     let count = components.count;
-    let out = row::points::point_values(rest, undefined, components);
+    let out = row_points::points::point_values(rest, undefined, components);
     let answer = out.answer;
     let values = out.values;
     match answer {

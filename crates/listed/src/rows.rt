@@ -7,7 +7,6 @@ ghost use lib.ListN.{length, take, drop, getD};
 ghost use Rattle.meaning.specs.Bytes.{choose};
 ghost use Rattle.meaning.specs.Digits.{numberBytes};
 ghost use Rattle.meaning.specs.Listing.{printRow};
-use value::written;
 
 // A cell and the byte behind it, behind the first n bytes.
 fn put_cell(v: i64, behind: u8, out: &mut [u8], n: usize) -> usize
@@ -15,7 +14,7 @@ fn put_cell(v: i64, behind: u8, out: &mut [u8], n: usize) -> usize
     ensures few { λ r. ⌜ r ≤ n + 22 ⌝ }
     ensures bytes { λ r. ⌜ take r (now (out .exit)) ≡ take n (now (out .entry)) ++ (numberBytes 0 v ++ (behind ∷ [])) ⌝ }
 {
-    let size = written::put_enumeration(v, &mut out[n..]);
+    let size = value_written::put_enumeration(v, &mut out[n..]);
     let end = n + size;
     out[end] = behind;
     end + 1

@@ -3,7 +3,7 @@ ghost use mathlib.Core.Path.{_≡_};
 ghost use Prim.Native.Nat.{_*_, _<_};
 ghost use lib.ListN.{length};
 use listed::rows;
-use reader::Answer;
+use reading::Answer;
 
 fn print_number(n: usize, behind: &[u8]) {
     io::print_decimal(1, n as u64);

@@ -6,7 +6,7 @@ use mathlib.Core.List.{List, [], _∷_}
 use lib.ListN.{length, take, drop, length-take, length-drop, drop-of-length-le}
 use lib.Seq.{take-nil, drop-nil, drop-drop, length-take-le, getD-take, getD-drop}
 use Rattle.meaning.specs.Bytes.{byteAt, u16At}
-use Rattle.model.specs.Names.{nameOf}
+use Rattle.record_rules.specs.Names.{nameOf}
 use Rattle.model.specs.Records.{payloadAt, nextAt}
 
 -- the part of the model from behind a record's four bytes to the next record is its payload

@@ -14,13 +14,13 @@ use Rattle.meaning.specs.Model.{Records, finish, overrun, entry, attributeOf, t
 use Rattle.meaning.specs.Check as check
 use Rattle.meaning.proofs.Marks.{holds}
 use Rattle.meaning.proofs.Records.{entry-at, overrun-at, finish-at}
-use Rattle.model.specs.Names.{nameOf, namesOf}
+use Rattle.record_rules.specs.Names.{nameOf, namesOf}
 use Rattle.model.specs.Records.{recordsAt, payloadAt, nextAt, nameStart}
 use Rattle.model.specs.References.{topicNumbers}
 use Rattle.model.specs.Walk.{seenOf, passesAt, advancedOn, advanced, Walked}
 use Rattle.model.specs.declared.check.Walker.{Walker}
-use Rattle.model.proofs.Ranges.{both}
-use Rattle.model.proofs.Words.{names-kept, names-more, names-length}
+use Rattle.record_rules.proofs.Ranges.{both}
+use Rattle.record_rules.proofs.Words.{names-kept, names-more, names-length}
 
 -- two tests that hold together
 pub leb-same : (a b x y : ℕ) → (a ≤ b → x ≤ y) → (b < a → y < x) → leb a b ≡ leb x y

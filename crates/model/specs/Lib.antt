@@ -1,5 +1,3 @@
-pub mod Names
-pub mod Attributes
 pub mod Records
 pub mod References
 pub mod Walk

@@ -10,7 +10,7 @@ use Rattle.meaning.specs.Answer as meaning
 use Rattle.meaning.specs.Model.{Records, Model, topicsOf, tablesOf, modelOf}
 use Rattle.meaning.specs.Check as check
 use Rattle.meaning.specs.Check.{Seen, follows, keeps}
-use Rattle.model.specs.Names.{namesOf}
+use Rattle.record_rules.specs.Names.{namesOf}
 use Rattle.model.specs.Records.{recordsAt, payloadAt, nextAt}
 use Rattle.model.specs.References.{topicNumbers}
 use Rattle.model.specs.declared.check.Checked.{Checked}

@@ -5,16 +5,16 @@ ghost use lib.Dec.{eqb};
 ghost use lib.ListN.{length, take};
 ghost use Rattle.meaning.specs.Answer as meaning;
 ghost use Rattle.meaning.specs.Check.{keeps, keepsTopic, keepsTable, checkRecords, nothingSeen};
-ghost use Rattle.model.specs.Names.{namesOf};
+ghost use Rattle.record_rules.specs.Names.{namesOf};
 ghost use Rattle.model.specs.Records.{nextAt};
 ghost use Rattle.model.specs.Walk.{seenOf, passesAt, advanced, topicsSeen, tablesSeen, Walked, checkedRecords, checkedMeant};
-use crate::attributes;
-use crate::names;
 use crate::records;
 use crate::references;
 use crate::references::Outside;
-use crate::rules;
 use decode::numbers;
+use record_rules::attributes;
+use record_rules::names;
+use record_rules::rules;
 use text::tests;
 
 // A good model with its count of topics, or the byte of the first bad record.

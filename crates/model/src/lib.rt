@@ -1,7 +1,4 @@
-// The compiled model: its check, and the decoding of its records.
-pub mod attributes;
+// The check of a compiled model: its records in order, and its references.
 pub mod check;
-pub mod names;
 pub mod records;
 pub mod references;
-pub mod rules;

@@ -5,9 +5,9 @@ ghost use lib.Dec.{leb};
 ghost use lib.ListN.{length, drop};
 ghost use Rattle.meaning.specs.Bytes.{u16At};
 ghost use Rattle.model.specs.Records.{payloadAt, nextAt, nameStart};
-ghost use Rattle.model.specs.Names.{nameOf};
-use crate::attributes;
+ghost use Rattle.record_rules.specs.Names.{nameOf};
 use decode::numbers;
+use record_rules::attributes;
 
 // Whether a record fits the model: its four bytes, and its payload.
 pub fn fits_at(model: &[u8], at: usize) -> bool

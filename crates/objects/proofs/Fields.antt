@@ -22,7 +22,7 @@ use Rattle.state.specs.declared.State.{State}
 use Rattle.state.specs.declared.Step as declared
 use Rattle.state.specs.declared.Step.the-variants.{No}
 use Rattle.held.specs.Holds.{TableHolds}
-use Rattle.frame.proofs.Moves.{behind-more, behind-at}
+use Rattle.coded_lines.proofs.Moves.{behind-more, behind-at}
 use Rattle.objects.specs.declared.naming.Identified.{Identified}
 use Rattle.objects.specs.declared.naming.Identified.the-variants.{At}
 use Rattle.objects.specs.Names.{identifyIn, IdentifiedAt, Identifies}

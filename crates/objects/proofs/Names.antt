@@ -10,7 +10,7 @@ use Rattle.meaning.specs.Bytes.{refuse}
 use Rattle.meaning.specs.Field.{Field, fieldsOf}
 use Rattle.meaning.specs.Value.{isIdentification, isUndefined, isUndefinedTwice}
 use Rattle.meaning.specs.Lines.{Step, no}
-use Rattle.row.specs.Taken.{FieldTaken, TwiceTaken}
+use Rattle.row_fields.specs.Taken.{FieldTaken, TwiceTaken}
 use Rattle.objects.specs.Names.{identifyIn, IdentifiedAt}
 
 -- ## A first field

@@ -1,6 +1,6 @@
 // The identification of an OBJE line.
 ghost use Rattle.objects.specs.Names.{Identifies};
-use row::taking::Taken;
+use row_fields::taking::Taken;
 
 // Where the identification starts in the rest of the line, and how long it is; or a refusal of field 2.
 pub enum Identified {
@@ -12,7 +12,7 @@ pub enum Identified {
 pub fn take_identification(rest: &[u8], undefined: u8) -> Identified
     ensures { λ r. ⌜ Identifies undefined (now (rest .entry)) r ⌝ }
 {
-    match row::taking::take_field(rest, undefined) {
+    match row_fields::taking::take_field(rest, undefined) {
         Taken::Missing => Identified::No(11),
         Taken::Defined(start, len) => {
             let end = start + len;

@@ -1,10 +1,3 @@
-pub mod TextLines
-pub mod Turns
-pub mod Going
-pub mod Stepping
-pub mod Endings
-pub mod Counted
-pub mod Referring
 pub mod Marking
 pub mod Unfolding
 pub mod Files

@@ -10,9 +10,9 @@ use borrow.Author.Tests.{lt-ltb, le-ltb}
 use Rattle.meaning.specs.Bytes.{refuse}
 use Rattle.meaning.specs.Reading.{Rooms}
 use Rattle.meaning.specs.Table.{Result, refusedWith}
-use Rattle.reader.specs.Outcomes.{TableRead, MarksRead}
-use Rattle.reader.specs.declared.Answer.{Answer}
-use Rattle.reader.specs.declared.Answer.the-variants.{Accepted, Refused}
+use Rattle.reading.specs.Outcomes.{TableRead, MarksRead}
+use Rattle.reading.specs.declared.Answer.{Answer}
+use Rattle.reading.specs.declared.Answer.the-variants.{Accepted, Refused}
 
 drop-same : {A : Type 0} (z : A) (k n : ℕ) → n ≤ k → drop n (replicate k z) ≡ replicate (k - n) z
 drop-same z k zero h = ap (λ (j : ℕ). replicate j z) (let e : k ≡ k - 0 = omega arith in e)

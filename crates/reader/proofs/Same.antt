@@ -10,11 +10,11 @@ use contract.Lifetimes.{Lfts}
 use denote.Ref.{now}
 use denote.Triple.Clauses.{AtExit}
 use Rattle.meaning.specs.Answer as meaning
-use Rattle.reader.specs.Steps.{roomsOf}
-use Rattle.reader.specs.Outcomes.{answerOf}
+use Rattle.steps.specs.Steps.{roomsOf}
+use Rattle.reading.specs.Outcomes.{answerOf}
 use Rattle.reader.specs.Same.{Outcome, Allowed, OutcomesCoincide, SameTable, CallsCoincide}
-use Rattle.reader.specs.declared.Answer.{Answer}
-use Rattle.reader.specs.declared.Answer.the-variants.{Accepted, Refused}
+use Rattle.reading.specs.declared.Answer.{Answer}
+use Rattle.reading.specs.declared.Answer.the-variants.{Accepted, Refused}
 use Rattle.reader.proofs.read.Kinds as kinds
 use Rattle.reader.proofs.read.Reads as reads
 

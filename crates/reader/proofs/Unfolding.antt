@@ -18,11 +18,11 @@ use Rattle.meaning.specs.Reading.{startOf, Rooms}
 use Rattle.meaning.specs.Lines.{readLines}
 use Rattle.meaning.specs.Table.{Result, refusedWith, readRun, readText, readUnfolded}
 use Rattle.meaning.proofs.Cuts.{unfolds-cut}
-use Rattle.reader.specs.Text.{linesOf}
-use Rattle.reader.specs.Outcomes.{MarksRead, ReadInto}
-use Rattle.reader.specs.declared.Answer as reader
-use Rattle.reader.specs.declared.Answer.the-variants.{Accepted, Refused}
-use Rattle.reader.proofs.TextLines.{lines-back}
+use Rattle.reading.specs.Text.{linesOf}
+use Rattle.reading.specs.Outcomes.{MarksRead, ReadInto}
+use Rattle.reading.specs.declared.Answer as reader
+use Rattle.reading.specs.declared.Answer.the-variants.{Accepted, Refused}
+use Rattle.reading.proofs.TextLines.{lines-back}
 
 module _ (m : Model) (rooms : Rooms) where
   -- 3 to 5

@@ -1,4 +1,1 @@
-pub mod Text
-pub mod Steps
-pub mod Outcomes
 pub mod Same

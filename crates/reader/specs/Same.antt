@@ -6,8 +6,8 @@ use lib.IntN.{ℤ}
 use lib.ListN.{replicate}
 use Rattle.meaning.specs.Reading.{Rooms}
 use Rattle.meaning.specs.Table.{read}
-use Rattle.reader.specs.Outcomes.{answerOf}
-use Rattle.reader.specs.declared.Answer.{Answer}
+use Rattle.reading.specs.Outcomes.{answerOf}
+use Rattle.reading.specs.declared.Answer.{Answer}
 
 -- the outcome of a call: its answer, and what each lent buffer then holds
 pub record Outcome : Type 0 where

@@ -10,24 +10,13 @@ ghost use Rattle.meaning.specs.Reading.{startOf, Rooms};
 ghost use Rattle.meaning.specs.Lines.{readLines};
 ghost use Rattle.meaning.specs.Table as table;
 ghost use Rattle.decode.specs.Records.{modelAt};
-ghost use Rattle.reader.specs.Text.{linesOf};
-ghost use Rattle.reader.specs.Steps.{roomsOf};
-ghost use Rattle.reader.specs.Outcomes.{answerOf, Fits, MarksRead, ReadInto};
-
-mod ends;
-mod finishing;
-mod loops;
-mod marks;
-mod steps;
-mod tables;
-
+ghost use Rattle.reading.specs.Text.{linesOf};
+ghost use Rattle.steps.specs.Steps.{roomsOf};
+ghost use Rattle.reading.specs.Outcomes.{answerOf, Fits, MarksRead, ReadInto};
 use model::check::Checked;
-
-// "0, objects, cells, points; or a refusal, two place numbers, 0".
-pub enum Answer {
-    Accepted(usize, usize, usize),
-    Refused(u8, usize, usize),
-}
+use reading::Answer;
+use reading::finishing;
+use reading::tables;
 
 // Under a good model with so many topics.
 fn read_good(

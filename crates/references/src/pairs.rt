@@ -40,7 +40,7 @@ pub fn size_at(cells: &[i64], cell: usize) -> usize
     requires { ⌜ cell < length (now cells) ⌝ }
     ensures { λ r. ⌜ r ≡ cellAt (now (cells .entry)) cell ⌝ }
 {
-    value::written::magnitude(cells[cell]) as usize
+    value_written::magnitude(cells[cell]) as usize
 }
 
 // The number of the object, in the place of its identification's stretch.

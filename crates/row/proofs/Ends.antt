@@ -13,14 +13,14 @@ use Rattle.meaning.specs.Field.{Field, fieldsOf}
 use Rattle.meaning.specs.Row.{Pair, Cells, cells, refused, hasMandatory, pairCells}
 use Rattle.text.specs.Fields.{FirstField}
 use Rattle.decode.specs.Records.{kindAt, nextAt, pairsAt}
-use Rattle.row.specs.Filled.{zeros, prefixed, coveredCells, covered, left, going, goingOver, covering, Steps, Fills}
+use Rattle.row_fields.specs.Filled.{zeros, prefixed, coveredCells, covered, left, going, goingOver, covering, Steps, Fills}
 use Rattle.row.specs.Rows.{recordPairs, AttributesFrom, EndsFull, Ends, EndsHere}
-use Rattle.row.specs.declared.filling.Filling.{Filling}
-use Rattle.row.specs.declared.filling.Filled.the-variants.{On, Rest}
+use Rattle.row_fields.specs.declared.filling.Filling.{Filling}
+use Rattle.row_fields.specs.declared.filling.Filled.the-variants.{On, Rest}
 use Rattle.row.specs.declared.rows.RowOut.{RowOut}
 use Rattle.row.specs.declared.rows.RowOut.the-variants.{Full, No}
-use Rattle.row.proofs.Stores.{sets-append, sets-front, length-zeros}
-use Rattle.row.proofs.Steps.{none, both, wider, renamed, before, refuses}
+use Rattle.row_fields.proofs.Stores.{sets-append, sets-front, length-zeros}
+use Rattle.row_fields.proofs.Steps.{none, both, wider, renamed, before, refuses}
 use Rattle.row.proofs.Records.{pairs-next, no-record}
 
 -- ## Behind the last attribute
@@ -103,7 +103,7 @@ module _ (u start : ℕ) (rest b : List ℕ) (here : ℕ) (from : AttributesFrom
     row-rest t n f limit exit r g =
         then-ends (both now (renamed (fromRecord u start rest b here s) (λ ps. covering start rest t n (pairsAt b (nextAt b here))) record-due (λ ps. refl) (before (λ ps. pairsAt b (nextAt b here)) (f .1)))) limit exit r g
 
-    pub row-no : (k g : ℕ) → Fills u start rest 6 (goingOver u start rest (recordPairs b here) s) s cells between (Rattle.row.specs.declared.filling.Filled.the-variants.No k g) → whole ≡ refused k g
+    pub row-no : (k g : ℕ) → Fills u start rest 6 (goingOver u start rest (recordPairs b here) s) s cells between (Rattle.row_fields.specs.declared.filling.Filled.the-variants.No k g) → whole ≡ refused k g
     unfolding prefixed
     row-no k g f = refuses (refused k g) (λ ps. record-due ps ∙ f (pairsAt b (nextAt b here))) (λ vs. refl) now []
 

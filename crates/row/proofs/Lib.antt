@@ -1,9 +1,2 @@
-pub mod Stores
-pub mod Pairs
-pub mod Steps
-pub mod Due
-pub mod Coordinates
-pub mod Attributes
 pub mod Records
 pub mod Ends
-pub mod PointFields

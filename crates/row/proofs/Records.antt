@@ -18,10 +18,10 @@ use Rattle.decode.specs.Records.{kindAt, payloadAt, nextAt, attributesAt, pairs
 use Rattle.decode.specs.Meant.{typeOf, firstOf, Decoded}
 use Rattle.decode.specs.Standing.{Standing, Here, AttributeHere, AttributeNext}
 use Rattle.decode.proofs.Standing as standing
-use Rattle.row.specs.Filled.{ownPairs, Counted}
+use Rattle.row_fields.specs.Filled.{ownPairs, Counted}
 use Rattle.row.specs.Rows.{recordPairs, AttributesFrom}
-use Rattle.row.proofs.Coordinates.{listed-next, length-listed, mandatory-components, count-components}
-use Rattle.row.proofs.Attributes.{coordinate-type, line-type, own-type}
+use Rattle.row_fields.proofs.Coordinates.{listed-next, length-listed, mandatory-components, count-components}
+use Rattle.row_fields.proofs.Attributes.{coordinate-type, line-type, own-type}
 
 -- ## Mandatory, and how many
 

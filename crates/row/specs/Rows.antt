@@ -9,8 +9,8 @@ use Rattle.meaning.specs.Model.{Model, attributeOf}
 use Rattle.meaning.specs.Row.{Pair, Cells, cells, refused, pairsOfType}
 use Rattle.decode.specs.Records.{payloadAt}
 use Rattle.decode.specs.Standing.{Standing}
-use Rattle.row.specs.Filled.{going}
-use Rattle.row.specs.declared.filling.Filling.{Filling}
+use Rattle.row_fields.specs.Filled.{going}
+use Rattle.row_fields.specs.declared.filling.Filling.{Filling}
 use Rattle.row.specs.declared.rows.RowOut.{RowOut}
 use Rattle.row.specs.declared.rows.RowOut.the-variants.{Full, No}
 

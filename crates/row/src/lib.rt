@@ -1,6 +1,2 @@
-// Rows and points: from the fields of an OBJE line and of a point's line to cells.
-pub mod filling;
-pub mod points;
+// A row: from the fields of an OBJE line to its cells.
 pub mod rows;
-pub mod storing;
-pub mod taking;

@@ -8,13 +8,13 @@ ghost use Rattle.meaning.specs.Row.{pairsOfType, hasMandatory, pairCells};
 ghost use Rattle.decode.specs.Meant.{typeOf};
 ghost use Rattle.decode.specs.Records.{pairsAt};
 ghost use Rattle.decode.specs.Standing.{AttributeHere};
-ghost use Rattle.row.specs.Filled.{goingOver, covering, Counted, Ready, Fills};
+ghost use Rattle.row_fields.specs.Filled.{goingOver, covering, Counted, Ready, Fills};
 ghost use Rattle.row.specs.Rows.{recordPairs, AttributesFrom, EndsHere, Ends};
-use crate::filling;
-use crate::filling::Filled;
-use crate::filling::Filling;
-use crate::storing;
 use decode::Attribute;
+use row_fields::filling;
+use row_fields::filling::Filled;
+use row_fields::filling::Filling;
+use row_fields::storing;
 use text::fields::Next;
 
 // The row is full with so many cells behind its first three; or a refusal and its field.

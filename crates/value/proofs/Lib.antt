@@ -1,4 +1,3 @@
 pub mod Counting
 pub mod Signs
 pub mod Shapes
-pub mod Stores

@@ -1,9 +1,8 @@
-// Values: from a field's bytes to its cells, and from a value back to its shortest bytes.
+// Values: from a field's bytes to its cells.
 pub mod dates;
 pub mod digits;
 pub mod numbers;
 pub mod stretches;
-pub mod written;
 
 // The two cells of a defined field, or the number of its refusal.
 pub enum Value {

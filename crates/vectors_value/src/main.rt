@@ -15,7 +15,7 @@ fn print_front(room: &[u8], n: usize) {
 // A cell, by the writing of values.
 fn print_cell(v: i64) {
     let mut room = [0u8; 21];
-    let n = value::written::put_number(v, 0, &mut room);
+    let n = value_written::put_number(v, 0, &mut room);
     print_front(&room, n);
 }
 
@@ -347,7 +347,7 @@ fn run_undefineds() {
 fn write_number(v: i64, decimals: u8) {
     let mut room = [0u8; 21];
     if decimals <= 9 {
-        let n = value::written::put_number(v, decimals, &mut room);
+        let n = value_written::put_number(v, decimals, &mut room);
         print_front(&room, n);
     }
     end_line();
@@ -355,14 +355,14 @@ fn write_number(v: i64, decimals: u8) {
 
 fn write_date(v: i64) {
     let mut room = [0u8; 21];
-    let n = value::written::put_date(v, &mut room);
+    let n = value_written::put_date(v, &mut room);
     print_front(&room, n);
     end_line();
 }
 
 fn write_leaf(v: i64) {
     let mut room = [0u8; 21];
-    let n = value::written::put_enumeration(v, &mut room);
+    let n = value_written::put_enumeration(v, &mut room);
     print_front(&room, n);
     end_line();
 }

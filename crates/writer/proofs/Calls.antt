@@ -23,7 +23,7 @@ use Rattle.written.specs.declared.Put.{Put}
 use Rattle.written.specs.declared.Put.the-variants.{At, Full}
 use Rattle.written.specs.Puts.{Puts}
 use Rattle.written.proofs.Puts.{keeps-room, at-front}
-use Rattle.writer.specs.Walks.{contentIn}
+use Rattle.written_tables.specs.Walks.{contentIn}
 use Rattle.writer.specs.Answers.{refusalOf, Fitting, Limited, Inside, settledOf}
 
 module _ (b : List ℕ) (t : Lent) (width room : ℕ) where

@@ -1,12 +1,2 @@
-pub mod Left
-pub mod Joined
-pub mod Typed
-pub mod Components
-pub mod Walking
-pub mod Drawn
-pub mod Whole
-pub mod Follows
-pub mod Walks
-pub mod Topics
 pub mod Calls
 pub mod Same

@@ -1,5 +1,2 @@
-pub mod Given
-pub mod Follows
-pub mod Walks
 pub mod Answers
 pub mod Same

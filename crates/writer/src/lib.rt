@@ -6,11 +6,6 @@ ghost use Rattle.judge.specs.Tables.{lentOf};
 ghost use Rattle.writer.specs.Answers.{answerOf};
 use model::check::Checked;
 
-pub mod fields;
-pub mod file;
-pub mod lines;
-pub mod objects;
-pub mod walk;
 pub mod writing;
 
 // So many bytes are written; or a refusal, and the byte of the model's first bad record.

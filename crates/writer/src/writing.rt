@@ -9,15 +9,15 @@ ghost use Rattle.meaning.specs.Width.{cutLines, writeChecked};
 ghost use Rattle.decode.specs.Records.{modelAt, nextAt};
 ghost use Rattle.decode.specs.Standing.{Beginning};
 ghost use Rattle.judge.specs.Tables.{lentOf};
-ghost use Rattle.writer.specs.Follows.{Fit};
-ghost use Rattle.writer.specs.Walks.{contentIn, Counted};
+ghost use Rattle.written_tables.specs.Follows.{Fit};
+ghost use Rattle.written_tables.specs.Walks.{contentIn, Counted};
 ghost use Rattle.writer.specs.Answers.{answerOf, refusalOf, Fitting, Limited, Inside, settledOf};
 use crate::Answer;
-use crate::file;
-use crate::lines::Manner;
 use judge::judging;
 use references::pairs::least_of;
 use written::Put;
+use written_tables::file;
+use written_tables::lines::Manner;
 
 // "All result buffers are zeroed by every refusal"
 pub fn refuse(number: u8, at: usize, out: &mut [u8]) -> Answer

@@ -11,7 +11,7 @@ pub fn put_number(out: &mut [u8], n: usize, decimals: u8, v: i64) -> Put
     ensures { λ r. ⌜ Puts (numberBytes decimals v) n (now (out .entry)) (now (out .exit)) r ⌝ }
 {
     let mut room: [u8; 24] = [0; 24];
-    let size = value::written::put_number(v, decimals, &mut room);
+    let size = value_written::put_number(v, decimals, &mut room);
     put_bytes(out, n, &room[..size])
 }
 
@@ -20,7 +20,7 @@ pub fn put_date(out: &mut [u8], n: usize, v: i64) -> Put
     ensures { λ r. ⌜ Puts (dateBytes v) n (now (out .entry)) (now (out .exit)) r ⌝ }
 {
     let mut room: [u8; 24] = [0; 24];
-    let size = value::written::put_date(v, &mut room);
+    let size = value_written::put_date(v, &mut room);
     put_bytes(out, n, &room[..size])
 }
 
@@ -30,6 +30,6 @@ pub fn put_leaf(out: &mut [u8], n: usize, v: i64) -> Put
     ensures { λ r. ⌜ Puts (numberBytes 0 v) n (now (out .entry)) (now (out .exit)) r ⌝ }
 {
     let mut room: [u8; 24] = [0; 24];
-    let size = value::written::put_enumeration(v, &mut room);
+    let size = value_written::put_enumeration(v, &mut room);
     put_bytes(out, n, &room[..size])
 }

@@ -4,8 +4,8 @@ use Prim.Native.Nat.{ℕ}
 use mathlib.Core.Path.{sym, ap, _∙_}
 use lib.ListN.{replicate}
 use Rattle.meaning.specs.Table as table
-use Rattle.reader.specs.Steps.{roomsOf}
-use Rattle.reader.proofs.Endings.{left}
+use Rattle.steps.specs.Steps.{roomsOf}
+use Rattle.reading.proofs.Endings.{left}
 use Rattle.reader.proofs.read.Statement.{statement}
 use Rattle.reader.proofs.read.Tie as tie
 

@@ -10,7 +10,7 @@ use Rattle.meaning.specs.Answer.{textUnfolded}
 use Rattle.meaning.proofs.Marks.{good-mark}
 use Rattle.decode.specs.Records.{modelAt}
 use Rattle.unfold.specs.Answer.{answerOf, Within}
-use Rattle.reader.specs.Steps.{roomsOf}
+use Rattle.steps.specs.Steps.{roomsOf}
 use Rattle.reader.proofs.Unfolding.{fault-read, full-read, stands, stands-in, text-read}
 use Rattle.reader.proofs.read_good.Statement.{statement}
 use Rattle.reader.proofs.read_good.Tie as tie

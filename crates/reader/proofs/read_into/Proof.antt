@@ -6,8 +6,8 @@ use Rattle.meaning.specs.Table.{Result}
 use Rattle.decode.specs.Records.{modelAt}
 use Rattle.model.specs.Walk.{checkedMeant}
 use Rattle.model.proofs.Found.{found-good, found-topics, found-bad}
-use Rattle.reader.specs.Steps.{roomsOf}
-use Rattle.reader.specs.Outcomes.{ReadInto}
+use Rattle.steps.specs.Steps.{roomsOf}
+use Rattle.reading.specs.Outcomes.{ReadInto}
 use Rattle.reader.proofs.Files.{too-long, under-bad, under-good}
 use Rattle.reader.proofs.read_into.Statement.{statement}
 use Rattle.reader.proofs.read_into.Tie as tie

@@ -11,7 +11,7 @@ use Rattle.meaning.specs.Table.{readRun}
 use Rattle.meaning.proofs.GoodModels.{checked-good}
 use Rattle.decode.specs.Records.{modelAt}
 use Rattle.decode.proofs.Standing.{beginning}
-use Rattle.reader.specs.Text.{linesOf}
+use Rattle.reading.specs.Text.{linesOf}
 use Rattle.reader.proofs.Marking.{few-marks, marks-read}
 use Rattle.reader.proofs.read_unfolded.Statement.{statement}
 use Rattle.reader.proofs.read_unfolded.Tie as tie

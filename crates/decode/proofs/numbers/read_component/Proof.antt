@@ -1,7 +1,5 @@
 -- `decode::read_component` meets its contract. Assumes nothing.
-use Rattle.meaning.specs.Model.{componentOf}
-use mir.ValLaws.{toZ-ofZ}
-use mir.Syntax.{w64}
+use Rattle.decode.proofs.Components.{component-read}
 use borrow.Author.Needs.{needs}
 use Rattle.decode.proofs.numbers.read_component.Statement.{statement}
 use Rattle.decode.proofs.numbers.read_component.Tie as tie
@@ -16,8 +14,7 @@ i64-at-requires-2 : tie.Need-i64-at-requires-2
 i64-at-requires-2 c κs = search needs
 
 returns : tie.Need-returns
-unfolding componentOf
-returns c = rw (toZ-ofZ w64 _ (record { sfits = c .before .i64-at .ok }), toZ-ofZ w64 _ (record { sfits = c .i64-at2 .ok })) (cc)
+returns c = component-read (c .before .before .before .before .args .p .now) (c .before .i64-at .result) (c .i64-at2 .result) (record { sfits = c .before .i64-at .ok }) (record { sfits = c .i64-at2 .ok }) (c .before .i64-at .ensures) (c .i64-at2 .ensures)
 
 pub read-component-spec : {M : Type 1} → statement M
 read-component-spec =

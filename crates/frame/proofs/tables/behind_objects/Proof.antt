@@ -1,7 +1,7 @@
 -- `frame::behind_objects` meets its contract. Assumes nothing.
 use Rattle.frame.proofs.Rows.{table-closed, closed-holds}
-use Rattle.frame.proofs.Moves.{nothing-read}
-use Rattle.frame.specs.Moves.{MovedHolds}
+use Rattle.coded_lines.proofs.Moves.{nothing-read}
+use Rattle.coded_lines.specs.Moves.{MovedHolds}
 use Rattle.state.specs.Meant.{movedOf}
 use Rattle.state.specs.declared.Moved.{Moved}
 use Rattle.meaning.specs.Field.{fieldsOf}

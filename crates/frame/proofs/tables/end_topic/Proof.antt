@@ -1,6 +1,6 @@
 -- `frame::end_topic` meets its contract. Assumes nothing.
 use Rattle.frame.proofs.Rows.{topic-owes, topic-ended, ended-holds}
-use Rattle.frame.proofs.Moves.{nothing-read}
+use Rattle.coded_lines.proofs.Moves.{nothing-read}
 use Rattle.meaning.specs.Field.{fieldsOf}
 use mathlib.Core.Path.{sym, _∙_}
 use borrow.Author.Needs.{needs}

@@ -1,7 +1,7 @@
 -- `frame::topic_line` meets its contract. Assumes nothing.
 use Rattle.frame.proofs.Walks.{model-closed, topic-opened, topic-other}
-use Rattle.frame.proofs.Moves.{holds-refuse}
-use Rattle.frame.specs.Moves.{endIn, MovedHolds}
+use Rattle.coded_lines.proofs.Moves.{holds-refuse}
+use Rattle.coded_lines.specs.Moves.{endIn, MovedHolds}
 use Rattle.decode.specs.Records.{modelAt}
 use Rattle.state.specs.declared.Moved.the-variants.{No}
 use Rattle.state.specs.declared.Moved.{Moved}

@@ -2,7 +2,7 @@
 use borrow.Author.Needs.{needs}
 use mathlib.Core.Path.{refl, subst}
 use Rattle.component.specs.Meant.{componentsOf}
-use Rattle.row.specs.Points.{ReadsPoint}
+use Rattle.row_points.specs.Points.{ReadsPoint}
 use Rattle.lines.proofs.points.read_point.Statement.{statement}
 use Rattle.lines.proofs.points.read_point.Tie as tie
 

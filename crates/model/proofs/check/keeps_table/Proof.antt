@@ -7,7 +7,7 @@ use borrow.Author.Needs.{needs}
 use Rattle.meaning.specs.Check.{keepsTable, isFlag}
 use Rattle.meaning.specs.Bytes.{allOf}
 use Rattle.text.proofs.Fill.{to-end}
-use Rattle.model.proofs.Transfer.{fails-here}
+use Rattle.record_rules.proofs.Transfer.{fails-here}
 use Rattle.model.proofs.check.keeps_table.Statement.{statement}
 use Rattle.model.proofs.check.keeps_table.Tie as tie
 

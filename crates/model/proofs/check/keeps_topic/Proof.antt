@@ -5,7 +5,7 @@ use lib.Seq.{length-take-le}
 use lib.ListN.{take}
 use borrow.Author.Needs.{needs}
 use Rattle.meaning.specs.Check.{keepsTopic}
-use Rattle.model.proofs.Words.{names-length}
+use Rattle.record_rules.proofs.Words.{names-length}
 use Rattle.model.proofs.check.keeps_topic.Statement.{statement}
 use Rattle.model.proofs.check.keeps_topic.Tie as tie
 

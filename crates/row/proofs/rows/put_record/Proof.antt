@@ -4,7 +4,7 @@ use native.Mathlib.Omega.{arith}
 use mathlib.Core.Path.{_≡_, refl, sym, ap, _∙_, subst}
 use Rattle.meaning.specs.Row.{Pair, pairsOfType}
 use Rattle.decode.specs.Meant.{typeOf}
-use Rattle.row.specs.Filled.{goingOver}
+use Rattle.row_fields.specs.Filled.{goingOver}
 use Rattle.row.specs.Rows.{recordPairs}
 use Rattle.row.proofs.Records.{counted, decoded-pairs}
 use borrow.Author.Needs.{needs}

@@ -9,10 +9,10 @@ use lib.ListN.{drop, length}
 use Rattle.meaning.specs.Field.{fieldsOf}
 use Rattle.meaning.specs.Row.{pairCells}
 use Rattle.decode.specs.Records.{kindAt, nextAt, pairsAt}
-use Rattle.row.specs.Filled.{Steps, Fills, goingOver}
+use Rattle.row_fields.specs.Filled.{Steps, Fills, goingOver}
 use Rattle.row.specs.Rows.{AttributesFrom, recordPairs}
-use Rattle.row.proofs.Steps.{none, wider}
-use Rattle.row.proofs.Steps as steps
+use Rattle.row_fields.proofs.Steps.{none, wider}
+use Rattle.row_fields.proofs.Steps as steps
 use Rattle.row.proofs.Records.{record-here, good-here, next-from}
 use Rattle.row.proofs.Ends.{fromRecord, row-start, row-end, row-on, row-rest, row-no}
 use Rattle.row.proofs.rows.row_fields.Statement.{statement}

@@ -1,0 +1,6 @@
+pub mod TextLines
+pub mod Turns
+pub mod Going
+pub mod Counted
+pub mod Referring
+pub mod Endings

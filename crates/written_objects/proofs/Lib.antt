@@ -1,0 +1,7 @@
+pub mod Left
+pub mod Joined
+pub mod Typed
+pub mod Components
+pub mod Walking
+pub mod Drawn
+pub mod Whole
