@@ -14,10 +14,11 @@
  *     space (line)                               16 no room for a row, its cells or a point (line)
  *   6 too little room for unfolded text or       17 reference names no object of its table (object, from 0)
  *     marks (0)                                  18 straight or arc not in the forms (line)
- *   7 another line code expected, or no line
- *     left (line, one past the last)             A line is a logical line, counted from 1.
- *   8 MOTR in place of MTID (line)
+ *   7 another line code expected, or no line     19 writing: no lines read as the table (0)
+ *     left (line, one past the last)             20 writing: width not 16 to 65,535 (0)
+ *   8 MOTR in place of MTID (line)               21 writing: output room or 16,777,216 bytes too small (0)
  *   9 name wrong or not in order (line)
+ * A line is a logical line, counted from 1.
  */
 #ifndef VENDORFINCH_H
 #define VENDORFINCH_H
@@ -59,5 +60,21 @@ uint64_t vendorfinch_read(const uint8_t *model, size_t model_length, const uint8
                           uint64_t *rows, size_t rows_length, int64_t *cells, size_t cells_length,
                           int64_t *points, size_t points_length, uint64_t *index, size_t index_length,
                           uint64_t seed, uint64_t *answer, size_t answer_length);
+
+/* Writes a table under a model, its lines cut to a width of 16 to 65,535 bytes, into the output room.
+ * text, marks, rows, cells and points are laid out as reading leaves them, and objects, cells_used and points_used are its three numbers; what lies behind
+ * these counts is not looked at. A text or an identification may start anywhere in text. points_used counts points, of four numbers each.
+ * 0 and the number of bytes written: out holds them, and zeros behind.
+ * 2, 20, 19 or 21, the first of them in this order: out holds nothing but zeros. 19 says that the lent table is none that reading could have left.
+ *
+ * index and seed are as in reading: three numbers for each object make writing fast.
+ *
+ * answer gets the four numbers 0, bytes written, 0, 0; or the refusal, the record's byte for 2 and else 0, 0, 0; as many as there is room for, as in reading. */
+uint64_t vendorfinch_write(const uint8_t *model, size_t model_length, const uint8_t *text, size_t text_length,
+                           const uint8_t *marks, size_t marks_length, const uint64_t *rows, size_t rows_length,
+                           const int64_t *cells, size_t cells_length, const int64_t *points, size_t points_length,
+                           size_t objects, size_t cells_used, size_t points_used, size_t width,
+                           uint8_t *out, size_t out_length, uint64_t *index, size_t index_length,
+                           uint64_t seed, uint64_t *answer, size_t answer_length);
 
 #endif

@@ -1,36 +1,20 @@
--- The answer of reading as numbers: the four in a room, and that the second is small. Assumes nothing.
-use Prim.Native.Nat.{ℕ, zero, suc, _+_, _-_, _≤_}
+-- The second number of an answer of reading is small. Assumes nothing.
+use Prim.Native.Nat.{ℕ, _+_, _≤_}
 use native.Mathlib.Omega.{arith}
-use mathlib.Core.Path.{_≡_, refl, sym, ap}
-use mathlib.Core.List.{List, [], _∷_}
-use lib.ListN.{length, set, take, replicate, length-replicate}
-use lib.Seq.{take-all}
+use mathlib.Core.List.{List}
+use lib.ListN.{length}
 use borrow.Author.Tests.{ltb-false}
 use Rattle.meaning.specs.Unfold.{Unfolded, lines, fault, unfoldedText}
 use Rattle.meaning.specs.Model.{Model}
 use Rattle.meaning.specs.Check.{Checked, good, bad, checkModel}
-use Rattle.meaning.specs.Answer.{filled}
 use Rattle.meaning.specs.Reading.{Content, Rooms}
 use Rattle.meaning.specs.Lines.{Run, ran, stopped}
 use Rattle.meaning.specs.Table.{Resolved, resolved, unresolved, Result, refusedWith, acceptedWith, readResolved, readRun, readText, readUnfolded, readChecked, read}
 use Rattle.meaning.proofs.Bounds.{BadBelow, bad-below}
 use Rattle.meaning.proofs.Refuse.{refuse-keeps}
-use Rattle.host.specs.Numbers.{firstOf}
+use Rattle.answers.specs.Numbers.{firstOf}
 use Rattle.host.proofs.LineCounts.{Bounded, file-bounded}
 use Rattle.host.proofs.RowCounts.{Ran, lines-few, Place, resolve-place}
-
--- ## Four numbers in a room
-
-pub four : (n a b c d : ℕ) → set (set (set (set (replicate n 0) 0 a) 1 b) 2 c) 3 d ≡ take n (filled 0 n (a ∷ b ∷ c ∷ d ∷ []))
-four zero a b c d = refl
-four (suc zero) a b c d = refl
-four (suc (suc zero)) a b c d = refl
-four (suc (suc (suc zero))) a b c d = refl
-four (suc (suc (suc (suc n)))) a b c d =
-    let e : suc (suc (suc (suc n))) - 4 ≡ n = omega arith in
-    rw e (ap (λ (s : List ℕ). a ∷ b ∷ c ∷ d ∷ s) (sym (take-all n (replicate n 0) (omega (arith, length-replicate {A = ℕ} n 0)))))
-
--- ## The second number of an answer
 
 -- the number of objects, or the first place number, is small
 unfoldable pub Small : Result → Type 0

@@ -2,3 +2,4 @@ pub mod Codes
 pub mod LineCounts
 pub mod RowCounts
 pub mod Answers
+pub mod Writes

@@ -2,7 +2,7 @@
 use mathlib.Core.Path.{ap, _∙_}
 use lib.ListN.{length}
 use Rattle.meaning.specs.Answer.{Answer, codeForC}
-use Rattle.host.specs.Numbers.{numbersIn}
+use Rattle.answers.specs.Numbers.{numbersIn}
 use Rattle.host.proofs.Answers.{read-small}
 use borrow.Author.Needs.{needs}
 use Rattle.host.proofs.vendorfinch_read.Statement.{statement}

@@ -1,13 +1,13 @@
--- `host::numbers::store` meets its contract. Assumes nothing.
+-- `answers::numbers::store` meets its contract. Assumes nothing.
 use mathlib.Core.Path.{sym, ap, _∙_}
 use lib.ListN.{length}
-use Rattle.reader.specs.Outcomes.{answerOf}
-use Rattle.reader.specs.declared.Answer.{Answer}
+use Rattle.reading.specs.Outcomes.{answerOf}
+use Rattle.reading.specs.declared.Answer.{Answer}
 use Rattle.meaning.specs.Answer.{numbersOf}
-use Rattle.host.specs.Numbers.{numbersIn}
+use Rattle.answers.specs.Numbers.{numbersIn}
 use borrow.Author.Needs.{needs}
-use Rattle.host.proofs.numbers.store.Statement.{statement}
-use Rattle.host.proofs.numbers.store.Tie as tie
+use Rattle.answers.proofs.numbers.store.Statement.{statement}
+use Rattle.answers.proofs.numbers.store.Tie as tie
 
 enum-known-answer : tie.Need-enum-known-answer
 enum-known-answer c = search needs

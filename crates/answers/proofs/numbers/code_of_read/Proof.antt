@@ -1,17 +1,17 @@
--- `host::numbers::code_of_read` meets its contract. Assumes nothing.
+-- `answers::numbers::code_of_read` meets its contract. Assumes nothing.
 use Prim.Native.Nat.{_≤_}
 use native.Mathlib.Omega.{arith}
 use mathlib.Core.Path.{subst}
 use Rattle.meaning.specs.Answer.{codeForC}
-use Rattle.reader.specs.Outcomes.{answerOf}
-use Rattle.reader.specs.declared.Answer.{Answer}
-use Rattle.reader.specs.declared.Answer.the-variants.{Accepted}
-use Rattle.host.specs.Numbers.{firstOf}
+use Rattle.reading.specs.Outcomes.{answerOf}
+use Rattle.reading.specs.declared.Answer.{Answer}
+use Rattle.reading.specs.declared.Answer.the-variants.{Accepted}
+use Rattle.answers.specs.Numbers.{firstOf}
 use borrow.Author.Needs.{needs}
-use Rattle.host.proofs.numbers.code_of_read.Statement.{statement}
-use Rattle.host.proofs.numbers.code_of_read.Tie as tie
-use Rattle.host.proofs.numbers.code_of_read.Reads as reads
-use Rattle.host.proofs.numbers.code_of_read.Lts as lts
+use Rattle.answers.proofs.numbers.code_of_read.Statement.{statement}
+use Rattle.answers.proofs.numbers.code_of_read.Tie as tie
+use Rattle.answers.proofs.numbers.code_of_read.Reads as reads
+use Rattle.answers.proofs.numbers.code_of_read.Lts as lts
 
 enum-known-answer : tie.Need-enum-known-answer
 enum-known-answer c = search needs

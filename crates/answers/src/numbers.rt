@@ -4,9 +4,9 @@ ghost use mathlib.Core.List.{_∷_, []};
 ghost use Prim.Native.Nat.{_≤_};
 ghost use lib.ListN.{length, set, take};
 ghost use Rattle.meaning.specs.Answer.{codeForC, filled};
-ghost use Rattle.reader.specs.Outcomes.{answerOf};
-ghost use Rattle.host.specs.Numbers.{numbersIn, firstOf};
-use reader::Answer;
+ghost use Rattle.reading.specs.Outcomes.{answerOf};
+ghost use Rattle.answers.specs.Numbers.{numbersIn, firstOf};
+use reading::Answer;
 
 // A number in its place, where the room has it.
 fn put(room: &mut [u64], i: usize, n: u64)
@@ -18,7 +18,7 @@ fn put(room: &mut [u64], i: usize, n: u64)
 }
 
 // Four numbers, or as many as the room has, and zeros behind.
-fn put_four(room: &mut [u64], a: u64, b: u64, c: u64, d: u64)
+pub fn put_four(room: &mut [u64], a: u64, b: u64, c: u64, d: u64)
     ensures { λ _. ⌜ now (room .exit) ≡ take (length (now (room .entry))) (filled 0 (length (now (room .entry))) (a ∷ b ∷ c ∷ d ∷ [])) ⌝ }
 {
     text::rooms::clear_numbers(room);

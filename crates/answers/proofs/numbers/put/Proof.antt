@@ -1,9 +1,9 @@
--- `host::numbers::put` meets its contract. Assumes nothing.
+-- `answers::numbers::put` meets its contract. Assumes nothing.
 use mathlib.Core.Path.{sym}
 use lib.Seq.{set-out}
 use borrow.Author.Needs.{needs}
-use Rattle.host.proofs.numbers.put.Statement.{statement}
-use Rattle.host.proofs.numbers.put.Tie as tie
+use Rattle.answers.proofs.numbers.put.Statement.{statement}
+use Rattle.answers.proofs.numbers.put.Tie as tie
 
 mul-room : tie.Need-mul-room
 mul-room c = search needs

@@ -1,9 +1,9 @@
--- `host::numbers::put_four` meets its contract. Assumes nothing.
+-- `answers::numbers::put_four` meets its contract. Assumes nothing.
 use lib.ListN.{length}
-use Rattle.host.proofs.Answers.{four}
+use Rattle.answers.proofs.Four.{four}
 use borrow.Author.Needs.{needs}
-use Rattle.host.proofs.numbers.put_four.Statement.{statement}
-use Rattle.host.proofs.numbers.put_four.Tie as tie
+use Rattle.answers.proofs.numbers.put_four.Statement.{statement}
+use Rattle.answers.proofs.numbers.put_four.Tie as tie
 
 clear-numbers-requires : tie.Need-clear-numbers-requires
 clear-numbers-requires c κs = search needs
