@@ -1,0 +1,86 @@
+// Numbers in a line: digits, with one space between two numbers.
+ghost use Prim.Native.Nat.{_≤_};
+use crate::kept;
+use crate::parts;
+
+// The value of a digit.
+pub fn digit(b: u8) -> u64
+    ensures { λ r. ⌜ r ≤ 9 ⌝ }
+{
+    match b {
+        b'0'..=b'9' => (b - b'0') as u64,
+        _ => wrong_digit(),
+    }
+}
+
+fn wrong_digit() -> u64
+    ensures { λ r. ⌜ r ≤ 9 ⌝ }
+{
+    parts::complain();
+    0
+}
+
+// A number with a digit more, where 64 bits hold it.
+pub fn grown(n: u64, b: u8) -> u64 {
+    let d = digit(b);
+    if 1844674407370955161 < n {
+        parts::complain();
+        return n;
+    }
+    if 18446744073709551615 - n * 10 < d {
+        parts::complain();
+        return n;
+    }
+    n * 10 + d
+}
+
+// The slot behind this one.
+fn next_slot(slots: &[u64], slot: usize) -> usize {
+    if slot < slots.len() {
+        return slot + 1;
+    }
+    slot
+}
+
+// A byte more of the numbers, the last of which is in this slot; the slot behind it.
+fn add_byte(slots: &mut [u64], slot: usize, b: u8) -> usize {
+    if b == b' ' {
+        let next = next_slot(slots, slot);
+        kept::set(slots, next, 0);
+        return next;
+    }
+    let n = grown(kept::get(slots, slot), b);
+    kept::set(slots, slot, n);
+    slot
+}
+
+// The numbers of a part, from this slot on; the last one's slot.
+fn put_all(part: &[u8], slots: &mut [u64], first: usize) -> usize {
+    let mut slot = first;
+    let mut i = 0;
+    while i < part.len() {
+        slot = add_byte(slots, slot, part[i]);
+        i += 1;
+    }
+    slot
+}
+
+// The numbers of a part into the slots from the first to the last.
+pub fn put_numbers(part: &[u8], slots: &mut [u64], first: usize, last: usize) {
+    kept::set(slots, first, 0);
+    if part.len() == 0 {
+        parts::complain();
+        return;
+    }
+    if put_all(part, slots, first) != last {
+        parts::complain();
+    }
+}
+
+// A line with this code: its numbers are kept.
+pub fn keep(line: &[u8], code: u8, slots: &mut [u64], first: usize, last: usize) {
+    if parts::code_of(line) != code {
+        return;
+    }
+    put_numbers(parts::behind(line, 2), slots, first, last);
+}

@@ -1,0 +1,65 @@
+// What is printed of an answer and of rooms.
+use crate::parts;
+
+pub fn print_number(n: usize) {
+    io::write_all(1, b" ");
+    io::print_decimal(1, n as u64);
+}
+
+// The first n bytes of room.
+pub fn print_front(room: &[u8], n: usize) {
+    io::write_all(1, parts::front(room, n));
+}
+
+pub fn print_answer(number: usize, first: usize, second: usize, third: usize) {
+    io::write_all(1, b":");
+    print_number(number);
+    print_number(first);
+    print_number(second);
+    print_number(third);
+}
+
+// How many bytes are not zero.
+pub fn count_bytes(room: &[u8]) -> usize {
+    let mut left = 0;
+    let mut i = 0;
+    while i < room.len() {
+        if room[i] != 0 {
+            left += 1;
+        }
+        i += 1;
+    }
+    left
+}
+
+// How many rows, or words of the index, behind the first `from` are not zero.
+pub fn count_words(room: &[u64], from: usize) -> usize {
+    let mut left = 0;
+    let mut i = from;
+    while i < room.len() {
+        if room[i] != 0 {
+            left += 1;
+        }
+        i += 1;
+    }
+    left
+}
+
+// One byte more in the sum of a text; a zero counts for nothing.
+fn mix(sum: usize, b: u8) -> usize {
+    if b == 0 {
+        return sum;
+    }
+    (sum % 65521 * 31 + b as usize) % 65521
+}
+
+// A sum of the bytes of a text in order.
+pub fn sum_of(room: &[u8]) -> usize {
+    let mut sum = 0;
+    let mut i = 0;
+    while i < room.len() {
+        sum = mix(sum, room[i]);
+        i += 1;
+    }
+    sum
+}

@@ -1,0 +1,2 @@
+// What the program of the cases of reading prints.
+pub mod shown;
