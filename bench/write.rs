@@ -62,8 +62,9 @@ fn measure(name: &str, objects: usize, width: usize, turns: usize) -> f64 {
 fn main() {
     for width in [80, 65_535, 16] {
         let objects = if width == 16 { 5_250 } else { 6_475 };
-        let one = measure("1 MiB", objects, width, 40);
+        let before = measure("1 MiB", objects, width, 40);
         let sixteen = measure("16 MiB", 16 * objects, width, 8);
-        println!("growth {:.1}", sixteen / one);
+        let behind = measure("1 MiB", objects, width, 40);
+        println!("growth {:.1}", sixteen / before.min(behind));
     }
 }
