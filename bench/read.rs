@@ -2,17 +2,12 @@
 use std::collections::HashMap;
 use std::time::Instant;
 
+#[path = "calls.rs"]
+mod calls;
 #[path = "network.rs"]
 mod network;
+use calls::vendorfinch_read;
 use network::{network, network_file, ring, ring_file};
-
-extern "C" {
-    fn vendorfinch_read(
-        model: *const u8, model_size: usize, file: *const u8, size: usize, text: *mut u8, text_room: usize, marks: *mut u8, marks_room: usize,
-        rows: *mut u64, rows_room: usize, cells: *mut i64, cells_room: usize, points: *mut i64, points_room: usize, index: *mut u64,
-        index_room: usize, seed: u64, answer: *mut u64, answer_room: usize,
-    ) -> u64;
-}
 
 // What a call lends.
 struct Rooms {
