@@ -4,51 +4,17 @@ use Prim.Native.Nat.{ℕ, zero, suc, _≤_, _<_}
 use native.Mathlib.Omega.{arith}
 use mathlib.Core.Path.{_≡_, refl, sym, _∙_}
 use mathlib.Core.Bool.{Bool, true, false, true≢false}
-use mathlib.Core.List.{List, [], _∷_}
+use mathlib.Core.List.{List, []}
 use lib.Dec.{eqb, leb}
-use lib.ListN.{length, getD}
+use lib.ListN.{length}
 use borrow.Author.Tests.{eqb-true, leb-true, leb-false, not-false, ne-eqb}
-use Rattle.meaning.specs.Bytes.{refuse, allOf}
-use Rattle.meaning.specs.Model.{Records, finish, overrun, entry, Attribute, Table, Model, tablesOf, topicsOf, modelOf}
-use Rattle.meaning.specs.Check.{Seen, Checked, good, bad, nothingSeen, keeps, see, follows, followsTransfer, judgeAttributes, judgeReferences, checkRecords, checkModel}
+use Rattle.meaning.specs.Bytes.{refuse}
+use Rattle.meaning.specs.Model.{Records, finish, overrun, entry, Model, tablesOf, topicsOf, modelOf}
+use Rattle.meaning.specs.Check.{Seen, Checked, good, bad, nothingSeen, keeps, see, follows, followsTransfer, checkRecords, checkModel}
 use Rattle.meaning.proofs.Cuts.{both}
+use Rattle.meaning.proofs.Marks.{bad-good, passed, references-good, rest-good}
 use Rattle.meaning.proofs.Records.{entry-at, overrun-at, finish-at}
 use Rattle.decode.specs.Records.{recordsAt, kindAt, payloadAt, nextAt}
-
-bad-good : (at : ℕ) (m : Model) → bad at ≡ good m → ⊥
-bad-good at m h = let z : _≡_ {A = ℕ} 0 1 = cc in omega arith
-
--- what a test that did not refuse leaves
-passed : (t : Bool) (at : ℕ) (u : Checked) (m : Model) → refuse t (bad at) u ≡ good m → (t ≡ false) × (u ≡ good m)
-unfolding refuse
-passed true at u m h = absurd (bad-good at m h)
-passed false at u m h = (refl, h)
-
--- one of the tests that all hold
-pub holds : (ts : List Bool) (n : ℕ) → allOf ts ≡ true → getD ts n true ≡ true
-unfolding allOf
-holds [] n h = refl
-holds (t ∷ ts) zero h = both t _ h .0
-holds (t ∷ ts) (suc n) h = holds ts n (both t _ h .1)
-
--- ## The model that the check finds good is the model of the records
-
-attributes-good : (ts : List Table) (topic : ℕ) (attributes : List Attribute) (u : Checked) (m : Model) → judgeAttributes ts topic attributes u ≡ good m → u ≡ good m
-unfolding judgeAttributes
-attributes-good ts topic [] u m h = h
-attributes-good ts topic (a ∷ others) u m h = attributes-good ts topic others u m (passed _ (a .at) _ m h .1)
-
-references-good : (ts others : List Table) (u : Checked) (m : Model) → judgeReferences ts others u ≡ good m → u ≡ good m
-unfolding judgeReferences
-references-good ts [] u m h = h
-references-good ts (t ∷ others) u m h = references-good ts others u m (attributes-good ts (t .topic) (t .attributes) _ m h)
-
-rest-good : (before : ℕ) (seen : Seen) (rs : Records) (u : Checked) (m : Model) → checkRecords before seen rs u ≡ good m → u ≡ good m
-unfolding checkRecords
-rest-good before seen (finish at) u m h = passed _ at _ m h .1
-rest-good before seen (overrun at) u m h = absurd (bad-good at m h)
-rest-good before seen (entry at kind p others) u m h =
-    rest-good kind (see kind p seen) others u m (passed _ at _ m (passed _ at _ m h .1) .1)
 
 -- the check of a good model's records, from the first on
 pub record Begun (m : Model) (b : List ℕ) : Type 0 where

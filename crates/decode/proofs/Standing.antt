@@ -17,7 +17,8 @@ use Rattle.meaning.proofs.Cuts.{both}
 use Rattle.decode.specs.Records.{recordsAt, kindAt, payloadAt, nextAt, attributesAt, modelAt}
 use Rattle.decode.specs.Standing.{Standing, Here, TopicHere, TableHere, AttributeNext, EndHere, Beginning}
 use Rattle.decode.proofs.Types.{payload-room}
-use Rattle.decode.proofs.Checked.{holds, begun, Turn, turn, behind-nothing, behind-transfer, in-order, at-end}
+use Rattle.meaning.proofs.Refuse.{holds}
+use Rattle.decode.proofs.Checked.{begun, Turn, turn, behind-nothing, behind-transfer, in-order, at-end}
 
 -- ## A list of which so many are passed
 

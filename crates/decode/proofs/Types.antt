@@ -19,7 +19,7 @@ use Rattle.decode.specs.Held.{Held}
 use Rattle.decode.specs.Records.{payloadAt, nextAt}
 use Rattle.decode.specs.Meant.{typeOf, numberOf, countOf, startOf, Sized, Decoded}
 use Rattle.decode.specs.Standing.{AttributeHere}
-use Rattle.decode.proofs.Checked.{holds}
+use Rattle.meaning.proofs.Refuse.{holds}
 
 -- ## A part of a payload
 

@@ -4,6 +4,7 @@ use native.Mathlib.Omega.{arith}
 use mathlib.Core.Path.{_≡_}
 use mathlib.Core.List.{List}
 use lib.IntN.{ℤ}
+use Rattle.meaning.specs.Answer.{accepted, refusal}
 use Rattle.meaning.specs.Model.{found, missing}
 use Rattle.meaning.specs.Value.{pair, wrong}
 use Rattle.meaning.specs.Row.{cells, refused}
@@ -31,3 +32,9 @@ no-found n h = let z : _≡_ {A = ℕ} 0 1 = cc in omega arith
 
 pub same-found : (n k : ℕ) → found n ≡ found k → n ≡ k
 same-found n k h = cc
+
+pub not-refused : (a b c number first second : ℕ) → accepted a b c ≡ refusal number first second → ⊥
+not-refused a b c number first second h = let z : _≡_ {A = ℕ} 0 1 = cc in omega arith
+
+pub not-accepted : (number first second a b c : ℕ) → refusal number first second ≡ accepted a b c → ⊥
+not-accepted number first second a b c h = let z : _≡_ {A = ℕ} 0 1 = cc in omega arith

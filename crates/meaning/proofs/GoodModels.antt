@@ -1,22 +1,21 @@
 -- What is known of every model that the check calls good. Assumes nothing.
 use Prim.Native.Nat.{ℕ, zero, suc, _+_, _-_, _≤_, _<_}
 use native.Mathlib.Omega.{arith}
-use native.Mathlib.Numerals.{add-one}
 use mathlib.Core.Path.{_≡_, refl, sym, ap, _∙_, subst}
-use mathlib.Core.Bool.{Bool, true, false, not, _&&_, _||_, true≢false, false≢true, and-true}
+use mathlib.Core.Bool.{Bool, true, false, not, _&&_, _||_, true≢false, false≢true}
 use mathlib.Core.List.{List, [], _∷_, _++_}
-use lib.Dec.{leb, ltb, eqb}
-use lib.ListN.{length, drop, getD, length-append}
+use lib.Dec.{leb, eqb}
+use lib.ListN.{length, drop, length-append}
 use borrow.Author.Tests.{ltb-true, lt-ltb, leb-true, le-leb, eqb-true, eqb-false, eq-eqb, ne-eqb, not-false, not-true}
-use Rattle.meaning.specs.Bytes.{choose, refuse, allOf, same, byteAt}
-use Rattle.meaning.specs.Model.{Records, finish, overrun, entry, Attribute, Table, Model, flagOf, typeOf, targetOf, attributeOf, attributesOf, tablesOf, topicsOf, modelOf, nameOf}
-use Rattle.meaning.specs.Check.{Checked, good, bad, Seen, nothingSeen, special, isName, isType, goodType, isAmong, follows, followsTransfer, keeps, keepsTransfer, keepsTopic, keepsTable, keepsAttribute, see, isOutside, judgeAttributes, judgeReferences, checkRecords, checkModel, goodNames, attributeNames, tableNames, goodTypes, goodTables, inTopicOrder, GoodModel}
+use Rattle.meaning.specs.Bytes.{choose, allOf, same, byteAt}
+use Rattle.meaning.specs.Model.{Records, finish, overrun, entry, Attribute, Table, Model, flagOf, typeOf, targetOf, attributeOf, attributesOf, tablesOf, topicsOf, modelOf}
+use Rattle.meaning.specs.Check.{Checked, good, Seen, nothingSeen, isName, isType, goodType, isAmong, follows, followsTransfer, keeps, keepsTransfer, keepsTopic, keepsTable, keepsAttribute, see, isOutside, judgeAttributes, judgeReferences, checkRecords, checkModel, goodNames, attributeNames, tableNames, goodTypes, goodTables, inTopicOrder, GoodModel}
 use Rattle.meaning.proofs.Cuts.{both}
-use Rattle.meaning.proofs.Marks.{bad-good, passed, references-good, attributes-good, holds, rest-good, is-transfer}
-use Rattle.meaning.proofs.Same.{same-is, same-refl, same-not}
+use Rattle.meaning.proofs.Marks.{bad-good, passed, references-good, attributes-good, holds, rest-good}
+use Rattle.meaning.proofs.Same.{same-refl, same-not}
 use Rattle.meaning.proofs.Models.{model-lists}
 use Rattle.meaning.proofs.Records.{recordsAt, payloadAt, nextAt}
-use Rattle.meaning.proofs.Standing.{transfer-keeps, payload-blank, payload-undefined, payload-mark, good-transfer, good-name, name-keeps, topic-name, stands-topic, topic-kind}
+use Rattle.meaning.proofs.Standing.{entry-passes, transfer-keeps, payload-blank, payload-undefined, payload-mark, good-transfer, good-name, name-keeps, topic-name, stands-topic, topic-kind}
 
 -- ## Names that are not among those seen
 
@@ -53,15 +52,6 @@ fresh-more o seen (n ∷ ns) f =
 names-cons : (n : List ℕ) (ns : List (List ℕ)) → isName 24 n ≡ true → isAmong n ns ≡ false → goodNames ns ≡ true → goodNames (n ∷ ns) ≡ true
 unfolding goodNames allOf
 names-cons n ns a b c = rw (a, b, c)
-
--- a record that passes
-entry-passes : (before at kind : ℕ) (seen : Seen) (p : List ℕ) (others : Records) (u : Checked) (m : Model) → checkRecords before seen (entry at kind p others) u ≡ good m
-    → (follows before kind ≡ true) × (keeps kind p seen ≡ true) × (checkRecords kind (see kind p seen) others u ≡ good m)
-unfolding checkRecords
-entry-passes before at kind seen p others u m h =
-    let r = passed _ at _ m h in
-    let q = passed _ at _ m (r .1) in
-    (not-false _ (r .0), not-false _ (q .0), q .1)
 
 -- ## Topics
 

@@ -1,12 +1,11 @@
 -- A table that was read can be written. Assumes nothing.
-use Prim.Native.Nat.{ℕ, _+_, _*_, _≤_}
+use Prim.Native.Nat.{ℕ, _*_, _≤_}
 use native.Mathlib.Omega.{arith}
 use mathlib.Core.Path.{_≡_, refl, sym, ap, subst, _∙_}
-use mathlib.Core.Bool.{Bool, true, false, _||_}
+use mathlib.Core.Bool.{Bool, true, false}
 use mathlib.Core.List.{List}
-use lib.Dec.{leb, ltb}
 use lib.IntN.{ℤ}
-use lib.ListN.{length, take}
+use lib.ListN.{length}
 use lib.Seq.{take-all, take-length}
 use borrow.Author.Tests.{le-leb}
 use Rattle.meaning.specs.Bytes.{refuse, allOf}
@@ -26,7 +25,7 @@ use Rattle.meaning.proofs.Valid.{Valid}
 use Rattle.meaning.proofs.Alike.{TablesAlike}
 use Rattle.meaning.proofs.Buffers.{Fits, Ran, lines-fit}
 use Rattle.meaning.proofs.Accepted.{read-valid}
-use Rattle.meaning.proofs.RightAccepted.{no-accepted}
+use Rattle.meaning.proofs.Apart.{not-accepted}
 use Rattle.meaning.proofs.Unwritable.{unwritable, table-reads}
 use Rattle.meaning.proofs.WrittenAgain.{table-again}
 
@@ -43,24 +42,24 @@ module _ (m : Model) (rooms : Rooms) (o c p : ℕ) where
   read-lines : (ls : List (List ℕ)) (x : Run) → readLines m rooms (unfoldedText ls) (startOf m) ls ≡ x → readRun m rooms (unfoldedText ls) x .answer ≡ accepted o c p
       → ReadInto m rooms (readRun m rooms (unfoldedText ls) x)
   unfolding readRun refusedWith readResolved
-  read-lines ls (stopped number line field) e h = absurd (no-accepted number line field o c p h)
+  read-lines ls (stopped number line field) e h = absurd (not-accepted number line field o c p h)
   read-lines ls (ran s) e h = by (resolve m (unfoldedText ls) (s .content)) refl h
     where
       by : (x : Resolved) → resolve m (unfoldedText ls) (s .content) ≡ x → readResolved rooms (unfoldedText ls) (s .content) x .answer ≡ accepted o c p
           → ReadInto m rooms (readResolved rooms (unfoldedText ls) (s .content) x)
-      by (unresolved object field) q h = absurd (no-accepted 17 object field o c p h)
+      by (unresolved object field) q h = absurd (not-accepted 17 object field o c p h)
       by (resolved cs) q h = record { of = ls; state = s; cells = cs; reads = e; resolves = q; is = refl }
 
   -- a test that did not refuse
   went-on : (t : Bool) (number first second : ℕ) (r : Result) → refuse t (refusedWith rooms number first second) r .answer ≡ accepted o c p → (r .answer ≡ accepted o c p → ReadInto m rooms r)
       → ReadInto m rooms (refuse t (refusedWith rooms number first second) r)
   unfolding refuse refusedWith
-  went-on true number first second r h f = absurd (no-accepted number first second o c p h)
+  went-on true number first second r h f = absurd (not-accepted number first second o c p h)
   went-on false number first second r h f = f h
 
   unfolded-into : (u : Unfolded) → readUnfolded m rooms u .answer ≡ accepted o c p → ReadInto m rooms (readUnfolded m rooms u)
   unfolding readUnfolded refusedWith readText
-  unfolded-into (fault number line) h = absurd (no-accepted number line 0 o c p h)
+  unfolded-into (fault number line) h = absurd (not-accepted number line 0 o c p h)
   unfolded-into (lines ls) h = went-on _ 6 0 0 (readRun m rooms (unfoldedText ls) (readLines m rooms (unfoldedText ls) (startOf m) ls)) h (λ g. read-lines ls (readLines m rooms (unfoldedText ls) (startOf m) ls) refl g)
 
   read-into : (model file : List ℕ) → checkModel model ≡ good m → read model file rooms .answer ≡ accepted o c p → ReadInto m rooms (read model file rooms)

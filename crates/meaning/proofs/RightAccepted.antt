@@ -3,7 +3,7 @@ use Prim.Native.Nat.{ℕ, _+_}
 use native.Mathlib.Omega.{arith}
 use mathlib.Core.Path.{_≡_, refl, sym, ap, subst, _∙_}
 use mathlib.Core.Bool.{Bool, true, false, _||_}
-use mathlib.Core.List.{List, []}
+use mathlib.Core.List.{List}
 use lib.Dec.{ltb}
 use lib.IntN.{ℤ}
 use lib.ListN.{length, replicate}
@@ -12,29 +12,27 @@ use Rattle.meaning.specs.Bytes.{refuse}
 use Rattle.meaning.specs.Unfold.{unfoldedText}
 use Rattle.meaning.specs.Model.{Model}
 use Rattle.meaning.specs.Check.{GoodModel}
-use Rattle.meaning.specs.Answer.{accepted, refusal}
+use Rattle.meaning.specs.Answer.{accepted}
 use Rattle.meaning.specs.Reading.{Due, nothing, Content, State, nothingRead, startOf, Rooms}
 use Rattle.meaning.specs.Lines.{go, Run, ran, stopped, run, readLines}
 use Rattle.meaning.specs.Table.{Resolved, resolved, unresolved, resolve, refusedWith, readResolved, readRun, readText}
 use Rattle.meaning.specs.WritingClaims.{Enough}
 use Rattle.meaning.specs.Right.{Delivered, DeliveredTopic, objectsOfTopics, withStarts, File, Unique, namesOf, pointsOf, cellsOfPoints, tableOf}
 use Rattle.meaning.specs.RightClaims.{RightWithin, IsAccepted, HasRoom}
-use Rattle.meaning.proofs.Apart.{no-resolved}
+use Rattle.meaning.proofs.Apart.{no-resolved, not-accepted}
 use Rattle.meaning.proofs.Refuse.{neither}
 use Rattle.meaning.proofs.Rooms.{Wider}
 use Rattle.meaning.proofs.Resolve.{flatRows, rowStarts}
 use Rattle.meaning.proofs.Buffers.{Fits, Ran, lines-fit}
 use Rattle.meaning.proofs.Accepted.{read-to}
+use Rattle.meaning.proofs.Writable.{read-to-end}
 use Rattle.meaning.proofs.RightSteps.{RanTo, run-steps}
 use Rattle.meaning.proofs.RightContent.{rowsFrom, contentOf, starts-list, cells-length}
 use Rattle.meaning.proofs.RightObjects.{lines-stand, RoomFor}
 use Rattle.meaning.proofs.RightTopics.{file-read}
-use Rattle.meaning.proofs.RightTable.{References, allNamed, firstUnnamed, references-of, lines-read, ran-lines}
+use Rattle.meaning.proofs.RightTable.{References, allNamed, firstUnnamed, references-of, lines-read}
 use Rattle.meaning.proofs.RightRooms.{RunAlike, runsSame, runsFull, run-alike}
 use Rattle.meaning.proofs.RightBackTopics.{FileOf, file-of}
-
-pub no-accepted : (number first second a b c : ℕ) → refusal number first second ≡ accepted a b c → ⊥
-no-accepted number first second a b c h = let z : _≡_ {A = ℕ} 0 1 = cc in omega arith
 
 -- ## Lines that were read are right
 
@@ -98,16 +96,16 @@ module _ (m : Model) (rooms : Rooms) (ls : List (List ℕ)) where
     where
       resolved-by : HasRoom m ls rooms → (s : State) → readLines m rooms own (startOf m) ls ≡ ran s → (r : Resolved) → resolve m own (s .content) ≡ r
           → readResolved rooms own (s .content) r .answer ≡ accepted (a .first) (a .second) (a .third) → RightWithin m ls rooms
-      resolved-by room s e (unresolved object field) q h = absurd (no-accepted 17 object field (a .first) (a .second) (a .third) h)
+      resolved-by room s e (unresolved object field) q h = absurd (not-accepted 17 object field (a .first) (a .second) (a .third) h)
       resolved-by room s e (resolved cs) q h = resolved-right room s cs e q
 
       run-by : HasRoom m ls rooms → (r : Run) → readLines m rooms own (startOf m) ls ≡ r → readRun m rooms own r .answer ≡ accepted (a .first) (a .second) (a .third) → RightWithin m ls rooms
-      run-by room (stopped number line field) e h = absurd (no-accepted number line field (a .first) (a .second) (a .third) h)
+      run-by room (stopped number line field) e h = absurd (not-accepted number line field (a .first) (a .second) (a .third) h)
       run-by room (ran s) e h = resolved-by room s e _ refl h
 
       text-by : (t : Bool) → (ltb (rooms .text) (length own) || ltb (rooms .marks) (length (m .topics) + length (m .tables))) ≡ t
           → refuse t (refusedWith rooms 6 0 0) (readRun m rooms own (readLines m rooms own (startOf m) ls)) .answer ≡ accepted (a .first) (a .second) (a .third) → RightWithin m ls rooms
-      text-by true e h = absurd (no-accepted 6 0 0 (a .first) (a .second) (a .third) h)
+      text-by true e h = absurd (not-accepted 6 0 0 (a .first) (a .second) (a .third) h)
       text-by false e h = run-by (has-room e) _ refl h
 
   -- ## Lines that are right are read, or there is no room
@@ -140,5 +138,5 @@ module _ (m : Model) (rooms : Rooms) (ls : List (List ℕ)) where
       space = record { rows = omega arith; cells = omega arith; points = omega arith }
 
       by : RunAlike m rooms q own wide (startOf m) ls → RanTo m q own (startOf m) ls nothing (contentOf (tableOf m ds .marks) (objectsOfTopics ds)) → ReadOrFull ds
-      by (runsSame e) r = readAll (r .final) (ran-lines m rooms own (startOf m) (r .final) ls (e ∙ r .runs) (r .due)) (r .content)
+      by (runsSame e) r = readAll (r .final) (read-to-end m rooms own (startOf m) (r .final) ls (e ∙ r .runs) (r .due)) (r .content)
       by (runsFull line e) r = tooFull line (full-lines line e)

@@ -3,7 +3,7 @@ use Prim.Native.Nat.{ℕ, zero, suc, _+_, _≤_}
 use native.Mathlib.Omega.{arith}
 use mathlib.Core.Path.{_≡_, refl, sym, ap, subst, _∙_}
 use mathlib.Core.Bool.{Bool, true, false, _||_}
-use mathlib.Core.List.{List, [], _∷_, _++_, append-assoc, append-nil}
+use mathlib.Core.List.{List, [], _∷_, _++_, append-assoc}
 use lib.IntN.{ℤ, pos}
 use lib.ListN.{length, drop}
 use borrow.Author.Tests.{not-false, eqb-false}
@@ -14,14 +14,13 @@ use Rattle.meaning.specs.Value.{Value, pair, wrong, numberOf, isUndefine
 use Rattle.meaning.specs.Row.{Cells, cells, refused, putNumber, componentValues, pointCells}
 use Rattle.meaning.specs.Reading.{LineState, unstarted, started, inArc, reached, LineCode, stpt, lipt, arcp, elin, other, lineCodeOf, point, move, isInArc, isForbidden, LineAttribute, Underway, Due, lineOf, nothing, dueLines, Content, withPoint, pointCount, withLine, Rooms}
 use Rattle.meaning.specs.Lines.{go, bare, storePoint, attributeLine, lineDue}
-use Rattle.meaning.specs.Right.{Point, Line, Alone, PointLine, Values, none, one, HasStraights, HasArcs, Segment, straight, arc, Segments, last, more, Drawn, drawn, cellsOfPoints}
+use Rattle.meaning.specs.Right.{Point, Line, Alone, PointLine, Values, none, one, HasStraights, HasArcs, Segment, straight, arc, Segments, last, more, Drawn, drawn}
 use Rattle.meaning.proofs.Apart.{no-go, no-cells}
 use Rattle.meaning.proofs.Refuse.{passed, neither}
 use Rattle.meaning.proofs.Given.{number-within}
 use Rattle.meaning.proofs.Drawn.{told-of}
 use Rattle.meaning.proofs.RightSteps.{stepAt, steps, first-of}
-use Rattle.meaning.proofs.RightContent.{points-append}
-use Rattle.meaning.proofs.RightPoints.{withPoints, under}
+use Rattle.meaning.proofs.RightPoints.{withPoints, one-point, points-on, under}
 use Rattle.meaning.proofs.RightBackLines.{CodedBy, coded-by, alone-of}
 
 -- ## Values
@@ -186,9 +185,6 @@ module _ (m : Model) (rooms : Rooms) (own : List ℕ) (t k : ℕ) (a : LineAttri
       now : EndOf c ls → ReachedOf c ls
       then : SegmentsOf c ls → ReachedOf c ls
 
-    points-on : (ps qs : List Point) (c : Content) → withPoints qs (withPoints ps c) ≡ withPoints (ps ++ qs) c
-    points-on ps qs c = rw (points-append ps qs, append-assoc (c .points) (cellsOfPoints ps) (cellsOfPoints qs))
-
     behind-segment : (these : List Line) (ps : List Point) (c : Content) (ls : List Line) → Segment (m .undefined) (a .forms) (a .components) these ps → ReachedOf (withPoints ps c) ls → SegmentsOf c (these ++ ls)
     behind-segment these ps c ls s (now e) = record { these = these; points = ps; segments = last s; behind = ls; is = refl; end = e }
     behind-segment these ps c ls s (then r) = record {
@@ -199,10 +195,6 @@ module _ (m : Model) (rooms : Rooms) (own : List ℕ) (t k : ℕ) (a : LineAttri
       is = ap (λ (y : List Line). these ++ y) (r .is) ∙ sym (append-assoc these (r .these) (r .behind));
       end = subst (λ (y : Content). EndOf y (r .behind)) (points-on ps (r .points) c) (r .end);
     }
-
-    one-point : (kind : ℕ) (vs : List ℤ) (c : Content) → withPoint (pointCells kind vs) c ≡ withPoints (record { kind = kind; values = vs } ∷ []) c
-    unfolding cellsOfPoints
-    one-point kind vs c = rw (append-nil (pointCells kind vs))
 
     pub at-point : (kind : ℕ) (vs : List ℤ) (due : Due) (c : Content) (ls : List Line) → Goes due (withPoint (pointCells kind vs) c) ls → Goes due (withPoints (record { kind = kind; values = vs } ∷ []) c) ls
     at-point kind vs due c ls h = subst (λ (y : Content). Goes due y ls) (one-point kind vs c) h

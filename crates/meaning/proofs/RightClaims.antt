@@ -21,6 +21,7 @@ use Rattle.meaning.specs.RightClaims.{RightIsRead, ReadIsRight, IsAccept
 use Rattle.meaning.specs.Compute.{computeRead}
 use Rattle.meaning.specs.Sample.{sampleModel, with7}
 use Rattle.meaning.specs.Neighbours.{readsSample, oneMore, whole-table}
+use Rattle.meaning.proofs.Apart.{not-accepted}
 use Rattle.meaning.proofs.Cuts as cuts
 use Rattle.meaning.proofs.Marks as marks
 use Rattle.meaning.proofs.GoodModels as models
@@ -55,7 +56,7 @@ accepted-exactly-when-right model file m rooms e short = (λ a. to (unfoldFile (
     -- a file that is accepted was unfolded
     to : (u : Unfolded) → unfoldFile (m .mark) file ≡ u → IsAccepted (read model file rooms .answer) → RightFile m file rooms
     to (fault number line) q a =
-        absurd (accepting.no-accepted number line 0 (a .first) (a .second) (a .third) (sym (ap (λ (r : Result). r .answer) (order.read-faulty model file rooms m number line short e q)) ∙ a .is))
+        absurd (not-accepted number line 0 (a .first) (a .second) (a .third) (sym (ap (λ (r : Result). r .answer) (order.read-faulty model file rooms m number line short e q)) ∙ a .is))
     to (lines ls) q a =
         let cut = cuts.unfolds-cut (m .mark) (marks.good-mark model m e) ls file q .0 in
         let same = cut-reads-as-lines model m ls file rooms e short cut in
@@ -77,7 +78,7 @@ sample-checked : (c : Checked) → checkModel sampleModel ≡ c → SampleRight
 unfolding read refuse readChecked refusedWith
 sample-checked (good m) e =
     record { model = m; isGood = e; file = accepted-exactly-when-right sampleModel (with7 "OBJE k1 A_1 10.0 20.5") m oneMore e (omega arith) .0 (record { first = 2; second = 18; third = 3; is = sample-read }) }
-sample-checked (bad at) e = absurd (accepting.no-accepted 2 at 0 2 18 3 (sym (rw e refl) ∙ sample-read))
+sample-checked (bad at) e = absurd (not-accepted 2 at 0 2 18 3 (sym (rw e refl) ∙ sample-read))
 
 pub sample-right : SampleRight
 sample-right = sample-checked (checkModel sampleModel) refl
@@ -105,7 +106,7 @@ module _ (model file : List ℕ) (m : Model) (rooms : Rooms) (number first secon
       by (table.References.firstUnnamed a b f q) = table.objects-unnamed m (objectsOfTopics ds) f (r .references)
       by (table.References.allNamed n q) =
           let there = ap (λ (x : Content). resolve m own x) c ∙ q in
-          accepting.no-accepted number first second _ _ _ (sym h ∙ ap (λ (x : Result). x .answer) (g ∙ ap (λ (x : Resolved). readResolved rooms own (s .content) x) there))
+          not-accepted number first second _ _ _ (sym h ∙ ap (λ (x : Result). x .answer) (g ∙ ap (λ (x : Resolved). readResolved rooms own (s .content) x) there))
 
   lines-not : Opened model file m ls → HasRoom m ls rooms → ⊥
   unfolding readRun

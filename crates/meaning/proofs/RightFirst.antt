@@ -19,14 +19,14 @@ use Rattle.meaning.specs.Row.{Pair}
 use Rattle.meaning.specs.Right.{Entry, Delivered, DeliveredTopic, objectsOfTopics, withStarts, File, Unique, tableOf}
 use Rattle.meaning.specs.RightClaims.{First, tooLarge, badModel, badUnfolding, noRoom, badLine, lineMissing, objectMissing, Opened, HasRoom, Short, FirstOfEntries, FirstOfObjects}
 use Rattle.meaning.specs.RightClaims as claims
-use Rattle.meaning.proofs.Apart.{no-ran}
+use Rattle.meaning.proofs.Apart.{no-ran, not-accepted}
 use Rattle.meaning.proofs.GoodModels as models
 use Rattle.meaning.proofs.RightContent.{contentOf}
 use Rattle.meaning.proofs.RightObjects.{lines-stand}
 use Rattle.meaning.proofs.RightTopics.{file-read}
 use Rattle.meaning.proofs.RightTable.{References, allNamed, firstUnnamed, references-of, entries-unnamed, objects-unnamed}
 use Rattle.meaning.proofs.RightBackTopics.{FileOf}
-use Rattle.meaning.proofs.RightAccepted.{noMarks, lines-right, references-read, content-is, no-accepted, ReadOrFull, readAll, tooFull, read-or-full}
+use Rattle.meaning.proofs.RightAccepted.{noMarks, lines-right, references-read, content-is, ReadOrFull, readAll, tooFull, read-or-full}
 
 -- ## One first reference that names no object
 
@@ -251,7 +251,7 @@ module _ (model file : List ℕ) (rooms : Rooms) where
             → read model file rooms ≡ readResolved rooms (unfoldedText ls) (s .content) (resolve m (unfoldedText ls) (s .content)) → Answered
         outcome f (allNamed r q) g =
             let there = ap (λ (c : Content). resolve m (unfoldedText ls) c) (sym (content-is m rooms ls s f)) ∙ q in
-            absurd (no-accepted number first second _ _ _ (sym h ∙ ap (λ (r : Result). r .answer) (g ∙ ap (λ (x : Resolved). readResolved rooms (unfoldedText ls) (s .content) x) there)))
+            absurd (not-accepted number first second _ _ _ (sym h ∙ ap (λ (r : Result). r .answer) (g ∙ ap (λ (x : Resolved). readResolved rooms (unfoldedText ls) (s .content) x) there)))
         outcome f (firstUnnamed a b n q) g =
             let there = ap (λ (c : Content). resolve m (unfoldedText ls) c) (sym (content-is m rooms ls s f)) ∙ q in
             given 17 a b (g ∙ ap (λ (x : Resolved). readResolved rooms (unfoldedText ls) (s .content) x) there) (objectMissing o room e d (f .structure) (f .unique) n)

@@ -50,6 +50,14 @@ values-cells (one d n v) place = rw (d .one, d .two, n, values-cells v (place + 
 abbrev pub withPoints : List Point → Content → Content
 withPoints ps c = record { marks = c .marks; rows = c .rows; cells = c .cells; points = c .points ++ cellsOfPoints ps }
 
+pub one-point : (kind : ℕ) (vs : List ℤ) (c : Content) → withPoint (pointCells kind vs) c ≡ withPoints (record { kind = kind; values = vs } ∷ []) c
+unfolding cellsOfPoints
+one-point kind vs c = rw (append-nil (pointCells kind vs))
+
+-- points behind points
+pub points-on : (ps qs : List Point) (c : Content) → withPoints qs (withPoints ps c) ≡ withPoints (ps ++ qs) c
+points-on ps qs c = rw (points-append ps qs, append-assoc (c .points) (cellsOfPoints ps) (cellsOfPoints qs))
+
 -- a line state in which a segment may begin
 record Open (state : LineState) : Type 0 where
   toStraight : move state lipt ≡ point 1 reached
@@ -75,10 +83,6 @@ module _ (m : Model) (rooms : Rooms) (text : List ℕ) (t k : ℕ) (a : LineAttr
   point-step l fs code of kind state next vs c h e moves form values room =
       rw (e, moves, e, form, h .fields, values-cells values 2, le-ltb (rooms .points) (length (c .points) + 4) room)
 
-  one-point : (kind : ℕ) (vs : List ℤ) (c : Content) → withPoint (pointCells kind vs) c ≡ withPoints (record { kind = kind; values = vs } ∷ []) c
-  unfolding cellsOfPoints
-  one-point kind vs c = rw (append-nil (pointCells kind vs))
-
   point-line : (l : Line) (code : List ℕ) (of : LineCode) (kind : ℕ) (state next : LineState) (vs : List ℤ) (c : Content) → (h : PointLine (m .undefined) (a .components) code l vs)
       → lineCodeOf (fieldsOf (l .start) (l .bytes)) ≡ of → move state of ≡ point kind next → isForbidden (a .forms) state of ≡ false → length (c .points) + 4 ≤ rooms .points
       → steps m rooms text (lineOf (under state)) c (l ∷ []) ≡ go (lineOf (under next)) (withPoints (record { kind = kind; values = vs } ∷ []) c)
@@ -86,10 +90,6 @@ module _ (m : Model) (rooms : Rooms) (text : List ℕ) (t k : ℕ) (a : LineAttr
   point-line l code of kind state next vs c h e moves form room =
       step-on m rooms text _ (lineOf (under next)) c (withPoint (pointCells kind vs) c) l [] _ (point-step l (h .others) code of kind state next vs c (h .coded) e moves form (h .values) room)
       (ap (λ (x : Content). go (lineOf (under next)) x) (one-point kind vs c))
-
-  -- points behind points
-  points-on : (ps qs : List Point) (c : Content) → withPoints qs (withPoints ps c) ≡ withPoints (ps ++ qs) c
-  points-on ps qs c = rw (points-append ps qs, append-assoc (c .points) (cellsOfPoints ps) (cellsOfPoints qs))
 
   more-points : (ls ks : List Line) (ps qs : List Point) (due d e : Due) (c : Content) → steps m rooms text due c ls ≡ go d (withPoints ps c)
       → steps m rooms text d (withPoints ps c) ks ≡ go e (withPoints qs (withPoints ps c)) → steps m rooms text due c (ls ++ ks) ≡ go e (withPoints (ps ++ qs) c)

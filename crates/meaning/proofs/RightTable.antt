@@ -13,14 +13,14 @@ use Rattle.meaning.specs.Unfold.{unfoldedText}
 use Rattle.meaning.specs.Model.{Model, tableAt}
 use Rattle.meaning.specs.Check.{GoodModel}
 use Rattle.meaning.specs.Row.{Pair, pairsOf}
-use Rattle.meaning.specs.Reading.{nothing, isComplete, Content, State, nothingRead, startOf, Rooms, objectsOf}
-use Rattle.meaning.specs.Lines.{ran, run, atEnd, readLines}
+use Rattle.meaning.specs.Reading.{nothing, Content, nothingRead, startOf, Rooms, objectsOf}
 use Rattle.meaning.specs.Table.{Resolved, resolved, unresolved, afterResolved, resolvePairs, resolveRows, resolve, acceptedWith, readResolved, readRun, readText}
 use Rattle.meaning.specs.WritingClaims.{Enough}
 use Rattle.meaning.specs.Right.{Entry, Delivered, DeliveredTopic, objectsOfTopics, withStarts, File, Unique, AllNamed, Referred, Right, namesOf, entryCells, entryPoints, pointsOf, cellsOfPoints, rowsCells, tableOf}
 use Rattle.meaning.specs.RightClaims.{FirstOfEntries, FirstOfObjects}
 use Rattle.meaning.specs.RightClaims as claims
 use Rattle.meaning.proofs.Resolve.{rowCells, flatRows, rowStarts, table-at}
+use Rattle.meaning.proofs.Writable.{read-to-end}
 use Rattle.meaning.proofs.RightSteps.{RanTo, steps-run}
 use Rattle.meaning.proofs.RightContent.{lateCells, late-length, entry-length, rowFor, rowsFrom, contentOf, headOf, objects-names, starts-list, cells-length}
 use Rattle.meaning.proofs.RightObjects.{lines-stand, RoomFor, starts-length, AllRead, read-names}
@@ -118,10 +118,6 @@ lines-read m good rooms ls ds structure unique room =
     steps-run m rooms (unfoldedText ls) ls (startOf m) nothing _
     (file-run m rooms (unfoldedText ls) good structure (lines-stand (unfoldedText ls) 0 ls refl) (replicate (length (m .topics) + length (m .tables)) 0) unique room)
 
-pub ran-lines : (m : Model) (rooms : Rooms) (own : List ℕ) (s final : State) (ls : List (List ℕ)) → run m rooms own s ls ≡ ran final → final .due ≡ nothing → readLines m rooms own s ls ≡ ran final
-unfolding readLines atEnd refuse isComplete
-ran-lines m rooms own s final ls e d = rw (e, d)
-
 room-enough : (m : Model) (rooms : Rooms) (ls : List (List ℕ)) (ds : List DeliveredTopic) → Enough m ls (tableOf m ds) rooms → RoomFor rooms (objectsOfTopics ds)
 unfolding tableOf
 room-enough m rooms ls ds e =
@@ -147,7 +143,7 @@ right-is-read m good ls ds rooms r enough =
     let own : List ℕ = unfoldedText ls in
     let os : List Delivered = objectsOfTopics ds in
     let ran-to = lines-read m good rooms ls ds (r .file) (r .unique) (room-enough m rooms ls ds enough) in
-    let read = ran-lines m rooms own (startOf m) (ran-to .final) ls (ran-to .runs) (ran-to .due) in
+    let read = read-to-end m rooms own (startOf m) (ran-to .final) ls (ran-to .runs) (ran-to .due) in
     rw (no-refusal m rooms ls (tableOf m ds) enough, read, ran-to .content) (by (references-of m own (tableOf m ds .marks) os (file-read m own (r .file) (lines-stand own 0 ls refl))))
   where
     by : References m (unfoldedText ls) (tableOf m ds .marks) (objectsOfTopics ds)

@@ -1,14 +1,14 @@
 -- What writing leaves in its room, and the width of what is written. Assumes nothing.
 use Prim.Native.Nat.{ℕ, zero, suc, _+_, _-_, _≤_, _<_}
 use native.Mathlib.Omega.{arith}
-use mathlib.Core.Path.{_≡_, refl, sym, ap, subst, _∙_}
-use mathlib.Core.Bool.{Bool, true, false, not, _&&_, _||_, false≢true}
+use mathlib.Core.Path.{_≡_, refl, sym, subst}
+use mathlib.Core.Bool.{Bool, true, false, not, _||_, false≢true}
 use mathlib.Core.List.{List, [], _∷_, _++_, append-assoc}
 use lib.Dec.{ltb, eqb, leb}
-use lib.ListN.{length, take, drop, replicate, length-replicate}
+use lib.ListN.{length, take, replicate, length-replicate}
 use lib.Seq.{drop-append-seam, take-append-seam}
 use borrow.Author.Tests.{ltb-false, lt-ltb, leb-true, le-leb, ne-eqb}
-use Rattle.meaning.specs.Bytes.{choose, refuse, permitted, every, allPermitted, cont}
+use Rattle.meaning.specs.Bytes.{choose, permitted, every, allPermitted, cont}
 use Rattle.meaning.specs.Cut.{Mark, Permitted}
 use Rattle.meaning.specs.Model.{Model}
 use Rattle.meaning.specs.Check.{Checked, good, bad, checkModel, GoodModel}
@@ -19,7 +19,8 @@ use Rattle.meaning.specs.Width.{goesWhole, cutRest, cutLine, cutLines, W
 use Rattle.meaning.specs.WritingClaims.{RoomUsed, fitsWidth}
 use Rattle.meaning.proofs.Refuse.{refuse-keeps, both, neither}
 use Rattle.meaning.proofs.Marks.{good-mark}
-use Rattle.meaning.proofs.TextLeft.{not-refused, not-accepted, filled-length}
+use Rattle.meaning.proofs.Apart.{not-refused, not-accepted}
+use Rattle.meaning.proofs.TextLeft.{filled-length}
 use Rattle.meaning.proofs.GoodModels.{checked-good}
 use Rattle.meaning.proofs.Permits.{valid-permits}
 use Rattle.meaning.proofs.Unwritable.{reads-valid, table-reads}

@@ -5,7 +5,6 @@ use mathlib.Core.Path.{_≡_, refl, ap, _∙_}
 use mathlib.Core.Bool.{Bool, true, false, not, _||_}
 use mathlib.Core.List.{List}
 use lib.Dec.{ltb}
-use lib.IntN.{ℤ}
 use lib.ListN.{length, take}
 use lib.Seq.{take-append-seam, length-take-le}
 use borrow.Author.Tests.{le-ltb, ltb-false, leb-true, not-false}
@@ -21,6 +20,7 @@ use Rattle.meaning.specs.Writing.{Lent, markCount, countsFit, contentOf,
 use Rattle.meaning.specs.Readback.{isTable}
 use Rattle.meaning.specs.Width.{cutLines, Written, writingRefused, writeBytes, writeChecked, write}
 use Rattle.meaning.specs.WritingClaims.{Enough, ReadBack}
+use Rattle.meaning.proofs.Apart.{not-accepted}
 use Rattle.meaning.proofs.Refuse.{neither, holds}
 use Rattle.meaning.proofs.GoodModels.{checked-good}
 use Rattle.meaning.proofs.Rooms.{Wider, lines-wider}
@@ -45,16 +45,13 @@ reads-text m ls text c rooms enough r =
 
 -- ## Writing that succeeds
 
-not-accepted : (k at n : ℕ) → refusal k at 0 ≡ accepted n 0 0 → ⊥
-not-accepted k at n h = let z : _≡_ {A = ℕ} 0 1 = cc in omega arith
-
 abbrev answerOf : Written → Answer
 answerOf w = w .answer
 
 -- a test whose refusal is not the answer did not refuse
 went-on : (t : Bool) (room k at n : ℕ) (w : Written) → answerOf (refuse t (writingRefused room k at) w) ≡ accepted n 0 0 → (t ≡ false) × (answerOf w ≡ accepted n 0 0) × (refuse t (writingRefused room k at) w ≡ w)
 unfolding refuse
-went-on true room k at n w h = absurd (not-accepted k at n h)
+went-on true room k at n w h = absurd (not-accepted k at 0 n 0 0 h)
 went-on false room k at n w h = (refl, h, refl)
 
 pub record WrittenAs (m : Model) (t : Lent) (width room n : ℕ) (w : Written) : Type 0 where

@@ -19,6 +19,7 @@ use Rattle.meaning.specs.Readback.{isText, hasStart, pairsWithoutStarts,
 use Rattle.meaning.proofs.Stretches.{stretch-pos}
 use Rattle.meaning.proofs.Same.{same-refl}
 use Rattle.meaning.proofs.Valid.{lentObjects}
+use Rattle.meaning.proofs.Alike.{start-word}
 use Rattle.meaning.proofs.Rows.{isPlain, PairLike, alike, wordAt, nameAt, isDrawn, Like, nil, also}
 use Rattle.meaning.proofs.Attributes.{set-pair, moved, moved-length}
 use Rattle.meaning.proofs.Objects.{RowsLike, stop, row, rows-objects, like-length}
@@ -47,17 +48,13 @@ module _ (text own : List ℕ) where
   settled-cells (one (equal h) s) rest = rw (settled-cells s rest)
   settled-cells (one (elsewhere size e) s) rest = rw (ne-eqb (1 + size) 0 (omega arith), settled-cells s rest)
 
-  word-start : (o : Bool) (longest size : ℕ) → hasStart (OfAttribute o (Text longest)) (pos (1 + size)) ≡ true
-  unfolding hasStart isText
-  word-start o longest size = rw (ne-eqb (1 + size) 0 (omega arith))
-
   settled-texts : {ps : List Pair} {cs ys : List ℤ} → Settled ps cs ys → (rest : List ℤ) → pairTexts own ps (ys ++ rest) ≡ pairTexts text ps cs
   unfolding pairTexts choose
   settled-texts none rest = refl
   settled-texts (one (equal h) s) rest = rw (h, settled-texts s rest)
   settled-texts (one (elsewhere {o = o} {longest = longest} {start = start} {b = b} size e) s) rest =
       let z : 1 + size - 1 ≡ size = omega arith in
-      rw (word-start o longest size, z, stretch-pos own start size, e, settled-texts s rest)
+      rw (start-word o longest size, z, stretch-pos own start size, e, settled-texts s rest)
 
 -- ## References
 

@@ -1,18 +1,18 @@
 -- A good model, record by record: what is known at the byte of a record behind so many topics and tables, and how to go on from there.
 -- Assumes nothing.
-use Prim.Native.Nat.{ℕ, zero, suc, _+_, _-_, _≤_, _<_}
+use Prim.Native.Nat.{ℕ, suc, _+_, _-_, _≤_, _<_}
 use native.Mathlib.Omega.{arith}
 use native.Mathlib.Numerals.{add-one}
 use mathlib.Core.Path.{_≡_, refl, sym, ap, _∙_, subst}
-use mathlib.Core.Bool.{Bool, true, false, not, _&&_, true≢false, false≢true}
+use mathlib.Core.Bool.{Bool, true, false, not, true≢false, false≢true}
 use mathlib.Core.List.{List, [], _∷_}
 use lib.Dec.{leb, ltb, eqb}
-use lib.ListN.{length, take, drop, getD, length-take, length-drop, drop-of-length-le}
-use lib.Seq.{drop-cons, drop-drop, getD-take, getD-drop}
-use borrow.Author.Tests.{leb-true, leb-false, ltb-true, ltb-false, eqb-true, eqb-false, ne-eqb, eq-eqb, not-false}
+use lib.ListN.{length, drop, getD, length-take, length-drop, drop-of-length-le}
+use lib.Seq.{drop-cons, getD-take, getD-drop}
+use borrow.Author.Tests.{leb-true, leb-false, ltb-true, ltb-false, eqb-true, ne-eqb, not-false}
 use Rattle.meaning.specs.Bytes.{choose, refuse, letter, byteAt, u16At}
-use Rattle.meaning.specs.Model.{Records, finish, overrun, entry, recordsFrom, Attribute, Table, Model, noTable, tableAt, flagOf, parametersSize, attributeOf, attributesOf, tablesOf, topicsOf, nameOf, modelOf}
-use Rattle.meaning.specs.Check.{Checked, good, bad, Seen, nothingSeen, isType, isName, follows, followsTransfer, keeps, keepsTransfer, keepsTopic, keepsTable, keepsAttribute, see, checkRecords, checkModel}
+use Rattle.meaning.specs.Model.{Records, finish, overrun, entry, Attribute, Model, noTable, tableAt, flagOf, parametersSize, attributeOf, attributesOf, tablesOf, topicsOf, nameOf, modelOf}
+use Rattle.meaning.specs.Check.{Checked, good, Seen, nothingSeen, isType, isName, follows, followsTransfer, keeps, keepsTransfer, keepsAttribute, see, checkRecords, checkModel}
 use Rattle.meaning.proofs.Marks.{bad-good, passed, references-good, holds, rest-good, is-transfer}
 use Rattle.meaning.proofs.Cuts.{both}
 use Rattle.meaning.proofs.Models.{model-lists}
@@ -30,7 +30,7 @@ pub record Standing (b : List ℕ) (m : Model) (at k t : ℕ) : Type 0 where
   pub tables : tablesOf k (recordsAt b at) ≡ drop t (m .tables)
 
 -- a record that passes
-entry-passes : (before at kind : ℕ) (seen : Seen) (p : List ℕ) (others : Records) (u : Checked) (m : Model) → checkRecords before seen (entry at kind p others) u ≡ good m
+pub entry-passes : (before at kind : ℕ) (seen : Seen) (p : List ℕ) (others : Records) (u : Checked) (m : Model) → checkRecords before seen (entry at kind p others) u ≡ good m
     → (follows before kind ≡ true) × (keeps kind p seen ≡ true) × (checkRecords kind (see kind p seen) others u ≡ good m)
 unfolding checkRecords
 entry-passes before at kind seen p others u m h =

@@ -1,21 +1,16 @@
 -- What the unfolding leaves in its room. Assumes nothing.
 use Prim.Native.Nat.{ℕ, _+_, _-_, _≤_}
 use native.Mathlib.Omega.{arith}
-use mathlib.Core.Path.{_≡_, refl, sym, ap, _∙_}
+use mathlib.Core.Path.{_≡_, refl, ap, _∙_}
 use mathlib.Core.List.{List}
 use lib.Dec.{ltb}
 use lib.ListN.{length, replicate, length-replicate, length-append}
 use borrow.Author.Tests.{ltb-false}
 use Rattle.meaning.specs.Unfold.{Unfolded, lines, fault, unfoldFile, unfoldedText}
 use Rattle.meaning.specs.Check.{Checked, good, bad, checkModel}
-use Rattle.meaning.specs.Answer.{accepted, refusal, filled, tooLong, TextResult, textRefused, textUnfolded, textChecked, unfoldText}
+use Rattle.meaning.specs.Answer.{refusal, filled, tooLong, TextResult, textRefused, textUnfolded, textChecked, unfoldText}
+use Rattle.meaning.proofs.Apart.{not-refused}
 use Rattle.meaning.proofs.Refuse.{refuse-keeps}
-
-pub not-refused : (a b c number first second : ℕ) → accepted a b c ≡ refusal number first second → ⊥
-not-refused a b c number first second h = let z : _≡_ {A = ℕ} 0 1 = cc in omega arith
-
-pub not-accepted : (number first second a b c : ℕ) → refusal number first second ≡ accepted a b c → ⊥
-not-accepted number first second a b c h = not-refused a b c number first second (sym h)
 
 pub filled-length : (room : ℕ) (s : List ℕ) → length s ≤ room → length (filled 0 room s) ≡ room
 filled-length room s h = length-append s _ ∙ ap (λ (k : ℕ). length s + k) (length-replicate (room - length s) 0) ∙ omega arith

@@ -13,7 +13,7 @@ use Rattle.meaning.specs.Bytes.{refuse, allOf}
 use Rattle.meaning.specs.Unfold.{unfoldedText}
 use Rattle.meaning.specs.Model.{Model}
 use Rattle.meaning.specs.Check.{good, checkModel, GoodModel}
-use Rattle.meaning.specs.Answer.{Answer, accepted, refusal}
+use Rattle.meaning.specs.Answer.{Answer, refusal}
 use Rattle.meaning.specs.Reading.{Content, State, startOf, Rooms}
 use Rattle.meaning.specs.Lines.{Run, ran, stopped, readLines}
 use Rattle.meaning.specs.Table.{resolved, Resolved, unresolved, resolve}
@@ -21,6 +21,7 @@ use Rattle.meaning.specs.Writing.{Lent, contentOf, linesOf}
 use Rattle.meaning.specs.Readback.{sameTable, isResolvedAs, isRunAs, readsAs, isTable}
 use Rattle.meaning.specs.Width.{cutLines, Written, writingRefused, writeBytes, writeChecked, write}
 use Rattle.meaning.specs.WritingClaims.{ReadAs, NoLines, resolvedTable}
+use Rattle.meaning.proofs.Apart.{not-refused}
 use Rattle.meaning.proofs.Refuse.{refuse-keeps, holds}
 use Rattle.meaning.proofs.GoodModels.{checked-good}
 use Rattle.meaning.proofs.Valid.{Valid}
@@ -84,15 +85,12 @@ no-table m g t = (λ e ls r. true≢false (sym (read-table m g t ls r) ∙ e), �
 not-21 : refusal 21 0 0 ≡ refusal 19 0 0 → ⊥
 not-21 h = let z : _≡_ {A = ℕ} 21 19 = cc in omega arith
 
-not-accepted : (n : ℕ) → accepted n 0 0 ≡ refusal 19 0 0 → ⊥
-not-accepted n h = let z : _≡_ {A = ℕ} 0 1 = cc in omega arith
-
 abbrev answerOf : Written → Answer
 answerOf w = w .answer
 
 bytes-written : (room : ℕ) (file : List ℕ) → answerOf (writeBytes room file) ≡ refusal 19 0 0 → ⊥
 unfolding writeBytes
-bytes-written room file = refuse-keeps (λ (w : Written). answerOf w ≡ refusal 19 0 0 → ⊥) (ltb room (length file) || ltb 16777216 (length file)) _ _ not-21 (λ _. not-accepted (length file))
+bytes-written room file = refuse-keeps (λ (w : Written). answerOf w ≡ refusal 19 0 0 → ⊥) (ltb room (length file) || ltb 16777216 (length file)) _ _ not-21 (λ _. not-refused (length file) 0 0 19 0 0)
 
 judged : (x : Bool) (room : ℕ) (w : Written) → (answerOf w ≡ refusal 19 0 0 → ⊥) → answerOf (refuse (not x) (writingRefused room 19 0) w) ≡ refusal 19 0 0 → x ≡ false
 unfolding refuse

@@ -55,7 +55,7 @@ at-end : (s : State) → s .due ≡ nothing → atEnd s ≡ ran s
 unfolding atEnd isComplete refuse
 at-end s e = rw e
 
-read-to-end : (m : Model) (rooms : Rooms) (own : List ℕ) (s final : State) (ls : List (List ℕ)) → run m rooms own s ls ≡ ran final → final .due ≡ nothing → readLines m rooms own s ls ≡ ran final
+pub read-to-end : (m : Model) (rooms : Rooms) (own : List ℕ) (s final : State) (ls : List (List ℕ)) → run m rooms own s ls ≡ ran final → final .due ≡ nothing → readLines m rooms own s ls ≡ ran final
 unfolding readLines
 read-to-end m rooms own s final ls e d = rw e (at-end final d)
 

@@ -17,7 +17,7 @@ use Rattle.meaning.specs.Readback.{isTable}
 use Rattle.meaning.specs.Width.{writingRefused, cutLines, writeBytes, writeChecked, write}
 use Rattle.text.proofs.Fill.{to-end}
 use Rattle.decode.specs.Records.{modelAt}
-use Rattle.decode.proofs.Checked.{holds}
+use Rattle.meaning.proofs.Refuse.{holds}
 use Rattle.model.proofs.Found.{found-bad}
 use Rattle.written.specs.declared.Put.{Put}
 use Rattle.written.specs.declared.Put.the-variants.{At, Full}
