@@ -1,13 +1,13 @@
--- `host::vendorfinch_write` meets its contract. Assumes nothing.
+-- `host_write::vendorfinch_write` meets its contract. Assumes nothing.
 use Prim.Native.Nat.{_≤_}
 use mathlib.Core.Path.{sym, ap, subst, _∙_}
 use lib.ListN.{length}
 use Rattle.meaning.specs.Answer.{Answer, codeForC}
 use Rattle.answers.specs.Numbers.{numbersIn, firstOf}
-use Rattle.host.proofs.Writes.{write-small}
+use Rattle.host_write.proofs.Writes.{write-small}
 use borrow.Author.Needs.{needs}
-use Rattle.host.proofs.vendorfinch_write.Statement.{statement}
-use Rattle.host.proofs.vendorfinch_write.Tie as tie
+use Rattle.host_write.proofs.vendorfinch_write.Statement.{statement}
+use Rattle.host_write.proofs.vendorfinch_write.Tie as tie
 
 write-requires : tie.Need-write-requires
 write-requires c κs = search needs
