@@ -1,11 +1,11 @@
--- `cases_read::shown::count_cells` meets its contract: there are no more such than were looked at. Assumes nothing.
+-- `cases::show::count_cells` meets its contract: there are no more such than were looked at. Assumes nothing.
 use Prim.Native.Nat.{_-_, _≤_}
 use mathlib.Core.Logic.{⊎-elim}
 use lib.ListN.{length}
 use borrow.Author.Needs.{needs}
 use native.Mathlib.Omega.{arith}
-use Rattle.cases_read.proofs.shown.count_cells.Statement.{statement}
-use Rattle.cases_read.proofs.shown.count_cells.Tie as tie
+use Rattle.cases.proofs.show.count_cells.Statement.{statement}
+use Rattle.cases.proofs.show.count_cells.Tie as tie
 
 abbrev Inv-loop : tie.InvT-loop
 Inv-loop room from left₀ i₀ left i = left ≤ i

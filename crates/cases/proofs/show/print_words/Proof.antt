@@ -1,15 +1,15 @@
--- `cases_read::shown::print_rows` meets its contract: the index stays below the length. Assumes nothing.
+-- `cases::show::print_words` meets its contract: the index stays below the length. Assumes nothing.
 use Prim.Native.Nat.{_-_}
 use lib.ListN.{length}
 use borrow.Author.Needs.{needs}
-use Rattle.cases_read.proofs.shown.print_rows.Statement.{statement}
-use Rattle.cases_read.proofs.shown.print_rows.Tie as tie
+use Rattle.cases.proofs.show.print_words.Statement.{statement}
+use Rattle.cases.proofs.show.print_words.Tie as tie
 
 abbrev Inv-loop : tie.InvT-loop
-Inv-loop rows n i₀ i = Unit {0}
+Inv-loop room n i₀ i = Unit {0}
 
 abbrev μ-loop : tie.MeasureT-loop
-μ-loop rows n i₀ i = length rows - i
+μ-loop room n i₀ i = length room - i
 
 loop-holds : tie.Need-loop-holds Inv-loop μ-loop
 loop-holds c = search needs
@@ -35,8 +35,8 @@ loop-again c = search needs
 returns : tie.Need-returns Inv-loop μ-loop
 returns c = search needs
 
-pub print-rows-spec : {M : Type 1} → statement M
-print-rows-spec =
+pub print-words-spec : {M : Type 1} → statement M
+print-words-spec =
     tie.close
     (tie.spec
     Inv-loop

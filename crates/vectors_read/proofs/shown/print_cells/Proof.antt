@@ -1,15 +1,15 @@
--- `cases_read::shown::print_cells` meets its contract: the index stays below the length. Assumes nothing.
+-- `vectors_read::shown::print_cells` meets its contract: the index stays below the length. Assumes nothing.
 use Prim.Native.Nat.{_-_}
 use lib.ListN.{length}
 use borrow.Author.Needs.{needs}
-use Rattle.cases_read.proofs.shown.print_cells.Statement.{statement}
-use Rattle.cases_read.proofs.shown.print_cells.Tie as tie
+use Rattle.vectors_read.proofs.shown.print_cells.Statement.{statement}
+use Rattle.vectors_read.proofs.shown.print_cells.Tie as tie
 
 abbrev Inv-loop : tie.InvT-loop
-Inv-loop cells n i₀ i = Unit {0}
+Inv-loop room n i₀ i = Unit {0}
 
 abbrev μ-loop : tie.MeasureT-loop
-μ-loop cells n i₀ i = length cells - i
+μ-loop room n i₀ i = length room - i
 
 loop-holds : tie.Need-loop-holds Inv-loop μ-loop
 loop-holds c = search needs
