@@ -45,6 +45,19 @@ pub fn count_words(room: &[u64], from: usize) -> usize {
     left
 }
 
+// How many cells behind the first `from` are not zero.
+pub fn count_cells(room: &[i64], from: usize) -> usize {
+    let mut left = 0;
+    let mut i = from;
+    while i < room.len() {
+        if room[i] != 0 {
+            left += 1;
+        }
+        i += 1;
+    }
+    left
+}
+
 // One byte more in the sum of a text; a zero counts for nothing.
 fn mix(sum: usize, b: u8) -> usize {
     if b == 0 {
@@ -62,4 +75,28 @@ pub fn sum_of(room: &[u8]) -> usize {
         i += 1;
     }
     sum
+}
+
+fn print_byte(b: u8) {
+    print_number(b as usize);
+}
+
+// Each byte as a number.
+pub fn print_bytes(room: &[u8]) {
+    let mut i = 0;
+    while i < room.len() {
+        print_byte(room[i]);
+        i += 1;
+    }
+}
+
+// The first n words.
+pub fn print_words(room: &[u64], n: usize) {
+    let mut i = 0;
+    while i < room.len() {
+        if i < n {
+            print_number(room[i] as usize);
+        }
+        i += 1;
+    }
 }
