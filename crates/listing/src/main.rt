@@ -1,10 +1,11 @@
 // The listing program: a model and a file from standard input, 65,536 bytes together at most; the answer, a line of cells per object and a line per point
 // to standard output.
+mod rooms;
 mod shown;
 
 // The input's model and file, read into the program's rooms.
 fn list_file(model: &[u8], file: &[u8]) {
-    let mut text = [0u8; 65536];
+    let mut text = rooms::text();
     let mut marks = [0u8; 576];
     let mut rows = [0u64; 1024];
     let mut cells = [0i64; 8192];

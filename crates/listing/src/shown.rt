@@ -2,6 +2,7 @@
 ghost use mathlib.Core.Path.{_≡_};
 ghost use Prim.Native.Nat.{_*_, _<_};
 ghost use lib.ListN.{length};
+use crate::rooms;
 use listed::rows;
 use reading::Answer;
 
@@ -53,7 +54,7 @@ fn show_points(points: &[i64], out: &mut [u8])
 fn show_table(rows: &[u64], cells: &[i64], points: &[i64])
     requires { ⌜ (length (now cells) < 8193) × (length (now points) < 8193) ⌝ }
 {
-    let mut out = [0u8; 180225];
+    let mut out = rooms::line();
     show_objects(rows, cells, &mut out);
     show_points(points, &mut out);
 }

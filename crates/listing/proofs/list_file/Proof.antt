@@ -2,6 +2,9 @@ use borrow.Author.Needs.{needs}
 use Rattle.listing.proofs.list_file.Statement.{statement}
 use Rattle.listing.proofs.list_file.Tie as tie
 
+text-requires : tie.Need-text-requires
+text-requires c κs = search needs
+
 slice-aggregate-read : tie.Need-slice-aggregate-read
 slice-aggregate-read c = search needs
 
@@ -42,6 +45,7 @@ pub list-file-spec : {M : Type 1} → statement M
 list-file-spec =
     tie.close
     (tie.spec
+    text-requires
     slice-aggregate-read
     slice-aggregate-read-2
     slice-aggregate-read-3
