@@ -34,30 +34,28 @@ fn start_of(file: &[u8], line: usize) -> usize {
     i
 }
 
-// A file whose lines from `from` to before `to` are replaced, and its length.
-fn replace(file: &[u8], from: usize, to: usize, part: &[u8], room: &mut [u8]) -> usize {
-    let a = put(room, 0, parts::front(file, start_of(file, from)));
+// A file whose bytes from `from` to before `to` are replaced, and its length.
+pub fn replace(file: &[u8], from: usize, to: usize, part: &[u8], room: &mut [u8]) -> usize {
+    let a = put(room, 0, parts::front(file, from));
     let b = escapes::put_part(part, room, a);
-    put(room, b, parts::behind(file, start_of(file, to)))
+    put(room, b, parts::behind(file, to))
 }
 
-// The usual file with the lines replaced that are kept.
-fn replace_kept(
-    input: &[u8],
-    part: &[u8],
-    slots: &[u64],
-    file: &mut [u8],
-    room: &mut [u8],
-) -> usize {
-    let n = names::put_chosen(input, slots, kept::FILE, file);
-    let from = kept::get(slots, kept::FROM) as usize;
-    let to = kept::get(slots, kept::TO) as usize;
-    replace(parts::front(file, n), from, to, part, room)
+// The same by lines.
+fn replace_lines(file: &[u8], places: &[u8], part: &[u8], room: &mut [u8]) -> usize {
+    let from = numbers::number(parts::before(places, b' ')) as usize;
+    let to = numbers::number(parts::past(places, b' ')) as usize;
+    replace(file, start_of(file, from), start_of(file, to), part, room)
 }
 
-// "from to" and the bytes that replace these lines of the usual file; the file's length.
-pub fn edit(input: &[u8], places: &[u8], part: &[u8], slots: &mut [u64], room: &mut [u8]) -> usize {
+// "from to" and the bytes that replace these lines of a usual file, which is as it stands in its line; the file's length.
+pub fn edit_lines(usual: &[u8], places: &[u8], part: &[u8], room: &mut [u8]) -> usize {
     let mut file = [0u8; 300];
-    numbers::put_numbers(places, slots, kept::FROM, kept::TO);
-    replace_kept(input, part, slots, &mut file, room)
+    let n = escapes::put_part(usual, &mut file, 0);
+    replace_lines(parts::front(&file, n), places, part, room)
+}
+
+// The same of the usual file that is kept.
+pub fn edit(input: &[u8], places: &[u8], part: &[u8], slots: &[u64], room: &mut [u8]) -> usize {
+    edit_lines(names::chosen(input, slots, kept::FILE), places, part, room)
 }

@@ -34,8 +34,17 @@ pub fn choose(input: &[u8], line: &[u8], slots: &mut [u64]) {
     kept::set(slots, kept::FILE, n as u64);
 }
 
-// The bytes of the model or file whose line begins where the slot says, and how many.
+// The bytes of the line with this code and name, as they stand there.
+pub fn bytes_of<'a>(input: &'a [u8], code: u8, name: &[u8]) -> &'a [u8] {
+    parts::past(parts::line_at(input, find(input, code, name)), b'|')
+}
+
+// The bytes of the model or file whose line begins where the slot says, as they stand there.
+pub fn chosen<'a>(input: &'a [u8], slots: &[u64], slot: usize) -> &'a [u8] {
+    parts::past(parts::line_at(input, kept::get(slots, slot) as usize), b'|')
+}
+
+// These bytes, and how many.
 pub fn put_chosen(input: &[u8], slots: &[u64], slot: usize, room: &mut [u8]) -> usize {
-    let line = parts::line_at(input, kept::get(slots, slot) as usize);
-    escapes::put_part(parts::past(line, b'|'), room, 0)
+    escapes::put_part(chosen(input, slots, slot), room, 0)
 }

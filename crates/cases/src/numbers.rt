@@ -34,6 +34,20 @@ pub fn grown(n: u64, b: u8) -> u64 {
     n * 10 + d
 }
 
+// The number that a part is.
+pub fn number(part: &[u8]) -> u64 {
+    let mut n = 0;
+    let mut i = 0;
+    while i < part.len() {
+        n = grown(n, part[i]);
+        i += 1;
+    }
+    if i == 0 {
+        parts::complain();
+    }
+    n
+}
+
 // The slot behind this one.
 fn next_slot(slots: &[u64], slot: usize) -> usize {
     if slot < slots.len() {

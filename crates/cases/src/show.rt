@@ -1,9 +1,28 @@
 // What is printed of an answer and of rooms.
 use crate::parts;
 
+pub fn print_byte(b: u8) {
+    let one = [b];
+    io::write_all(1, &one);
+}
+
 pub fn print_number(n: usize) {
-    io::write_all(1, b" ");
+    print_byte(b' ');
     io::print_decimal(1, n as u64);
+}
+
+// `H text`: a heading.
+pub fn print_heading(text: &[u8]) {
+    print_byte(b'#');
+    print_byte(b' ');
+    io::write_all(1, text);
+    print_byte(b'\n');
+}
+
+// What an answer is to.
+pub fn print_name(name: &[u8]) {
+    io::write_all(1, name);
+    print_byte(b':');
 }
 
 // The first n bytes of room.
@@ -12,7 +31,7 @@ pub fn print_front(room: &[u8], n: usize) {
 }
 
 pub fn print_answer(number: usize, first: usize, second: usize, third: usize) {
-    io::write_all(1, b":");
+    print_byte(b':');
     print_number(number);
     print_number(first);
     print_number(second);
