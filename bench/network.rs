@@ -64,8 +64,8 @@ fn line(file: &mut Vec<u8>, l: &str, number: usize) {
     file.push(b'\n');
 }
 
-// So many nodes and as many pipes, a third of the lines cut.
-pub fn network_file(n: usize) -> Vec<u8> {
+// So many nodes and as many pipes, a third of the lines cut. Pipe i refers to node `step` times i: with 1 to the node where its line begins.
+pub fn network_file(n: usize, step: usize) -> Vec<u8> {
     let (mut f, mut k) = (HEAD.to_vec(), 0);
     let mut add = |f: &mut Vec<u8>, l: String| {
         line(f, &l, k);
@@ -76,7 +76,7 @@ pub fn network_file(n: usize) -> Vec<u8> {
     }
     f.extend(b"ETAB\nTABL Pipe\n");
     for i in 0..n {
-        add(&mut f, format!("OBJE p{i} n{} {}.{}", i * 31 % n, i % 1200, i % 10));
+        add(&mut f, format!("OBJE p{i} n{} {}.{}", i * step % n, i % 1200, i % 10));
         add(&mut f, format!("STPT {}.50 {}.25", 480000 + i % 300000, 70000 + i % 200000));
         add(&mut f, format!("LIPT {}.00 {}.75", 480001 + i % 300000, 70001 + i % 200000));
         add(&mut f, format!("LIPT {}.40 {}.15", 480002 + i % 300000, 70003 + i % 200000));

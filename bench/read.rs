@@ -205,8 +205,8 @@ fn milliseconds<R>(f: impl FnOnce() -> R) -> (f64, R) {
     (start.elapsed().as_secs_f64() * 1e3, r)
 }
 
-fn compare(name: &str, objects: usize, turns: usize) -> f64 {
-    let (model, file) = (network(), network_file(objects));
+fn compare(name: &str, objects: usize, step: usize, turns: usize) -> f64 {
+    let (model, file) = (network(), network_file(objects, step));
     let mut rooms = Rooms::new(file.len(), 2 * objects, 18 * objects, 3 * objects);
     let (mut ours, mut theirs) = (f64::MAX, f64::MAX);
     for _ in 0..turns {
@@ -221,10 +221,13 @@ fn compare(name: &str, objects: usize, turns: usize) -> f64 {
 }
 
 fn main() {
-    let one = compare("1 MiB", 6_760, 40);
-    let four = compare("4 MiB", 26_500, 20);
-    let sixteen = compare("16 MiB", 103_600, 10);
-    println!("growth from 1 to 4 MiB {:.1}, to 16 MiB {:.1}", four / one, sixteen / one);
+    for (which, step) in [("a pipe refers to the node where its line begins", 1), ("references scattered", 31)] {
+        println!("{which}:");
+        let one = compare("1 MiB", 6_760, step, 40);
+        let four = compare("4 MiB", 26_500, step, 20);
+        let sixteen = compare("16 MiB", 103_600, step, 10);
+        println!("growth from 1 to 4 MiB {:.1}, to 16 MiB {:.1}", four / one, sixteen / one);
+    }
     let (model, file) = (ring(), ring_file(700_000, |i| format!("{i:x}")));
     let mut rooms = Rooms::new(file.len(), 700_000, 3_500_000, 0);
     let (t, answer) = milliseconds(|| proved(&model, &file, 20261115, &mut rooms));

@@ -17,7 +17,7 @@ fn milliseconds(f: impl FnOnce()) -> f64 {
 
 // Reads and writes in turns, and writes what was written again: the bytes stay the same.
 fn measure(name: &str, objects: usize, width: usize, turns: usize) -> f64 {
-    let (model, file) = (network::network(), network::network_file(objects));
+    let (model, file) = (network::network(), network::network_file(objects, 1));
     let (mut text, mut marks) = (vec![0u8; 1 << 24], vec![0u8; 8]);
     let (mut rows, mut cells, mut points) = (vec![0u64; 2 * objects], vec![0i64; 18 * objects], vec![0i64; 12 * objects]);
     let (mut index, mut out, mut answer) = (vec![0u64; 6 * objects], vec![0u8; 1 << 24], [0u64; 4]);

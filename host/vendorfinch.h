@@ -1,4 +1,4 @@
-/* Vendorfinch for a C host: the proved intake of INTERLIS 1 transfer files (x86-64 Linux, static library libhost.a).
+/* Vendorfinch for a C host: the proved intake of INTERLIS 1 transfer files (x86-64 Linux, static library libvendorfinch.a).
  *
  * A slice is a pointer and its length. A pointer is never NULL, also where the length is 0; slices that are written to do
  * not overlap any other slice of the same call. No call asks anything else of its caller: each looks at all it is given,

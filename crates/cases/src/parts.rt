@@ -5,7 +5,7 @@ use crate::show;
 
 // Something in a line of cases is wrong.
 pub fn complain() {
-    show::print_byte(b'?');
+    show::write_byte(b'?');
 }
 
 // The first n bytes, or all.
@@ -106,7 +106,7 @@ pub fn look_at(line: &[u8], codes: &[u8]) {
         return;
     }
     complain();
-    show::print_byte(b' ');
+    show::write_byte(b' ');
     io::write_all(1, line);
-    show::print_byte(b'\n');
+    show::write_byte(b'\n');
 }

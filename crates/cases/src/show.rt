@@ -1,28 +1,27 @@
 // What is printed of an answer and of rooms.
 use crate::parts;
 
-pub fn print_byte(b: u8) {
+pub fn write_byte(b: u8) {
     let one = [b];
     io::write_all(1, &one);
 }
 
 pub fn print_number(n: usize) {
-    print_byte(b' ');
+    write_byte(b' ');
     io::print_decimal(1, n as u64);
 }
 
-// `H text`: a heading.
 pub fn print_heading(text: &[u8]) {
-    print_byte(b'#');
-    print_byte(b' ');
+    write_byte(b'#');
+    write_byte(b' ');
     io::write_all(1, text);
-    print_byte(b'\n');
+    write_byte(b'\n');
 }
 
 // What an answer is to.
 pub fn print_name(name: &[u8]) {
     io::write_all(1, name);
-    print_byte(b':');
+    write_byte(b':');
 }
 
 // The first n bytes of room.
@@ -31,7 +30,7 @@ pub fn print_front(room: &[u8], n: usize) {
 }
 
 pub fn print_answer(number: usize, first: usize, second: usize, third: usize) {
-    print_byte(b':');
+    write_byte(b':');
     print_number(number);
     print_number(first);
     print_number(second);
@@ -64,6 +63,19 @@ pub fn count_words(room: &[u64], from: usize) -> usize {
     left
 }
 
+// How many cells behind the first `from` are not zero.
+pub fn count_cells(room: &[i64], from: usize) -> usize {
+    let mut left = 0;
+    let mut i = from;
+    while i < room.len() {
+        if room[i] != 0 {
+            left += 1;
+        }
+        i += 1;
+    }
+    left
+}
+
 // One byte more in the sum of a text; a zero counts for nothing.
 fn mix(sum: usize, b: u8) -> usize {
     if b == 0 {
@@ -81,4 +93,28 @@ pub fn sum_of(room: &[u8]) -> usize {
         i += 1;
     }
     sum
+}
+
+fn print_byte(b: u8) {
+    print_number(b as usize);
+}
+
+// Each byte as a number.
+pub fn print_bytes(room: &[u8]) {
+    let mut i = 0;
+    while i < room.len() {
+        print_byte(room[i]);
+        i += 1;
+    }
+}
+
+// The first n words.
+pub fn print_words(room: &[u64], n: usize) {
+    let mut i = 0;
+    while i < room.len() {
+        if i < n {
+            print_number(room[i] as usize);
+        }
+        i += 1;
+    }
 }

@@ -2,4 +2,3 @@ pub mod Codes
 pub mod LineCounts
 pub mod RowCounts
 pub mod Answers
-pub mod Writes

@@ -1,4 +1,4 @@
-// The functions exported to C, each on slices, each answering one u64: the answer's first number plus 256 times its second.
+// The functions exported to C but writing (`host_write`), each on slices, each answering one u64: the answer's first number plus 256 times its second.
 ghost use mathlib.Core.Path.{_≡_};
 ghost use Prim.Native.Nat.{_≤_};
 ghost use lib.ListN.{length, replicate};
@@ -7,13 +7,10 @@ ghost use Rattle.meaning.specs.Answer.{check, unfoldText, codeForC};
 ghost use Rattle.model.specs.Walk.{checkedMeant};
 ghost use Rattle.decode.specs.Records.{modelAt};
 ghost use Rattle.meaning.specs.Table as table;
-ghost use Rattle.meaning.specs.Width as writes;
 ghost use Rattle.unfold.specs.Answer.{answerOf, Within};
 ghost use Rattle.steps.specs.Steps.{roomsOf};
-ghost use Rattle.judge.specs.Tables.{lentOf};
 ghost use Rattle.answers.specs.Numbers.{numbersIn};
 use answers::numbers;
-use answers::writing;
 use model::check::Checked;
 use unfold::Answer;
 
@@ -95,47 +92,4 @@ pub extern "C" fn vendorfinch_read(
     let read = reader::read(model, file, text, marks, rows, cells, points, index, seed);
     numbers::store(read, answer);
     numbers::code_of_read(read)
-}
-
-// 0 and the number of bytes written, or a refusal's number and the byte of a bad model's record; `answer` gets the four numbers, as many as it has room for. The lines of the
-// table stand in `out`, with zeros behind; a refusal leaves nothing but zeros. The index is only working room, and zero again.
-#[no_mangle]
-pub extern "C" fn vendorfinch_write(
-    model: &[u8],
-    text: &[u8],
-    marks: &[u8],
-    rows: &[u64],
-    cells: &[i64],
-    points: &[i64],
-    objects: usize,
-    cells_used: usize,
-    points_used: usize,
-    width: usize,
-    out: &mut [u8],
-    index: &mut [u64],
-    seed: u64,
-    answer: &mut [u64],
-) -> u64
-    ensures code { λ r. ⌜ r ≡ codeForC (writes.write (now (model .entry)) (lentOf (now (text .entry)) (now (marks .entry)) (now (rows .entry)) (now (cells .entry)) (now (points .entry)) objects «cells_used» «points_used») width (length (now (out .entry))) .answer) ⌝ }
-    ensures output { λ _. ⌜ now (out .exit) ≡ writes.write (now (model .entry)) (lentOf (now (text .entry)) (now (marks .entry)) (now (rows .entry)) (now (cells .entry)) (now (points .entry)) objects «cells_used» «points_used») width (length (now (out .entry))) .output ⌝ }
-    ensures index { λ _. ⌜ now (index .exit) ≡ replicate (length (now (index .entry))) 0 ⌝ }
-    ensures answer { λ _. ⌜ now (answer .exit) ≡ numbersIn (length (now (answer .entry))) (writes.write (now (model .entry)) (lentOf (now (text .entry)) (now (marks .entry)) (now (rows .entry)) (now (cells .entry)) (now (points .entry)) objects «cells_used» «points_used») width (length (now (out .entry))) .answer) ⌝ }
-{
-    let written = writer::write(
-        model,
-        text,
-        marks,
-        rows,
-        cells,
-        points,
-        objects,
-        cells_used,
-        points_used,
-        width,
-        out,
-        index,
-        seed,
-    );
-    writing::store_written(written, answer);
-    writing::code_of_write(written)
 }

@@ -1,76 +1,58 @@
 // Lending rooms of a length: none of them is zero at entry.
+use crate::shown;
 use cases::kept;
-use cases_read::shown;
+use cases::prepared::between;
 
 // A case: its name, the answer, and the buffers.
 fn show(
-    name: &[u8],
-    model: &[u8],
-    file: &[u8],
+    bytes: &[u8],
+    slots: &[u64],
     text: &mut [u8],
     marks: &mut [u8],
     rows: &mut [u64],
     cells: &mut [i64],
     points: &mut [i64],
     index: &mut [u64],
-    seed: u64,
 ) {
-    io::write_all(1, name);
-    let answer = reader::read(model, file, text, marks, rows, cells, points, index, seed);
+    let model = kept::get(slots, 1);
+    let file = kept::get(slots, 2);
+    io::write_all(1, between(bytes, 0, model));
+    let answer = reader::read(
+        between(bytes, model, file),
+        between(bytes, file, kept::get(slots, 3)),
+        text,
+        marks,
+        rows,
+        cells,
+        points,
+        index,
+        kept::get(slots, 10),
+    );
     shown::print_read(answer, text, marks, rows, cells, points, index);
 }
 
 // Lends so much of each buffer.
-fn lend_parts(
-    name: &[u8],
-    model: &[u8],
-    file: &[u8],
-    text: &mut [u8],
-    marks: &mut [u8],
-    rows: &mut [u64],
-    cells: &mut [i64],
-    points: &mut [i64],
-    index: &mut [u64],
-    slots: &[u64],
-) {
-    let t = kept::lent(slots, kept::TEXT, text.len());
-    let m = kept::lent(slots, kept::MARKS, marks.len());
-    let r = kept::lent(slots, kept::ROWS, rows.len());
-    let c = kept::lent(slots, kept::CELLS, cells.len());
-    let p = kept::lent(slots, kept::POINTS, points.len());
-    let i = kept::lent(slots, kept::INDEX, index.len());
-    show(
-        name,
-        model,
-        file,
-        &mut text[..t],
-        &mut marks[..m],
-        &mut rows[..r],
-        &mut cells[..c],
-        &mut points[..p],
-        &mut index[..i],
-        kept::get(slots, kept::SEED),
-    );
-}
-
-// A case: its name, its model and its file.
-pub fn tell(name: &[u8], model: &[u8], file: &[u8], slots: &[u64]) {
+pub fn lend(bytes: &[u8], slots: &[u64]) {
     let mut text = [0xeeu8; 300];
     let mut marks = [0xeeu8; 6];
     let mut rows = [7u64; 6];
     let mut cells = [-7i64; 48];
     let mut points = [-7i64; 32];
     let mut index = [7u64; 24];
-    lend_parts(
-        name,
-        model,
-        file,
-        &mut text,
-        &mut marks,
-        &mut rows,
-        &mut cells,
-        &mut points,
-        &mut index,
+    let t = kept::lent(slots, 4, 300);
+    let m = kept::lent(slots, 5, 6);
+    let r = kept::lent(slots, 6, 6);
+    let c = kept::lent(slots, 7, 48);
+    let p = kept::lent(slots, 8, 32);
+    let i = kept::lent(slots, 9, 24);
+    show(
+        bytes,
         slots,
+        &mut text[..t],
+        &mut marks[..m],
+        &mut rows[..r],
+        &mut cells[..c],
+        &mut points[..p],
+        &mut index[..i],
     );
 }

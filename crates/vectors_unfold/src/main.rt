@@ -1,22 +1,22 @@
-// Unfolds the cases of standard input, lines of text of 65,536 bytes at most, and prints of each its name, number, text bytes or line, the text, and how
+// Unfolds the cases of standard input, lines of text of 1,048,576 bytes at most, and prints of each its name, number, text bytes or line, the text, and how
 // many bytes of the room behind the text are not zero. `stdout` is written from the rules and not from what this prints.
-use cases::build;
-use cases::names;
+use cases::escapes;
 use cases::numbers;
 use cases::parts;
+use cases::prepared;
 use cases::show;
 use unfold::Answer;
 
 fn spell_hex(b: u8) {
-    show::print_byte(b'<');
+    show::write_byte(b'<');
     io::print_hex(1, b as u64, 2);
-    show::print_byte(b'>');
+    show::write_byte(b'>');
 }
 
 // A byte as it is where it can be printed, and in hex where not.
 fn spell(b: u8) {
     match b {
-        0x20..=0x7e => show::print_byte(b),
+        0x20..=0x7e => show::write_byte(b),
         _ => spell_hex(b),
     }
 }
@@ -33,12 +33,12 @@ fn print_text(text: &[u8]) {
 fn print_room(number: usize, place: usize, room: &[u8], used: usize) {
     show::print_number(number);
     show::print_number(place);
-    show::print_byte(b' ');
-    show::print_byte(b'[');
+    show::write_byte(b' ');
+    show::write_byte(b'[');
     print_text(parts::front(room, used));
-    show::print_byte(b']');
+    show::write_byte(b']');
     show::print_number(show::count_bytes(parts::behind(room, used)));
-    show::print_byte(b'\n');
+    show::write_byte(b'\n');
 }
 
 fn print_answer(answer: Answer, room: &[u8]) {
@@ -55,50 +55,44 @@ fn unfold_into(file: &[u8], room: &mut [u8]) {
 }
 
 // Lends so much of a room that is not zero.
-fn lend(size: usize, file: &[u8]) {
+fn lend(size: &[u8], file: &[u8]) {
     let mut room = [0xeeu8; 200];
-    if 200 < size {
-        parts::complain();
-        return;
-    }
-    unfold_into(file, &mut room[..size]);
+    let n = numbers::number_to(size, 200) as usize;
+    unfold_into(file, &mut room[..n]);
 }
 
-// "from to|name|bytes": the file is the usual one with its lines from `from` to before `to` replaced.
-fn unfold_edited(size: usize, usual: &[u8], rest: &[u8]) {
+// A file, as it stands in a line.
+fn unfold_part(size: &[u8], part: &[u8]) {
     let mut file = [0u8; 300];
-    let part = parts::past(parts::past(rest, b'|'), b'|');
-    let n = build::edit_lines(usual, parts::before(rest, b'|'), part, &mut file);
+    let n = escapes::put_part(part, &mut file, 0);
     lend(size, parts::front(&file, n));
 }
 
-// "room file from to|name|bytes": a case.
-fn run_case(input: &[u8], rest: &[u8]) {
-    show::print_name(parts::before(parts::past(rest, b'|'), b'|'));
-    let size = numbers::number(parts::before(rest, b' ')) as usize;
-    let named = parts::past(rest, b' ');
-    let usual = names::bytes_of(input, b'F', parts::before(named, b' '));
-    unfold_edited(size, usual, parts::past(named, b' '));
+// "room|name|bytes": a case.
+fn run_case(rest: &[u8]) {
+    let named = parts::past(rest, b'|');
+    show::print_name(parts::before(named, b'|'));
+    unfold_part(parts::before(rest, b'|'), parts::past(named, b'|'));
 }
 
 // What a line says.
-fn run_line(input: &[u8], line: &[u8]) {
-    parts::look_at(line, b"FC");
+fn run_line(line: &[u8]) {
+    parts::look_at(line, b"C");
     if parts::code_of(line) == b'C' {
-        run_case(input, parts::behind(line, 2));
+        run_case(parts::behind(line, 2));
     }
 }
 
-fn run_lines(input: &[u8]) {
+fn run(input: &[u8]) {
     let mut at = 0;
     while at < input.len() {
-        run_line(input, parts::line_at(input, at));
+        run_line(parts::line_at(input, at));
         at = parts::next_line(input, at);
     }
 }
 
 fn main() {
-    let mut input = [0u8; 65537];
+    let mut input = prepared::room();
     let n = io::read_full(0, &mut input);
-    run_lines(&input[..n]);
+    run(&input[..n]);
 }

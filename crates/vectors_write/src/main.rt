@@ -1,68 +1,40 @@
-// Writes the cases of standard input, lines of text of 65,536 bytes at most: a file is read, its table changed, lent and written. What is printed of each:
-// its name, the answer, how many bytes of the output room are not zero and their sum, how many words of the index are not zero, and where it is asked
-// for the bytes that were written. `stdout` is written from the rules and not from what this prints.
-use cases::change;
-use cases::keep;
+// Writes the tables of standard input, of 1,048,576 bytes at most, and prints of each its name, the answer, how many bytes of the output room are not zero and their
+// sum, how many words of the index are not zero, and where it is asked for the bytes that were written. `stdout` is written from the rules and not from what this
+// prints. `tests/cases/make.py` prepares the cases, each as a line of numbers, its bytes, and an LF. The numbers, in decimal with one space between:
+//   0 to 4   where name, model, text and marks begin in the bytes, and where the marks end
+//   5 to 8   where rows, cells and cells of points begin among these numbers, and where the last end
+//   9 to 12  objects, cells and points that are used, and the width
+//   13, 14   bytes of the output room and words of the index that are lent
+//   15, 16   the seed, and 1 where the bytes are printed
+//   17 on    rows, cells and cells of points, 2^64 more where one is below zero, and zeros up to 103 numbers
+// A question mark says that this form is not kept.
+use cases::kept;
+use cases::numbers;
 use cases::parts;
-use cases_write::lent;
+use cases::prepared;
 
-mod opened;
+mod lend;
+mod shown;
 
-// What a line says.
-fn run_line(
-    input: &[u8],
-    line: &[u8],
-    slots: &mut [u64],
-    text: &mut [u8],
-    marks: &mut [u8],
-    rows: &mut [u64],
-    cells: &mut [i64],
-    points: &mut [i64],
-) {
-    keep::keep_line(input, line, slots);
-    opened::open(input, line, slots, text, marks, rows, cells, points);
-    change::change_bytes(line, slots, text, marks);
-    change::change_numbers(line, slots, rows, cells, points);
-    lent::write_case(input, line, slots, text, marks, rows, cells, points);
-}
-
-fn run_lines(
-    input: &[u8],
-    slots: &mut [u64],
-    text: &mut [u8],
-    marks: &mut [u8],
-    rows: &mut [u64],
-    cells: &mut [i64],
-    points: &mut [i64],
-) {
-    let mut at = 0;
-    while at < input.len() {
-        let line = parts::line_at(input, at);
-        run_line(input, line, slots, text, marks, rows, cells, points);
-        at = parts::next_line(input, at);
-    }
+// A case, by its line and what stands behind; how many bytes are its own.
+fn run_case(line: &[u8], bytes: &[u8]) -> usize {
+    let mut words = [0u64; 103];
+    numbers::put_numbers(line, &mut words, 0, 102);
+    lend::lend(bytes, &words);
+    kept::get(&words, 4) as usize
 }
 
 fn run(input: &[u8]) {
-    let mut slots = [0u64; 24];
-    let mut text = [0u8; 66000];
-    let mut marks = [0u8; 6];
-    let mut rows = [0u64; 6];
-    let mut cells = [0i64; 48];
-    let mut points = [0i64; 32];
-    run_lines(
-        input,
-        &mut slots,
-        &mut text,
-        &mut marks,
-        &mut rows,
-        &mut cells,
-        &mut points,
-    );
+    let mut at = 0;
+    while at < input.len() {
+        let next = parts::next_line(input, at);
+        let size = run_case(parts::line_at(input, at), parts::behind(input, next));
+        at = prepared::next_case(input, next, size);
+    }
 }
 
 fn main() {
-    let mut input = [0u8; 65537];
+    let mut input = prepared::room();
     let n = io::read_full(0, &mut input);
     run(&input[..n]);
 }

@@ -1,2 +1,0 @@
-// What the program of the cases of reading prints.
-pub mod shown;

@@ -1,0 +1,116 @@
+// Lending a table and rooms to the writer: neither the output room nor the index is zero at entry.
+ghost use mathlib.Core.Path.{_≡_};
+ghost use lib.ListN.{length};
+use crate::shown;
+use cases::kept;
+use cases::parts;
+use cases::prepared::between;
+
+// A word as a cell: from 2^63 on it is below zero.
+fn cell_of(word: u64) -> i64 {
+    if word <= 9223372036854775807 {
+        return word as i64;
+    }
+    let m = 18446744073709551615 - word;
+    (0 - 1) - (m as i64)
+}
+
+// The words as cells.
+fn put_cells(words: &[u64], cells: &mut [i64]) {
+    let mut i = 0;
+    while i < cells.len() {
+        cells[i] = cell_of(kept::get(words, i));
+        i += 1;
+    }
+}
+
+// The words from a place to before another.
+fn words_between(words: &[u64], from: usize, to: usize) -> &[u64] {
+    if from <= to {
+        if to <= words.len() {
+            return &words[from..to];
+        }
+    }
+    parts::complain();
+    words
+}
+
+// The cells from a place to before another.
+fn cells_between(cells: &[i64], from: usize, to: usize) -> &[i64] {
+    if from <= to {
+        if to <= cells.len() {
+            return &cells[from..to];
+        }
+    }
+    parts::complain();
+    cells
+}
+
+// Writes the table.
+fn write_table(
+    model: &[u8],
+    text: &[u8],
+    marks: &[u8],
+    words: &[u64],
+    cells: &[i64],
+    out: &mut [u8],
+    index: &mut [u64],
+) -> writer::Answer {
+    let c = kept::get(words, 6) as usize;
+    let p = kept::get(words, 7) as usize;
+    writer::write(
+        model,
+        text,
+        marks,
+        words_between(words, kept::get(words, 5) as usize, c),
+        cells_between(cells, c, p),
+        cells_between(cells, p, kept::get(words, 8) as usize),
+        kept::get(words, 9) as usize,
+        kept::get(words, 10) as usize,
+        kept::get(words, 11) as usize,
+        kept::get(words, 12) as usize,
+        out,
+        index,
+        kept::get(words, 15),
+    )
+}
+
+// A case: its name, the answer, and the rooms.
+fn show(bytes: &[u8], words: &[u64], cells: &[i64], out: &mut [u8], index: &mut [u64]) {
+    let m = kept::get(words, 1);
+    let t = kept::get(words, 2);
+    let k = kept::get(words, 3);
+    io::write_all(1, between(bytes, 0, m));
+    let answer = write_table(
+        between(bytes, m, t),
+        between(bytes, t, k),
+        between(bytes, k, kept::get(words, 4)),
+        words,
+        cells,
+        out,
+        index,
+    );
+    shown::print_written(answer, kept::get(words, 16), out, index);
+}
+
+// The output room. A function has it, so that its length is proved once.
+fn output_room() -> [u8; 112000]
+    ensures { λ r. ⌜ 112000 ≡ length r ⌝ }
+{
+    [0xee; 112000]
+}
+
+// Lends so much of the output room and of the index.
+fn lend_rooms(bytes: &[u8], words: &[u64], cells: &[i64]) {
+    let mut out = output_room();
+    let mut index = [7u64; 24];
+    let o = kept::lent(words, 13, 112000);
+    let i = kept::lent(words, 14, 24);
+    show(bytes, words, cells, &mut out[..o], &mut index[..i]);
+}
+
+pub fn lend(bytes: &[u8], words: &[u64]) {
+    let mut cells = [0i64; 103];
+    put_cells(words, &mut cells);
+    lend_rooms(bytes, words, &cells);
+}
