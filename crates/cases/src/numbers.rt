@@ -34,6 +34,32 @@ pub fn grown(n: u64, b: u8) -> u64 {
     n * 10 + d
 }
 
+// The number that a part is.
+pub fn number(part: &[u8]) -> u64 {
+    let mut n = 0;
+    let mut i = 0;
+    while i < part.len() {
+        n = grown(n, part[i]);
+        i += 1;
+    }
+    if i == 0 {
+        parts::complain();
+    }
+    n
+}
+
+// The number that a part is, where it is so great at most.
+pub fn number_to(part: &[u8], most: u64) -> u64
+    ensures { λ r. ⌜ r ≤ most ⌝ }
+{
+    let n = number(part);
+    if n <= most {
+        return n;
+    }
+    parts::complain();
+    most
+}
+
 // The slot behind this one.
 fn next_slot(slots: &[u64], slot: usize) -> usize {
     if slot < slots.len() {
@@ -75,12 +101,4 @@ pub fn put_numbers(part: &[u8], slots: &mut [u64], first: usize, last: usize) {
     if put_all(part, slots, first) != last {
         parts::complain();
     }
-}
-
-// A line with this code: its numbers are kept.
-pub fn keep(line: &[u8], code: u8, slots: &mut [u64], first: usize, last: usize) {
-    if parts::code_of(line) != code {
-        return;
-    }
-    put_numbers(parts::behind(line, 2), slots, first, last);
 }

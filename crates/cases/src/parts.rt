@@ -1,10 +1,11 @@
 // Lines, and their parts.
 ghost use Prim.Native.Nat.{_≤_, _<_};
 ghost use lib.ListN.{length};
+use crate::show;
 
 // Something in a line of cases is wrong.
 pub fn complain() {
-    io::write_all(1, b"?");
+    show::write_byte(b'?');
 }
 
 // The first n bytes, or all.
@@ -104,7 +105,8 @@ pub fn look_at(line: &[u8], codes: &[u8]) {
     if is_one_of(line, codes) {
         return;
     }
-    io::write_all(1, b"? ");
+    complain();
+    show::write_byte(b' ');
     io::write_all(1, line);
-    io::write_all(1, b"\n");
+    show::write_byte(b'\n');
 }

@@ -1,9 +1,27 @@
 // What is printed of an answer and of rooms.
 use crate::parts;
 
+pub fn write_byte(b: u8) {
+    let one = [b];
+    io::write_all(1, &one);
+}
+
 pub fn print_number(n: usize) {
-    io::write_all(1, b" ");
+    write_byte(b' ');
     io::print_decimal(1, n as u64);
+}
+
+pub fn print_heading(text: &[u8]) {
+    write_byte(b'#');
+    write_byte(b' ');
+    io::write_all(1, text);
+    write_byte(b'\n');
+}
+
+// What an answer is to.
+pub fn print_name(name: &[u8]) {
+    io::write_all(1, name);
+    write_byte(b':');
 }
 
 // The first n bytes of room.
@@ -12,7 +30,7 @@ pub fn print_front(room: &[u8], n: usize) {
 }
 
 pub fn print_answer(number: usize, first: usize, second: usize, third: usize) {
-    io::write_all(1, b":");
+    write_byte(b':');
     print_number(number);
     print_number(first);
     print_number(second);

@@ -1,15 +1,15 @@
 -- `vectors_unfold::print_text` meets its contract: the index stays below the length. Assumes nothing.
+use borrow.Author.Needs.{needs}
 use Prim.Native.Nat.{_-_}
 use lib.ListN.{length}
-use borrow.Author.Needs.{needs}
 use Rattle.vectors_unfold.proofs.print_text.Statement.{statement}
 use Rattle.vectors_unfold.proofs.print_text.Tie as tie
 
 abbrev Inv-loop : tie.InvT-loop
-Inv-loop room used i₀ i = Unit {0}
+Inv-loop text i₀ i = Unit {0}
 
 abbrev μ-loop : tie.MeasureT-loop
-μ-loop room used i₀ i = length room - i
+μ-loop text i₀ i = length text - i
 
 loop-holds : tie.Need-loop-holds Inv-loop μ-loop
 loop-holds c = search needs
@@ -33,4 +33,15 @@ returns : tie.Need-returns Inv-loop μ-loop
 returns c = search needs
 
 pub print-text-spec : {M : Type 1} → statement M
-print-text-spec = tie.close (tie.spec Inv-loop μ-loop loop-holds shared-slice-read-spell spell-requires add-i loop-less loop-again returns)
+print-text-spec =
+    tie.close
+    (tie.spec
+    Inv-loop
+    μ-loop
+    loop-holds
+    shared-slice-read-spell
+    spell-requires
+    add-i
+    loop-less
+    loop-again
+    returns)
