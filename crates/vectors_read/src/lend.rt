@@ -1,12 +1,12 @@
 // Lending rooms of a length: none of them is zero at entry.
 use crate::shown;
 use cases::kept;
-use cases::prepared::between;
 
-// A case: its name, the answer, and the buffers.
+// The answer, and the buffers.
 fn show(
-    bytes: &[u8],
-    slots: &[u64],
+    model: &[u8],
+    file: &[u8],
+    seed: u64,
     text: &mut [u8],
     marks: &mut [u8],
     rows: &mut [u64],
@@ -14,25 +14,13 @@ fn show(
     points: &mut [i64],
     index: &mut [u64],
 ) {
-    let model = kept::get(slots, 1);
-    let file = kept::get(slots, 2);
-    io::write_all(1, between(bytes, 0, model));
-    let answer = reader::read(
-        between(bytes, model, file),
-        between(bytes, file, kept::get(slots, 3)),
-        text,
-        marks,
-        rows,
-        cells,
-        points,
-        index,
-        kept::get(slots, 10),
-    );
+    let answer = reader::read(model, file, text, marks, rows, cells, points, index, seed);
     shown::print_read(answer, text, marks, rows, cells, points, index);
 }
 
 // Lends so much of each buffer.
-pub fn lend(bytes: &[u8], slots: &[u64]) {
+pub fn lend(model: &[u8], file: &[u8], slots: &[u64]) {
+    let seed = kept::get(slots, 10);
     let mut text = [0xeeu8; 300];
     let mut marks = [0xeeu8; 6];
     let mut rows = [7u64; 6];
@@ -46,8 +34,9 @@ pub fn lend(bytes: &[u8], slots: &[u64]) {
     let p = kept::lent(slots, 8, 32);
     let i = kept::lent(slots, 9, 24);
     show(
-        bytes,
-        slots,
+        model,
+        file,
+        seed,
         &mut text[..t],
         &mut marks[..m],
         &mut rows[..r],

@@ -4,7 +4,7 @@ ghost use lib.ListN.{length};
 use crate::shown;
 use cases::kept;
 use cases::parts;
-use cases::prepared::between;
+use cases::prepared::part;
 
 // A word as a cell: from 2^63 on it is below zero.
 fn cell_of(word: u64) -> i64 {
@@ -24,8 +24,10 @@ fn put_cells(words: &[u64], cells: &mut [i64]) {
     }
 }
 
-// The words from a place to before another.
-fn words_between(words: &[u64], from: usize, to: usize) -> &[u64] {
+// The words from the place in one slot to the place in another.
+fn words_at(words: &[u64], at: usize, next: usize) -> &[u64] {
+    let from = kept::get(words, at) as usize;
+    let to = kept::get(words, next) as usize;
     if from <= to {
         if to <= words.len() {
             return &words[from..to];
@@ -35,8 +37,10 @@ fn words_between(words: &[u64], from: usize, to: usize) -> &[u64] {
     words
 }
 
-// The cells from a place to before another.
-fn cells_between(cells: &[i64], from: usize, to: usize) -> &[i64] {
+// The cells from the place in one slot to the place in another.
+fn cells_at<'a>(cells: &'a [i64], words: &[u64], at: usize, next: usize) -> &'a [i64] {
+    let from = kept::get(words, at) as usize;
+    let to = kept::get(words, next) as usize;
     if from <= to {
         if to <= cells.len() {
             return &cells[from..to];
@@ -56,15 +60,13 @@ fn write_table(
     out: &mut [u8],
     index: &mut [u64],
 ) -> writer::Answer {
-    let c = kept::get(words, 6) as usize;
-    let p = kept::get(words, 7) as usize;
     writer::write(
         model,
         text,
         marks,
-        words_between(words, kept::get(words, 5) as usize, c),
-        cells_between(cells, c, p),
-        cells_between(cells, p, kept::get(words, 8) as usize),
+        words_at(words, 5, 6),
+        cells_at(cells, words, 6, 7),
+        cells_at(cells, words, 7, 8),
         kept::get(words, 9) as usize,
         kept::get(words, 10) as usize,
         kept::get(words, 11) as usize,
@@ -75,16 +77,12 @@ fn write_table(
     )
 }
 
-// A case: its name, the answer, and the rooms.
+// The answer, and the rooms.
 fn show(bytes: &[u8], words: &[u64], cells: &[i64], out: &mut [u8], index: &mut [u64]) {
-    let m = kept::get(words, 1);
-    let t = kept::get(words, 2);
-    let k = kept::get(words, 3);
-    io::write_all(1, between(bytes, 0, m));
     let answer = write_table(
-        between(bytes, m, t),
-        between(bytes, t, k),
-        between(bytes, k, kept::get(words, 4)),
+        part(bytes, words, 1),
+        part(bytes, words, 2),
+        part(bytes, words, 3),
         words,
         cells,
         out,
@@ -93,7 +91,7 @@ fn show(bytes: &[u8], words: &[u64], cells: &[i64], out: &mut [u8], index: &mut 
     shown::print_written(answer, kept::get(words, 16), out, index);
 }
 
-// The output room. A function has it, so that its length is proved once.
+// The output room. A function makes it, so that no proof counts its bytes.
 fn output_room() -> [u8; 112000]
     ensures { λ r. ⌜ 112000 ≡ length r ⌝ }
 {

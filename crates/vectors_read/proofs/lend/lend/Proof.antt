@@ -5,6 +5,9 @@ use borrow.Author.Needs.{needs}
 use Rattle.vectors_read.proofs.lend.lend.Statement.{statement}
 use Rattle.vectors_read.proofs.lend.lend.Tie as tie
 
+get-requires : tie.Need-get-requires
+get-requires c κs = search needs
+
 lent-requires : tie.Need-lent-requires
 lent-requires c κs = search needs
 
@@ -69,6 +72,7 @@ pub lend-spec : {M : Type 1} → statement M
 lend-spec =
     tie.close
     (tie.spec
+    get-requires
     lent-requires
     lent-requires-2
     lent-requires-3
