@@ -1,4 +1,4 @@
--- `vectors_value::print_fields` is safe and ends. Assumes nothing.
+-- `vectors_value::fields::print_fields` is safe and ends. Assumes nothing.
 use Prim.Native.Nat.{ℕ, _+_, _≤_, _<_, _-_}
 use mathlib.Core.Path.{subst}
 use mathlib.Core.List.{List}
@@ -7,8 +7,8 @@ use borrow.Author.Needs.{needs}
 use lib.ListN.{length, length-drop}
 use Rattle.text.specs.Fields.{NextField}
 use Rattle.text.proofs.Fill.{to-end}
-use Rattle.vectors_value.proofs.print_fields.Statement.{statement}
-use Rattle.vectors_value.proofs.print_fields.Tie as tie
+use Rattle.vectors_value.proofs.fields.print_fields.Statement.{statement}
+use Rattle.vectors_value.proofs.fields.print_fields.Tie as tie
 
 abbrev Inv-loop : tie.InvT-loop
 Inv-loop line at₀ at = at ≤ length line
@@ -37,9 +37,6 @@ enum-known-start c = search needs
 enum-told : tie.Need-enum-told Inv-loop μ-loop
 enum-told c = search needs
 
-end-line-requires : tie.Need-end-line-requires Inv-loop μ-loop
-end-line-requires c κs = search needs
-
 returns : tie.Need-returns Inv-loop μ-loop
 returns c = search needs
 
@@ -67,9 +64,6 @@ loop-less c = omega (arith, field (c .before .before))
 loop-again : tie.Need-loop-again Inv-loop μ-loop
 loop-again c = omega (arith, field (c .before .before))
 
-end-line-requires-2 : tie.Need-end-line-requires-2 Inv-loop μ-loop
-end-line-requires-2 c κs = search needs
-
 returns-2 : tie.Need-returns-2 Inv-loop μ-loop
 returns-2 c = search needs
 
@@ -86,12 +80,10 @@ print-fields-spec =
     next-field-requires
     enum-known-start
     enum-told
-    end-line-requires
     returns
     add-from
     print-stretch-requires
     add-at
     loop-less
     loop-again
-    end-line-requires-2
     returns-2)
