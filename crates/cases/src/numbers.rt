@@ -60,6 +60,15 @@ pub fn number_to(part: &[u8], most: u64) -> u64
     most
 }
 
+// A word as a cell: from 2^63 on it is below zero.
+pub fn cell_of(word: u64) -> i64 {
+    if word <= 9223372036854775807 {
+        return word as i64;
+    }
+    let m = 18446744073709551615 - word;
+    (0 - 1) - (m as i64)
+}
+
 // The slot behind this one.
 fn next_slot(slots: &[u64], slot: usize) -> usize {
     if slot < slots.len() {

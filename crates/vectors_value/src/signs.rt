@@ -8,8 +8,7 @@ fn below_zero(part: &[u8]) -> i64 {
     if n == 0 {
         return 0;
     }
-    let m = n - 1;
-    (0 - 1) - (m as i64)
+    numbers::cell_of(18446744073709551615 - (n - 1))
 }
 
 pub fn signed_number(part: &[u8]) -> i64 {

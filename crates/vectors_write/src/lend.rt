@@ -3,23 +3,15 @@ ghost use mathlib.Core.Path.{_≡_};
 ghost use lib.ListN.{length};
 use crate::shown;
 use cases::kept;
+use cases::numbers;
 use cases::parts;
 use cases::prepared::part;
-
-// A word as a cell: from 2^63 on it is below zero.
-fn cell_of(word: u64) -> i64 {
-    if word <= 9223372036854775807 {
-        return word as i64;
-    }
-    let m = 18446744073709551615 - word;
-    (0 - 1) - (m as i64)
-}
 
 // The words as cells.
 fn put_cells(words: &[u64], cells: &mut [i64]) {
     let mut i = 0;
     while i < cells.len() {
-        cells[i] = cell_of(kept::get(words, i));
+        cells[i] = numbers::cell_of(kept::get(words, i));
         i += 1;
     }
 }

@@ -1,10 +1,10 @@
--- `vectors_write::lend::cell_of` meets its contract: what is left up to 2^64 - 1 is below 2^63. Assumes nothing.
+-- `cases::numbers::cell_of` meets its contract: what is left up to 2^64 - 1 is below 2^63. Assumes nothing.
 use Rattle.decode.proofs.Twos.{below-fits}
 use Prim.Native.Nat.{_-_}
 use native.Mathlib.Omega.{arith}
 use borrow.Author.Needs.{needs}
-use Rattle.vectors_write.proofs.lend.cell_of.Statement.{statement}
-use Rattle.vectors_write.proofs.lend.cell_of.Tie as tie
+use Rattle.cases.proofs.numbers.cell_of.Statement.{statement}
+use Rattle.cases.proofs.numbers.cell_of.Tie as tie
 
 cast-result : tie.Need-cast-result
 cast-result c = search needs
