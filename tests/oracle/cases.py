@@ -1,12 +1,13 @@
-"""Cases to compare with document 01's calls: each reading of 01 with its answer, 01's own sample and neighbours, and
-generated ones. Always the same cases in the same order. `python3 cases.py` checks the oracle against every answer that
-is known from the documents and counts the cases; with --huge those of 16,777,216 bytes too.
+"""Cases to compare with document 01's calls: each reading of 01 and of request 1 of 02 with its answer, 01's own sample
+and neighbours, and generated ones. Always the same cases in the same order. `python3 cases.py` checks the oracle
+against every answer that is known from the documents and counts the cases; with --huge those of 16,777,216 bytes too.
 
 A case is a tuple of its name, its call and that call's arguments:
     ("listing", input)                  ("check", model)                 ("unfold", model, file, room)
     ("read", model, file, rooms)        ("write", model, lent, width, room)
 """
 
+import calendar
 import random
 import sys
 
@@ -246,7 +247,6 @@ def object_readings():
     yield of("D1 seven digits", "13 7 3 0", [D], b"OBJE a 1999130")
     yield of("D1 nine digits", "13 7 3 0", [D], b"OBJE a 199913011")
     yield of("D1 a sign", "13 7 3 0", [D], b"OBJE a +1999130")
-    yield of("D1 31 February", "0 1 5 0\n0 43 1 1 19990231\n", [D], b"OBJE a 19990231")
     yield sample("D2", 7, "14 7 3 0", b"OBJE k1 ABCDE 10.0")
     yield sample("D3", 7, "12 7 4 0", b"OBJE k1 A_1 @ 20.5")
     yield sample("D3 second", 7, "12 7 5 0", b"OBJE k1 A_1 10.0 @")
@@ -333,6 +333,67 @@ def object_readings():
     yield sample("E7", 12, "14 12 3 0", b"ARCP 11.0 100.0")
     yield sample("E8", 12, "11 12 4 0", b"ARCP 11.0 21.0 1")
     yield sample("E9", 13, "0 2 18 3", b"LIPT 10.0 20.5")
+
+
+LEAP_YEARS = (0, 400, 2000, 2004)
+YEARS = LEAP_YEARS + (1500, 1582, 1900, 1999, 2003, 2100, 9999)
+
+
+def border_days(year):
+    """The year's days at the borders of its months, as numbers: those that exist, and those that do not."""
+    good, wrong = [], []
+    for month, last in enumerate((0, 31, 29 if year in LEAP_YEARS else 28, 31, 30, 31, 30, 31, 31, 30, 31, 30, 31, 0)):
+        first = 10000 * year + 100 * month
+        if last:
+            good += [first + day for day in (1, last - 1, last)]
+            wrong += [first + day for day in (0, *range(last + 1, max(last + 2, 32)))]
+        else:
+            wrong += [first + day for day in (0, 1, 31)]
+    return good, wrong
+
+
+def days_file(days):
+    """A file with an object of two bytes for each of these days."""
+    return frame(*[b"OBJE %02d %08d" % (n, day) for n, day in enumerate(days)])
+
+
+def date_readings():
+    """Request 1 of 02: its readings, and the days at the borders of the months."""
+    def of(name, answer, attributes, *lines):
+        return name, one(*attributes), frame(*lines), answer
+
+    for name, wrong in (("1.1", (b"19990231",)), ("1.2", (b"19990132", b"19991301", b"19990100", b"19990001")),
+                        ("1.3", (b"15000229",)), ("1.4", (b"00000230",)),
+                        ("1.5", (b"19000229", b"21000229", b"20030229", b"20000431"))):
+        for field in wrong:
+            yield of("%s %s" % (name, field.decode()), "14 7 3 0", [D], b"OBJE a " + field)
+    for name, good in (("1.3", (b"15821004", b"15821005", b"15821010", b"15821014", b"15821015", b"00010101")),
+                       ("1.5", (b"20000229", b"04000229", b"20040229", b"99991231"))):
+        for field in good:
+            yield of("%s %s" % (name, field.decode()), "0 1 5 0\n0 43 1 1 %d\n" % int(field), [D], b"OBJE a " + field)
+    yield of("1.4 00000229", "0 1 5 0\n0 43 1 1 229\n", [D], b"OBJE a 00000229")
+    for field in (b"1999023x", b"x9990231", b"1999023", b"199902310", b"19990231x", b"-9990231"):
+        yield of("1.1 shape " + field.decode(), "13 7 3 0", [D], b"OBJE a " + field)
+    yield of("1.1 cut", "14 7 3 0", [D], b"OBJE a 199902\\", b"CONT 31")
+    yield of("1.1 before a field too many", "14 7 3 0", [D], b"OBJE a 19990231 x")
+    yield of("1.1 behind 15", "15 8 2 0", [D], b"OBJE a 19990228", b"OBJE a 19990231")
+    yield of("1.1 before 17", "14 7 4 0", [R_, D], b"OBJE a x 19990231")
+    yield of("1.7 undefined", "0 1 5 0\n0 43 1 0 0\n", [o.date(b"D", 1)], b"OBJE a @")
+    yield of("1.7 all undefined", "0 1 5 0\n0 43 1 0 0\n", [o.date(b"D", 1)], b"OBJE a @@")
+    yield of("1.7 undefined where it is mandatory", "12 7 3 0", [D], b"OBJE a @")
+    yield of("1.7 optional", "14 7 3 0", [o.date(b"D", 1)], b"OBJE a 19990231")
+    yield of("1.7 text", "0 1 5 0\n0 43 1 9 45\n", [o.text(b"Y", 8)], b"OBJE a 19990231")
+    yield of("1.7 number", "0 1 5 0\n0 43 1 1 19990231\n", [o.number(b"Z", (0, 0, 99999999))], b"OBJE a 19990231")
+    yield of("1.7 enumeration", "0 1 5 0\n0 43 1 1 230\n", [o.enumeration(b"E", 231)], b"OBJE a 00000230")
+    yield of("1.7 identification and reference", "0 1 5 0\n0 43 8 1 0\n", [R_], b"OBJE 19990231 19990231")
+    yield "1.7 another model", two_topics(1), TWO_TOPICS_FILE.replace(b"19990101", b"19990231"), "14 7 3 0"
+    for year in YEARS:
+        good, wrong = border_days(year)
+        rows = ["0 %d 2 1 %d\n" % (43 + 17 * n, day) for n, day in enumerate(good)]
+        answer = "0 %d %d 0\n" % (len(good), 5 * len(good)) + "".join(rows)
+        yield "days of %04d" % year, one(D), days_file(good), answer
+        for day in wrong:
+            yield of("day %08d" % day, "14 7 3 0", [D], b"OBJE a %08d" % day)
 
 
 def neighbours():
@@ -486,6 +547,8 @@ def room_readings():
     yield ("D23 before its lines", one(Y, L_), frame(b"OBJE a x", b"nothing"), o.Rooms(200, 2, 1, 6, 0),
            (16, 7, 0, 0))
     yield ("15 before 16", one(Y), frame(b"OBJE a x", b"OBJE a x"), o.Rooms(200, 2, 1, 20, 0), (15, 8, 2, 0))
+    yield "1.1 before 16", one(D), frame(b"OBJE a 19990231"), o.Rooms(200, 2, 0, 0, 0), (14, 7, 3, 0)
+    yield "1.1 no room for a good one", one(D), frame(b"OBJE a 19990228"), o.Rooms(200, 2, 0, 0, 0), (16, 7, 0, 0)
 
 
 def lent_of(model, file, spare=0):
@@ -599,6 +662,42 @@ def write_readings():
     for start, length, number in ((-1, 2, 19), (0, -1, 19), (len(t.text) - 2, 2, 19), (len(t.text) - 1, 2, 19),
                                   (2 ** 63 - 1, 2 ** 63 - 1, 19), (-2 ** 63, 2, 19), (0, 4, 0)):
         yield ("stretch %d %d" % (start, length), s, changed(t, cells={1: start, 2: length}), 20, 400, number)
+
+
+def date_tables():
+    """Request 1 of 02 in writing: (name, model, lent, width, room, first number or what is written)"""
+    def holding(first, second):
+        """A table of one object with this pair of cells."""
+        return o.Lent(list(b"a"), [1, 1], [0], [0, 0, 1, first, second], [], 1, 5, 0)
+
+    for value, digits in ((229, b"00000229"), (101, b"00000101"), (4000229, b"04000229"), (20000229, b"20000229"),
+                          (15821010, b"15821010"), (99991231, b"99991231")):
+        yield "1.6 date cell %d" % value, one(D), holding(1, value), 20, 300, frame(b"OBJE a " + digits)
+    far = (100000101, 119990101, 2 ** 32 + 19990101, 10 ** 18 + 19990101, 2 ** 63 - 1)
+    for value in (19000229, 19990231, 230, 0, 1, 100, 99999999, *far, -1, -101, -229, -19990101, -2 ** 63):
+        yield "1.6 date cell %d" % value, one(D), holding(1, value), 20, 300, 19
+    wrong, good = holding(1, 19000229), holding(1, 229)
+    yield "1.6 2 before all", one(D)[:-1], wrong, 15, 0, 2
+    yield "1.6 20 before 19", one(D), wrong, 15, 0, 20
+    yield "1.6 19 before 21", one(D), wrong, 20, 0, 19
+    yield "1.6 21", one(D), good, 20, 0, 21
+    optional = one(o.date(b"D", 1))
+    yield "1.7 undefined", optional, holding(0, 0), 20, 300, frame(b"OBJE a @")
+    yield "1.7 undefined where it is mandatory", one(D), holding(0, 0), 20, 300, 19
+    yield "1.7 undefined with a day", optional, holding(0, 229), 20, 300, 19
+    yield "1.7 optional", optional, wrong, 20, 300, 19
+    number = one(o.number(b"Z", (0, 0, 99999999)))
+    yield "1.7 number", number, holding(1, 19990231), 20, 300, frame(b"OBJE a 19990231")
+    text_file = frame(b"OBJE a 19990231")
+    yield "1.7 text", one(o.text(b"Y", 8)), lent_of(one(o.text(b"Y", 8)), text_file), 20, 300, text_file
+    for year in YEARS:
+        good, wrong = border_days(year)
+        cells = [v for n, day in enumerate(good) for v in (0, 2 * n, 2, 1, day)]
+        names = list(b"".join(b"%02d" % n for n in range(len(good))))
+        t = o.Lent(names, [1, 1], [5 * n for n in range(len(good))], cells, [], len(good), len(cells), 0)
+        yield "date cells of %04d" % year, one(D), t, 20, 700, days_file(good)
+        for day in wrong:
+            yield "date cell %08d" % day, one(D), holding(1, day), 20, 300, 19
 
 
 # ---- Generated cases ------------------------------------------------------------------------------------------
@@ -1089,11 +1188,47 @@ def random_number(rng, c):
     return digits
 
 
+def random_month(rng, months):
+    """Any year or one of those above, and one of the months, more often February."""
+    year = rng.choice((rng.randrange(10000), rng.choice(YEARS)))
+    return year, rng.choice((2, rng.choice(months), rng.choice(months)))
+
+
+def random_day(rng):
+    """A day that exists, as a number."""
+    year, month = random_month(rng, range(1, 13))
+    last = o.days_of(year, month)
+    return 10000 * year + 100 * month + rng.choice((1, last, rng.randrange(1, last + 1)))
+
+
+def wrong_day(rng):
+    """One that does not exist, of eight digits or fewer."""
+    year, month = random_month(rng, range(14))
+    last = o.days_of(year, month)
+    return 10000 * year + 100 * month + rng.choice((0, last + 1, rng.randrange(last + 1, 100)))
+
+
+def with_wrong_day(rng, m, t):
+    """The table with one of its dates changed to a day that does not exist; None where it has no date."""
+    dates = []
+    for row in t.rows[:t.objects]:
+        at = row + 3
+        for a in m.tables[t.cells[row]].attributes:
+            if a.kind == o.DATE and t.cells[at]:
+                dates.append(at + 1)
+            at += 2 * a.pairs()
+    if not dates:
+        return None
+    new = t.copy()
+    new.cells[rng.choice(dates)] = wrong_day(rng)
+    return new
+
+
 def random_field(rng, m, a, c, identifications):
     if a.kind in (o.COORDINATE2, o.COORDINATE3, o.NUMBER):
         return random_number(rng, a.components[c])
     if a.kind == o.DATE:
-        return b"%04d%02d%02d" % (rng.randrange(10000), rng.randrange(1, 13), rng.randrange(1, 32))
+        return b"%08d" % random_day(rng)
     if a.kind == o.ENUMERATION:
         return b"%d" % rng.choice((0, a.leaves - 1, rng.randrange(a.leaves)))
     if a.kind == o.TEXT:
@@ -1217,6 +1352,11 @@ def random_cases(rng, count):
             if which in ("cells", "points") and values[at] >= 2 ** 63:
                 values[at] -= 2 ** 64
             yield "random %d changed %d" % (n, k), "write", (model, changed, rng.choice((16, 20, 65535)), 3000)
+        changed = with_wrong_day(rng, m, t)
+        if changed:
+            lines = o.Lines(m, changed).all()
+            yield "random %d, a wrong day" % n, "listing", (model + cut(rng, bytes([m.mark]), lines),)
+            yield "random %d, a wrong day to be written" % n, "write", (model, changed, 80, 3000)
 
 
 def written_bytes():
@@ -1242,15 +1382,16 @@ def known():
         yield name, "check", (model,), answer + " 0 0"
     for name, file, answer in unfold_readings():
         yield name, "listing", (SAMPLE_MODEL + file,), answer
-    for source in (line_readings, object_readings, neighbours, printed_example):
+    for source in (line_readings, object_readings, date_readings, neighbours, printed_example):
         for name, model, file, answer in source():
             yield name, "listing", (model + file,), answer
     for name, data, answer in listing_readings():
         yield name, "listing", (data,), answer
     for name, model, file, rooms_, answer in room_readings():
         yield name, "read", (model, file, rooms_), answer
-    for name, model, lent, width, room, answer in write_readings():
-        yield name, "write", (model, lent, width, room), answer
+    for source in (write_readings, date_tables):
+        for name, model, lent, width, room, answer in source():
+            yield name, "write", (model, lent, width, room), answer
 
 
 def generated():
@@ -1292,6 +1433,8 @@ def answer(call, arguments):
 
 def agrees(call, got, expected):
     """Whether what the oracle gives is what the documents say."""
+    if call == "write" and isinstance(expected, bytes):
+        return got == ((0, len(expected), 0, 0), o.filled(expected, len(got[1])))
     if call == "write":
         return got[0][0] == expected
     if call == "read":
@@ -1334,6 +1477,16 @@ KNOWN_CUTS = [
 ]
 
 
+def known_days():
+    """(what, expected, got): days of the months, by Python's calendar where it has the year; and 400 years."""
+    for year in range(1, 10000):
+        expected = [0] + [calendar.monthrange(year, month)[1] for month in range(1, 13)] + [0]
+        yield "days in %04d" % year, expected, [o.days_of(year, month) for month in range(14)]
+    yield "months of 2000", list(range(1, 13)), [m for m in range(100) if o.days_of(2000, m)]
+    yield "leap years from 0 to 399", 97, sum(o.days_of(year, 2) == 29 for year in range(400))
+    yield "days from 0 to 399", 146097, sum(o.days_of(year, month) for year in range(400) for month in range(14))
+
+
 def main():
     count = {}
     wrong = 0
@@ -1342,12 +1495,18 @@ def main():
             wrong += 1
             print("cut of %s: expected %s, got %s" % (line, expected, o.cut_line(0x5C, width, line)))
         count["known cuts"] = count.get("known cuts", 0) + 1
+    for name, expected, got in known_days():
+        if got != expected:
+            wrong += 1
+            print("%s: expected %s, got %s" % (name, expected, got))
+        count["known days"] = count.get("known days", 0) + 1
     for name, call, arguments, expected in known():
         got = answer(call, arguments)
+        is_written = call == "write" and got[0][0] == 0
         if not agrees(call, got, expected):
             wrong += 1
             print("%s: expected %s, got %s" % (name, expected, got.answer if call == "read" else got))
-        if call == "write" and expected == 0 and not reads_as(arguments[0], bytes(got[1][:got[0][1]]), *arguments[1:3]):
+        if is_written and not reads_as(arguments[0], bytes(got[1][:got[0][1]]), *arguments[1:3]):
             wrong += 1
             print("%s: what is written does not read as the table" % name)
         count["known " + call] = count.get("known " + call, 0) + 1

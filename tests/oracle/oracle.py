@@ -1,8 +1,9 @@
-"""Document 01 once more, in ordinary Python, to compare the definitions and the proved code with.
+"""Document 01 with request 1 of document 02 once more, in ordinary Python, to compare the definitions and the proved
+code with.
 
-Written from document 01, our readings of it and document 000 alone, before the definitions were read. Everything
-is done the plain way: no care is taken of speed. An answer is a tuple of four numbers. Buffers come back as lists,
-as long as they were lent, zero behind their used part and all zero after a refusal.
+Written from documents 01 and 02, our readings of them and document 000 alone, before the definitions were read.
+Everything is done the plain way: no care is taken of speed. An answer is a tuple of four numbers. Buffers come back as
+lists, as long as they were lent, zero behind their used part and all zero after a refusal.
 """
 
 MODEL_LIMIT = 65536
@@ -356,10 +357,20 @@ def enumeration_value(leaves, b):
     return int(b)
 
 
+def days_of(year, month):
+    """How many days the month has: the Gregorian rule for every year from 0 on; none where there is no such month."""
+    if month == 2:
+        leap = year % 4 == 0 and (year % 100 != 0 or year % 400 == 0)
+        return 29 if leap else 28
+    if month in (4, 6, 9, 11):
+        return 30
+    return 31 if 1 <= month <= 12 else 0
+
+
 def date_value(b):
     if not all_digits(b) or len(b) != 8:
         raise Wrong(13)
-    if not 1 <= int(b[4:6]) <= 12 or not 1 <= int(b[6:8]) <= 31:
+    if not 1 <= int(b[6:8]) <= days_of(int(b[:4]), int(b[4:6])):
         raise Wrong(14)
     return int(b)
 

@@ -47,7 +47,7 @@ def other(rng, which, values, at):
 
 
 def damages(rng, m, t):
-    """(what, table): one cell, row, mark, point, count, lent length or start changed."""
+    """(what, table): one cell, row, mark, point, count, lent length, start or date changed."""
     for which in ("cells", "cells", "rows", "marks", "points"):
         values = getattr(t, which)
         if values:
@@ -68,6 +68,9 @@ def damages(rng, m, t):
         (cell, length), new = rng.choice(places), t.copy()
         new.cells[cell] = rng.choice((-1, 0, len(t.text) - length, len(t.text) - length + 1, 2 ** 63 - 1, -2 ** 63))
         yield "start in cell %d is %d" % (cell, new.cells[cell]), new
+    new = cases.with_wrong_day(rng, m, t)
+    if new:
+        yield "a wrong day", new
 
 
 def tables_read():
