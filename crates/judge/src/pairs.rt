@@ -34,7 +34,7 @@ fn fine_if(test: bool, k: usize) -> Fine
     if test { Fine::At(k) } else { Fine::No }
 }
 
-// "Date: eight digits, month 01 to 12, day 01 to 31"
+// "Date: eight digits", and a day that exists.
 fn judge_date(b: i64) -> bool
     ensures { λ r. ⌜ r ≡ judgeDate b ⌝ }
 {

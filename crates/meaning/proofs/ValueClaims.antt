@@ -1,5 +1,5 @@
 -- The claims of specs/ValueClaims.antt. Assumes nothing.
-use Prim.Native.Nat.{ℕ, zero, suc, _+_, _-_, _^_, _≤_, _<_}
+use Prim.Native.Nat.{ℕ, zero, suc, _+_, _-_, _%_, _^_, _≤_, _<_}
 use native.Mathlib.Nat.{zero-add}
 use native.Mathlib.Omega.{arith}
 use mathlib.Core.Path.{_≡_, refl, sym, ap, _∙_}
@@ -8,11 +8,11 @@ use mathlib.Core.List.{List, [], _∷_, _++_}
 use lib.Dec.{eqb, leb, ltb}
 use lib.IntN.{ℤ, pos, negsuc, negℤ, natAbs}
 use lib.ListN.{length, take, drop, getD, length-append, length-take, length-drop, take-append-drop}
-use borrow.Author.Tests.{leb-true}
+use borrow.Author.Tests.{leb-true, eqb-true, eqb-false, eq-eqb, ne-eqb}
 use Rattle.meaning.specs.Bytes.{choose, refuse, digit, every, begins}
-use Rattle.meaning.specs.Value.{Value, pair, wrong, digitsValue, isDigits, unsigned, signed, isNumber, numberDigits, within, numberOf, isDay, dateOf, enumerationOf}
+use Rattle.meaning.specs.Value.{Value, pair, wrong, digitsValue, isDigits, unsigned, signed, isNumber, numberDigits, within, numberOf, isLeapYear, daysOfMonth, isDay, dateOf, enumerationOf}
 use Rattle.meaning.specs.Digits.{lastDigits, digitsOf, signOf, pointed, numberBytes, dateBytes}
-use Rattle.meaning.specs.ValueClaims.{NumberReads, EnumerationReads, DateReads, NumberBytesDiffer, DateBytesDiffer, NumberShortest, EnumerationShortest, DateOnly}
+use Rattle.meaning.specs.ValueClaims.{NumberReads, EnumerationReads, DateReads, NumberBytesDiffer, DateBytesDiffer, NumberShortest, EnumerationShortest, DateOnly, LeapYears, DaysRepeat}
 use Rattle.meaning.proofs.Cuts.{both}
 use Rattle.meaning.proofs.Digits.{every-append, last-digits, last-length, last-value, short-digits, short-value, short-least, parts-digits, no-sign, sign-pos, sign-neg, number-reads, leaf-reads}
 use Rattle.meaning.proofs.Dates.{date-reads}
@@ -178,3 +178,27 @@ date-only v s e =
     let small = rw size at (digits-below s 0 0 (d .2) (omega arith)) in
     rw (← same, sign-pos (digitsValue s))
     (digits-count 8 8 (digitsValue s) (omega arith) small (omega arith) (λ j l h. absurd (omega arith)) ∙ rw size at (last-of s (d .2)))
+
+pub leap-years : LeapYears
+unfolding isLeapYear choose
+leap-years year = go (eqb (year % 100) 0) refl where
+  alone : (t : Bool) → t ≡ ((t && true) || false)
+  alone true = refl
+  alone false = refl
+
+  go : (t : Bool) → eqb (year % 100) 0 ≡ t
+      → isLeapYear year ≡ ((eqb (year % 4) 0 && not (eqb (year % 100) 0)) || eqb (year % 400) 0)
+  go true e =
+      let whole : year % 100 ≡ 0 = eqb-true _ _ e in
+      rw (e, eq-eqb (year % 4) 0 (omega arith))
+  go false e =
+      let none : eqb (year % 400) 0 ≡ false = ne-eqb (year % 400) 0 (λ z. eqb-false (year % 100) 0 e (omega arith)) in
+      rw (e, none) (alone (eqb (year % 4) 0))
+
+pub days-repeat : DaysRepeat
+unfolding isDay daysOfMonth isLeapYear
+days-repeat year month day =
+    let by-100 : (year + 400) % 100 ≡ year % 100 = omega arith in
+    let by-400 : (year + 400) % 400 ≡ year % 400 = omega arith in
+    let by-4 : (year + 400) % 4 ≡ year % 4 = omega arith in
+    rw (by-100, by-400, by-4)

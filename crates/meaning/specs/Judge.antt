@@ -80,7 +80,7 @@ judgePoints forms ks state (suc n) points =
 
 -- ## Pairs
 
--- "Date: eight digits, month 01 to 12, day 01 to 31"
+-- "Date: eight digits", and a day that exists (02, 1)
 unfoldable pub judgeDate : ℤ → Bool
 judgeDate b = allOf
     (not (ltZ b (pos 0))

@@ -1,5 +1,5 @@
 -- Values (01, "Lines and fields" and "The table"): what a defined field means, or why it is refused.
-use Prim.Native.Nat.{ℕ, zero, suc, _+_, _*_, _-_}
+use Prim.Native.Nat.{ℕ, zero, suc, _+_, _*_, _-_, _%_}
 use mathlib.Core.Bool.{Bool, true, false, not, _&&_, _||_}
 use mathlib.Core.List.{List, [], _∷_, _++_}
 use lib.Dec.{leb, ltb, eqb}
@@ -67,9 +67,21 @@ numberOf c s =
 
 -- ## Date and enumeration
 
--- "month 01 to 12, day 01 to 31"; the year does not count
+-- a leap year of "the Gregorian calendar" (02, 1): one that 4 divides, but of those that 100 divides only those that
+-- 400 divides; year 0000 "counts as a leap year by the same rule"
+unfoldable pub isLeapYear : ℕ → Bool
+isLeapYear year = choose (eqb (year % 100) 0) (eqb (year % 400) 0) (eqb (year % 4) 0)
+
+-- how many days a month 01 to 12 has: February 28 or 29; April, June, September and November 30; the others 31
+unfoldable pub daysOfMonth : (year month : ℕ) → ℕ
+daysOfMonth year month =
+    choose (eqb month 2) (choose (isLeapYear year) 29 28)
+    (choose (eqb month 4 || eqb month 6 || eqb month 9 || eqb month 11) 30
+    31)
+
+-- "month 01 to 12", and "the day must exist in the Gregorian calendar" (02, 1)
 unfoldable pub isDay : (year month day : ℕ) → Bool
-isDay year month day = leb 1 month && leb month 12 && leb 1 day && leb day 31
+isDay year month day = leb 1 month && leb month 12 && leb 1 day && leb day (daysOfMonth year month)
 
 -- "Date: eight digits"
 unfoldable pub dateOf : List ℕ → Value

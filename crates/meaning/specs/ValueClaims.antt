@@ -1,14 +1,15 @@
 -- What we claim of values and their bytes: each written value reads as itself, is told from every other, and is the shortest.
 -- One type for each claim; proofs/ValueClaims.antt proves them.
-use Prim.Native.Nat.{ℕ, _/_, _%_, _^_, _≤_, _<_}
+use Prim.Native.Nat.{ℕ, _+_, _/_, _%_, _^_, _≤_, _<_}
 use mathlib.Core.Path.{_≡_}
-use mathlib.Core.Bool.{true}
+use mathlib.Core.Bool.{true, not, _&&_, _||_}
 use mathlib.Core.List.{List}
+use lib.Dec.{eqb}
 use lib.IntN.{ℤ, pos, natAbs}
 use lib.ListN.{length}
 use Rattle.meaning.specs.Model.{Component}
 use Rattle.meaning.specs.Check.{goodComponent}
-use Rattle.meaning.specs.Value.{pair, within, numberOf, isDay, dateOf, enumerationOf}
+use Rattle.meaning.specs.Value.{pair, within, numberOf, isLeapYear, isDay, dateOf, enumerationOf}
 use Rattle.meaning.specs.Digits.{numberBytes, dateBytes}
 
 -- ## What is written reads as the value
@@ -48,3 +49,13 @@ EnumerationShortest = (leaves n : ℕ) (s : List ℕ) → enumerationOf leaves s
 -- No other bytes at all read as the day.
 abbrev pub DateOnly : Type 0
 DateOnly = (v : ℤ) (s : List ℕ) → dateOf s ≡ pair (pos 1) v → dateBytes v ≡ s
+
+-- ## "the day must exist in the Gregorian calendar" (02, 1); Calendar counts what its years and months have
+
+-- The rule of leap years in its usual words: 4 divides the year and 100 does not, or 400 does.
+abbrev pub LeapYears : Type 0
+LeapYears = (year : ℕ) → isLeapYear year ≡ ((eqb (year % 4) 0 && not (eqb (year % 100) 0)) || eqb (year % 400) 0)
+
+-- What is a day repeats every 400 years.
+abbrev pub DaysRepeat : Type 0
+DaysRepeat = (year month day : ℕ) → isDay (year + 400) month day ≡ isDay year month day

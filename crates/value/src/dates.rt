@@ -3,21 +3,41 @@ ghost use mathlib.Core.Path.{_≡_};
 ghost use Prim.Native.Nat.{_<_, _^_, _/_, _%_};
 ghost use lib.Dec.{ltb};
 ghost use lib.IntN.{pos};
-ghost use Rattle.meaning.specs.Value.{isDay, dateOf, enumerationOf};
+ghost use Rattle.meaning.specs.Value.{isLeapYear, daysOfMonth, isDay, dateOf, enumerationOf};
 ghost use Rattle.value.specs.Meant.{judged, valueMeant};
 use crate::Value;
 use crate::digits;
 use crate::digits::Found;
+use text::tests;
 
-// "month 01 to 12, day 01 to 31"; every year is allowed.
+// A leap year of the Gregorian calendar; year 0000 is one.
+fn is_leap_year(year: u64) -> bool
+    ensures { λ r. ⌜ r ≡ isLeapYear year ⌝ }
+{
+    if year % 100 == 0 {
+        year % 400 == 0
+    } else {
+        year % 4 == 0
+    }
+}
+
+// How many days a month 01 to 12 has.
+fn days_of_month(year: u64, month: u64) -> u64
+    ensures { λ r. ⌜ r ≡ daysOfMonth year month ⌝ }
+{
+    match month {
+        2 => if is_leap_year(year) { 29 } else { 28 },
+        4 | 6 | 9 | 11 => 30,
+        _ => 31,
+    }
+}
+
+// "month 01 to 12", and a day that the calendar knows.
 pub fn is_day(year: u64, month: u64, day: u64) -> bool
     ensures { λ r. ⌜ r ≡ isDay year month day ⌝ }
 {
     match month {
-        1..=12 => match day {
-            1..=31 => true,
-            _ => false,
-        },
+        1..=12 => tests::both(1 <= day, day <= days_of_month(year, month)),
         _ => false,
     }
 }
