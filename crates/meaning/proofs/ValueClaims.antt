@@ -12,7 +12,7 @@ use borrow.Author.Tests.{leb-true, eqb-true, eqb-false, eq-eqb, ne-eqb}
 use Rattle.meaning.specs.Bytes.{choose, refuse, digit, every, begins}
 use Rattle.meaning.specs.Value.{Value, pair, wrong, digitsValue, isDigits, unsigned, signed, isNumber, numberDigits, within, numberOf, isLeapYear, daysOfMonth, isDay, dateOf, enumerationOf}
 use Rattle.meaning.specs.Digits.{lastDigits, digitsOf, signOf, pointed, numberBytes, dateBytes}
-use Rattle.meaning.specs.ValueClaims.{NumberReads, EnumerationReads, DateReads, NumberBytesDiffer, DateBytesDiffer, NumberShortest, EnumerationShortest, DateOnly, LeapYears, DaysRepeat}
+use Rattle.meaning.specs.ValueClaims.{NumberReads, EnumerationReads, DateReads, NumberBytesDiffer, DateBytesDiffer, NumberShortest, EnumerationShortest, DateOnly, LeapYears, DaysAlike, DaysRepeat}
 use Rattle.meaning.proofs.Cuts.{both}
 use Rattle.meaning.proofs.Digits.{every-append, last-digits, last-length, last-value, short-digits, short-value, short-least, parts-digits, no-sign, sign-pos, sign-neg, number-reads, leaf-reads}
 use Rattle.meaning.proofs.Dates.{date-reads}
@@ -194,6 +194,10 @@ leap-years year = go (eqb (year % 100) 0) refl where
   go false e =
       let none : eqb (year % 400) 0 ≡ false = ne-eqb (year % 400) 0 (λ z. eqb-false (year % 100) 0 e (omega arith)) in
       rw (e, none) (alone (eqb (year % 4) 0))
+
+pub days-alike : DaysAlike
+unfolding isDay daysOfMonth
+days-alike year other month day e = rw e
 
 pub days-repeat : DaysRepeat
 unfolding isDay daysOfMonth isLeapYear

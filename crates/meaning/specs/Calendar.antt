@@ -2,8 +2,11 @@
 use Prim.Native.Nat.{ℕ, zero, suc, _+_}
 use Prim.Native.String.{String}
 use mathlib.Core.Path.{_≡_, refl}
+use mathlib.Core.Bool.{Bool, _&&_}
 use mathlib.Core.List.{List, [], _∷_, _++_}
+use lib.Dec.{leb}
 use lib.IntN.{ℤ, pos, negsuc}
+use lib.ListN.{getD}
 use Rattle.meaning.specs.Bytes.{bytesOf, choose}
 use Rattle.meaning.specs.Answer.{Answer, accepted, refusal}
 use Rattle.meaning.specs.Value.{isLeapYear, daysOfMonth, isDay}
@@ -92,42 +95,43 @@ pub days-refused :
 unfolding writesDay
 days-refused = refl
 
--- ## The calendar's own figures, counted; claims of ValueClaims say the rule in its usual words, and that it repeats
+-- ## Which days exist, by the calendar's own figures
+-- The claims LeapYears and DaysAlike (ValueClaims) carry `every-day` from these two years to every year.
 
 -- f 0 plus f 1 and so on, up to f of the number before n
 unfoldable pub sumBelow : (ℕ → ℕ) → ℕ → ℕ
 sumBelow f zero = 0
 sumBelow f (suc n) = f n + sumBelow f n
 
--- how many of all days of two digits a month has
-unfoldable pub daysIn : (year month : ℕ) → ℕ
-unfolding sumBelow choose isDay daysOfMonth isLeapYear
-daysIn year month = sumBelow (λ day. choose (isDay year month day) 1 0) 100
+-- the last day of each month in a common year and in a leap year; there is no month 00
+abbrev pub commonYear : List ℕ
+commonYear = 0 ∷ 31 ∷ 28 ∷ 31 ∷ 30 ∷ 31 ∷ 30 ∷ 31 ∷ 31 ∷ 30 ∷ 31 ∷ 30 ∷ 31 ∷ []
 
-unfoldable pub months : ℕ → List ℕ
-unfolding daysIn
-months year =
-    daysIn year 1 ∷ daysIn year 2 ∷ daysIn year 3 ∷ daysIn year 4 ∷ daysIn year 5 ∷ daysIn year 6
-    ∷ daysIn year 7 ∷ daysIn year 8 ∷ daysIn year 9 ∷ daysIn year 10 ∷ daysIn year 11 ∷ daysIn year 12 ∷ []
+abbrev pub leapYear : List ℕ
+leapYear = 0 ∷ 31 ∷ 29 ∷ 31 ∷ 30 ∷ 31 ∷ 30 ∷ 31 ∷ 31 ∷ 30 ∷ 31 ∷ 30 ∷ 31 ∷ []
 
-pub month-by-month : (months 1999 ∷ months 2000 ∷ []) ≡
-    ((31 ∷ 28 ∷ 31 ∷ 30 ∷ 31 ∷ 30 ∷ 31 ∷ 31 ∷ 30 ∷ 31 ∷ 30 ∷ 31 ∷ [])
-    ∷ (31 ∷ 29 ∷ 31 ∷ 30 ∷ 31 ∷ 30 ∷ 31 ∷ 31 ∷ 30 ∷ 31 ∷ 30 ∷ 31 ∷ [])
-    ∷ [])
-unfolding months
-month-by-month = refl
+-- 1 where the year has this day and the list does not, or the list has it and the year does not
+unfoldable pub differs : (year month day : ℕ) → List ℕ → ℕ
+unfolding choose isDay daysOfMonth isLeapYear
+differs year month day lasts =
+    let listed : Bool = leb 1 day && leb day (getD lasts month 0) in
+    choose (isDay year month day) (choose listed 0 1) (choose listed 1 0)
 
--- a month 00 or 13 to 99 has none
-pub year-by-year : (sumBelow (daysIn 1999) 100 ∷ sumBelow (daysIn 2000) 100 ∷ []) ≡ (365 ∷ 366 ∷ [])
-unfolding sumBelow daysIn
-year-by-year = refl
+-- of all months and days of two digits
+unfoldable pub differences : ℕ → List ℕ → ℕ
+unfolding sumBelow differs
+differences year lasts = sumBelow (λ month. sumBelow (λ day. differs year month day lasts) 100) 100
+
+pub every-day : (differences 1999 commonYear ∷ differences 2000 leapYear ∷ []) ≡ (0 ∷ 0 ∷ [])
+unfolding differences
+every-day = refl
 
 -- of the years 0 to 399, 97 are leap years
 pub leap-years : sumBelow (λ year. choose (isLeapYear year) 1 0) 400 ≡ 97
 unfolding sumBelow choose isLeapYear
 leap-years = refl
 
--- the years 0 to 399 have 146,097 days
+-- the months of the years 0 to 399 have 146,097 days in all
 pub days : sumBelow (λ year. sumBelow (λ n. daysOfMonth year (n + 1)) 12) 400 ≡ 146097
 unfolding sumBelow choose daysOfMonth isLeapYear
 days = refl

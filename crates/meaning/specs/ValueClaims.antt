@@ -50,11 +50,16 @@ EnumerationShortest = (leaves n : ℕ) (s : List ℕ) → enumerationOf leaves s
 abbrev pub DateOnly : Type 0
 DateOnly = (v : ℤ) (s : List ℕ) → dateOf s ≡ pair (pos 1) v → dateBytes v ≡ s
 
--- ## "the day must exist in the Gregorian calendar" (02, 1); Calendar counts what its years and months have
+-- ## "the day must exist in the Gregorian calendar" (02, 1); Calendar computes which days a year of each kind has
 
 -- The rule of leap years in its usual words: 4 divides the year and 100 does not, or 400 does.
 abbrev pub LeapYears : Type 0
 LeapYears = (year : ℕ) → isLeapYear year ≡ ((eqb (year % 4) 0 && not (eqb (year % 100) 0)) || eqb (year % 400) 0)
+
+-- Two leap years have the same days, and so have two years that are none.
+abbrev pub DaysAlike : Type 0
+DaysAlike = (year other month day : ℕ) → isLeapYear year ≡ isLeapYear other
+    → isDay year month day ≡ isDay other month day
 
 -- What is a day repeats every 400 years.
 abbrev pub DaysRepeat : Type 0
