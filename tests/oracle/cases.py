@@ -396,6 +396,26 @@ def date_readings():
             yield of("day %08d" % day, "14 7 3 0", [D], b"OBJE a %08d" % day)
 
 
+PREFIX = b"d" * 40
+# Identifications that differ: in the first byte, the last, one within; one the other's end, its beginning; of one byte.
+NEAR_MISSES = [(b"Ak", b"Bk"), (b"kA", b"kB"), (b"kAk", b"kBk"), (b"1k", b"k"), (b"k1", b"k"), (b"A", b"B"),
+               (PREFIX + b"1", PREFIX + b"2"), (b"1" + PREFIX, b"2" + PREFIX), (PREFIX, PREFIX + b"d")]
+
+
+def identification_readings():
+    """Request 4 of 02, reading 4.1: near misses are two objects, and neither is the other's target."""
+    model = one(R_)
+    for a, b in NEAR_MISSES:
+        second = 43 + len(a) + 1 + len(b) + 1 + 5
+        answer = "0 2 10 0\n0 43 %d 1 1\n0 %d %d 1 0\n" % (len(a), second, len(b))
+        name = "4.1 %s %s" % (a.decode(), b.decode())
+        yield name, model, frame(b"OBJE %s %s" % (a, b), b"OBJE %s %s" % (b, a)), answer
+        yield name + ", the second missing", model, frame(b"OBJE %s %s" % (a, b)), "17 0 3 0"
+        yield name + ", the first missing", model, frame(b"OBJE %s %s" % (b, a)), "17 0 3 0"
+        for twice in (a, b):
+            yield name + ", twice", model, frame(b"OBJE %s @" % twice, b"OBJE %s @" % twice), "15 8 2 0"
+
+
 def neighbours():
     """P1 to P12 of 01, and the further ones."""
     s = SAMPLE_MODEL
@@ -698,6 +718,17 @@ def date_tables():
         yield "date cells of %04d" % year, one(D), t, 20, 700, days_file(good)
         for day in wrong:
             yield "date cell %08d" % day, one(D), holding(1, day), 20, 300, 19
+
+
+def identification_tables():
+    """Request 4 of 02, readings 4.1 and 4.2, in writing: near misses are unique (0), equal ones are not (19)."""
+    model = one(R_)
+    for a, b in NEAR_MISSES:
+        near = lent_of(model, frame(b"OBJE %s %s" % (a, b), b"OBJE %s @" % b))
+        yield "4.2 %s %s" % (a.decode(), b.decode()), model, near, 80, 400, 0
+        twice = near.copy()
+        twice.cells[6:8] = twice.cells[1:3]
+        yield "4.2 %s twice" % a.decode(), model, twice, 80, 400, 19
 
 
 # ---- Generated cases ------------------------------------------------------------------------------------------
@@ -1382,14 +1413,15 @@ def known():
         yield name, "check", (model,), answer + " 0 0"
     for name, file, answer in unfold_readings():
         yield name, "listing", (SAMPLE_MODEL + file,), answer
-    for source in (line_readings, object_readings, date_readings, neighbours, printed_example):
+    for source in (line_readings, object_readings, date_readings, identification_readings, neighbours,
+                   printed_example):
         for name, model, file, answer in source():
             yield name, "listing", (model + file,), answer
     for name, data, answer in listing_readings():
         yield name, "listing", (data,), answer
     for name, model, file, rooms_, answer in room_readings():
         yield name, "read", (model, file, rooms_), answer
-    for source in (write_readings, date_tables):
+    for source in (write_readings, date_tables, identification_tables):
         for name, model, lent, width, room, answer in source():
             yield name, "write", (model, lent, width, room), answer
 

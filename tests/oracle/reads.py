@@ -93,6 +93,9 @@ def all_cases():
     rng = random.Random(1945)
     for name, model, file, rooms in plain_cases():
         yield name, model, file, rooms, rng.choice(index_lengths(rooms)), rng.choice(SEEDS), rng.choice((4, 4, 4, 0, 1, 2, 3, 7))
+    for name, model, file, _ in cases.identification_readings():
+        for index in index_lengths(ENOUGH):
+            yield "%s, index %d" % (name, index), model, file, ENOUGH, index, 0, 4
     for count in (1, 2, 50, 1000):
         model, file = many_objects(count)
         rooms = just_enough(model, file)

@@ -121,6 +121,9 @@ def all_cases(others):
     rng = random.Random(1912)
     for name, model, t, width, room in [*others, *tables_written(rng), *sample_widths()]:
         yield name, model, t, width, room, rng.choice(index_lengths(t)), rng.choice(reads.SEEDS), rng.choice((4, 4, 4, 0, 1, 2, 3, 7))
+    for name, model, t, width, room, _ in cases.identification_tables():
+        for index in index_lengths(t):
+            yield "%s, index %d" % (name, index), model, t, width, room, index, 0, 4
     for count in (1, 2, 50, 1000):
         model, t = many_objects(count)
         size = o.write(model, t, 80, 1 << 20)[0][1]
