@@ -4,9 +4,9 @@ use Prim.Native.Nat.{ℕ, zero, suc, _+_, _<_, _≤_}
 use native.Mathlib.Numerals.{add-one}
 use native.Mathlib.Omega.{arith}
 use mathlib.Core.Path.{_≡_, refl, sym, ap, _∙_}
-use mathlib.Core.Bool.{Bool, true, false, _&&_, and-assoc}
+use mathlib.Core.Bool.{Bool, true, false, _&&_, and-assoc, and-true}
 use mathlib.Core.List.{List, [], _∷_}
-use lib.ListN.{length, getD, drop, drop-of-length-le}
+use lib.ListN.{length, getD, take, drop, drop-of-length-le}
 use lib.Seq.{drop-cons}
 use lib.Dec.{eqb}
 use borrow.Author.Tests.{eq-eqb, ne-eqb}
@@ -61,6 +61,19 @@ module _ (a b : List ℕ) (i : ℕ) where
   pub same-hit : i < length a → i < length b → getD a i 0 ≡ getD b i 0 → same (drop i a) (drop i b) ≡ same (drop (i + 1) a) (drop (i + 1) b)
   unfolding same
   same-hit h g e = rw (drop-next a i h, drop-next b i g, eq-eqb _ _ e)
+
+-- from the back: the last of the first i bytes, behind those before it
+pub same-last : (a b : List ℕ) (i k : ℕ) → i ≡ suc k → k < length a → k < length b
+    → same (take i a) (take i b) ≡ (same (take k a) (take k b) && eqb (getD a k 0) (getD b k 0))
+unfolding same
+same-last a b zero k e h g = absurd (omega arith)
+same-last [] b (suc i) k e h g = absurd (omega arith)
+same-last (x ∷ a) [] (suc i) k e h g = absurd (omega arith)
+same-last (x ∷ a) (y ∷ b) (suc zero) zero e h g = and-true (eqb x y)
+same-last (x ∷ a) (y ∷ b) (suc (suc i)) zero e h g = absurd (omega arith)
+same-last (x ∷ a) (y ∷ b) (suc i) (suc k) e h g =
+    ap (λ (t : Bool). eqb x y && t) (same-last a b i k (omega arith) (omega arith) (omega arith))
+    ∙ sym (and-assoc (eqb x y) _ _)
 
 -- ## A word that l begins with
 

@@ -36,11 +36,22 @@ pub fn is_identification(field: &[u8]) -> bool
     text::kinds::every_text_byte(field)
 }
 
-// "Equal means equal bytes": every comparison of identifications goes through here.
+// "Equal means equal bytes": every comparison of identifications goes through here. Lengths first, then bytes from the
+// last to the first, since identifications with one long prefix differ mostly in their last bytes.
 pub fn same_identification(a: &[u8], b: &[u8]) -> bool
     ensures { λ r. ⌜ r ≡ sameIdentification (now (a .entry)) (now (b .entry)) ⌝ }
 {
-    text::compare::same_bytes(a, b)
+    if a.len() != b.len() {
+        return false;
+    }
+    let mut i = a.len();
+    while 0 < i {
+        i -= 1;
+        if a[i] != b[i] {
+            return false;
+        }
+    }
+    true
 }
 
 // A reference's stretch: the object's number comes when all lines are read.
