@@ -48,6 +48,16 @@ pub fn ring() -> Vec<u8> {
     m
 }
 
+// Small objects, some of which refer to another.
+pub fn spokes() -> Vec<u8> {
+    let mut m = Vec::new();
+    begin(&mut m);
+    record(4, b"\0Node", &mut m);
+    record(5, b"\x01\x01\x00\x00Hub", &mut m);
+    record(6, b"", &mut m);
+    m
+}
+
 // ## Files
 
 const HEAD: &[u8] = b"SCNT\nwritten for the bench\n////\nMTID Network\nMODL Water\nTOPI Pipes\nTABL Node\n";
@@ -90,6 +100,17 @@ pub fn ring_file(n: usize, name: impl Fn(usize) -> String) -> Vec<u8> {
     let mut f = HEAD.to_vec();
     for i in 0..n {
         f.extend(format!("OBJE {} {}\n", name(i), name((i + 1) % n)).as_bytes());
+    }
+    f.extend(b"ETAB\nETOP\nEMOD\nENDE\n");
+    f
+}
+
+// So many objects, numbered behind a prefix; every second one refers to another, far from the one before.
+pub fn spokes_file(n: usize, prefix: &str) -> Vec<u8> {
+    let mut f = HEAD.to_vec();
+    for i in 0..n {
+        let hub = if i % 2 == 0 { "@".to_string() } else { format!("{prefix}{:06}", i * 31 % n) };
+        f.extend(format!("OBJE {prefix}{i:06} {hub}\n").as_bytes());
     }
     f.extend(b"ETAB\nETOP\nEMOD\nENDE\n");
     f

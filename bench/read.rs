@@ -7,7 +7,7 @@ mod calls;
 #[path = "network.rs"]
 mod network;
 use calls::vendorfinch_read;
-use network::{network, network_file, ring, ring_file};
+use network::{network, network_file, ring, ring_file, spokes, spokes_file};
 
 // What a call lends.
 struct Rooms {
@@ -220,6 +220,27 @@ fn compare(name: &str, objects: usize, step: usize, turns: usize) -> f64 {
     ours
 }
 
+// The least time of so many turns, in nanoseconds for each byte, of objects numbered behind a prefix, with so many words of index for each.
+fn numbered(objects: usize, prefix: &str, words: usize, turns: usize) -> f64 {
+    let (model, file) = (spokes(), spokes_file(objects, prefix));
+    let mut rooms = Rooms::new(file.len(), objects, 5 * objects, 0);
+    rooms.index.truncate(words * objects);
+    let mut least = f64::MAX;
+    for _ in 0..turns {
+        let (t, answer) = milliseconds(|| proved(&model, &file, 20261115, &mut rooms));
+        assert_eq!(answer, [0, objects as u64, 5 * objects as u64, 0]);
+        least = least.min(t);
+    }
+    println!("  prefix of {} bytes: {} bytes, {least:.1} ms", prefix.len(), file.len());
+    least * 1e6 / file.len() as f64
+}
+
+// A prefix of 40 bytes against none.
+fn compare_prefix(objects: usize, words: usize, turns: usize) {
+    let (long, short) = (numbered(objects, &"D".repeat(40), words, turns), numbered(objects, "", words, turns));
+    println!("  {long:.2} ns a byte against {short:.2}, ratio {:.2}", long / short);
+}
+
 fn main() {
     for (which, step) in [("a pipe refers to the node where its line begins", 1), ("references scattered", 31)] {
         println!("{which}:");
@@ -228,6 +249,10 @@ fn main() {
         let sixteen = compare("16 MiB", 103_600, step, 10);
         println!("growth from 1 to 4 MiB {:.1}, to 16 MiB {:.1}", four / one, sixteen / one);
     }
+    println!("200,000 numbered objects:");
+    compare_prefix(200_000, 3, 10);
+    println!("4,000 numbered objects, no index:");
+    compare_prefix(4_000, 0, 5);
     let (model, file) = (ring(), ring_file(700_000, |i| format!("{i:x}")));
     let mut rooms = Rooms::new(file.len(), 700_000, 3_500_000, 0);
     let (t, answer) = milliseconds(|| proved(&model, &file, 20261115, &mut rooms));
