@@ -38,24 +38,24 @@ pub fn network() -> Vec<u8> {
     m
 }
 
-// Small objects that refer to each other.
-pub fn ring() -> Vec<u8> {
+// One table, whose objects have a reference alone.
+fn small(reference: &[u8]) -> Vec<u8> {
     let mut m = Vec::new();
     begin(&mut m);
     record(4, b"\0Node", &mut m);
-    record(5, b"\0\x01\x00\x00Next", &mut m);
+    record(5, reference, &mut m);
     record(6, b"", &mut m);
     m
 }
 
+// Small objects that refer to each other.
+pub fn ring() -> Vec<u8> {
+    small(b"\0\x01\x00\x00Next")
+}
+
 // Small objects, some of which refer to another.
 pub fn spokes() -> Vec<u8> {
-    let mut m = Vec::new();
-    begin(&mut m);
-    record(4, b"\0Node", &mut m);
-    record(5, b"\x01\x01\x00\x00Hub", &mut m);
-    record(6, b"", &mut m);
-    m
+    small(b"\x01\x01\x00\x00Hub")
 }
 
 // ## Files

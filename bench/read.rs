@@ -220,7 +220,8 @@ fn compare(name: &str, objects: usize, step: usize, turns: usize) -> f64 {
     ours
 }
 
-// The least time of so many turns, in nanoseconds for each byte, of objects numbered behind a prefix, with so many words of index for each.
+// Objects numbered behind a prefix, with so many words of index for each: the least time of so many turns, in
+// nanoseconds for each byte.
 fn numbered(objects: usize, prefix: &str, words: usize, turns: usize) -> f64 {
     let (model, file) = (spokes(), spokes_file(objects, prefix));
     let mut rooms = Rooms::new(file.len(), objects, 5 * objects, 0);
