@@ -412,8 +412,8 @@ def identification_readings():
         yield name, model, frame(b"OBJE %s %s" % (a, b), b"OBJE %s %s" % (b, a)), answer
         yield name + ", the second missing", model, frame(b"OBJE %s %s" % (a, b)), "17 0 3 0"
         yield name + ", the first missing", model, frame(b"OBJE %s %s" % (b, a)), "17 0 3 0"
-        for twice in (a, b):
-            yield name + ", twice", model, frame(b"OBJE %s @" % twice, b"OBJE %s @" % twice), "15 8 2 0"
+        for which, line in (("first", b"OBJE %s @" % a), ("second", b"OBJE %s @" % b)):
+            yield "%s, the %s twice" % (name, which), model, frame(line, line), "15 8 2 0"
 
 
 def neighbours():
