@@ -11,7 +11,7 @@ fn list_file(model: &[u8], file: &[u8]) {
     let mut cells = [0i64; 8192];
     let mut points = [0i64; 8192];
     let mut index = [0u64; 4096];
-    let answer = reader::read(
+    let answer = read::read(
         model,
         file,
         &mut text,
@@ -31,7 +31,7 @@ fn list(input: &[u8]) {
         shown::show_answer(1, 0, 0, 0);
         return;
     }
-    let size = listed::parts::model_size(input);
+    let size = listing_lines::parts::model_size(input);
     list_file(&input[..size], &input[size..]);
 }
 

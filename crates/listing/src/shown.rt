@@ -3,8 +3,8 @@ ghost use mathlib.Core.Path.{_≡_};
 ghost use Prim.Native.Nat.{_*_, _<_};
 ghost use lib.ListN.{length};
 use crate::rooms;
-use listed::rows;
-use reading::Answer;
+use listing_lines::rows;
+use read_text::Answer;
 
 fn print_number(n: usize, behind: &[u8]) {
     io::print_decimal(1, n as u64);

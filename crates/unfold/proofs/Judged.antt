@@ -10,8 +10,8 @@ use lib.Seq.{take-take}
 use lib.Dec.{eqb}
 use borrow.Author.Tests.{eq-eqb, ne-eqb, not-false}
 use Rattle.meaning.specs.Unfold.{permitted, every, ends, cont, prefix, Physical, tail, physical, none, put, refuse, dropIf, withoutLastIf, next, unfoldLines}
-use Rattle.meaning.proofs.Cuts.{Spelled, s-tail, s-line, spelled, both}
-use Rattle.text.proofs.Fill.{to-end}
+use Rattle.meaning.proofs.Unfolding.Cuts.{Spelled, s-tail, s-line, spelled, both}
+use Rattle.base.proofs.Fill.{to-end}
 use Rattle.unfold.specs.First.{Shortened, LineOf}
 use Rattle.unfold.specs.Step.{skip, Parted, Refused}
 

@@ -9,7 +9,7 @@ use mathlib.Core.List.{List, [], _∷_, _++_}
 use lib.ListN.{length, getD, take, drop, length-drop, drop-of-length-le}
 use lib.Seq.{drop-drop}
 use Rattle.meaning.specs.Bytes.{choose, every}
-use Rattle.text.proofs.Scan.{drop-next}
+use Rattle.base.proofs.Scan.{drop-next}
 use Rattle.unfold.specs.First.{leading}
 
 module _ (kind : ℕ → Bool) where

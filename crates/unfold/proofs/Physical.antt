@@ -13,7 +13,7 @@ use borrow.Author.Tests.{eq-eqb, ne-eqb, eqb-true}
 use Rattle.meaning.specs.Bytes.{choose}
 use Rattle.meaning.specs.Unfold.{permitted, every, begins, ends, withoutLast, Physical, tail, line, add, byte, physical, withoutLastIf}
 use Rattle.meaning.specs.Cut.{End, lf, crlf}
-use Rattle.meaning.proofs.Cuts.{Spelled, s-tail, s-line, spelled, phys-line}
+use Rattle.meaning.proofs.Unfolding.Cuts.{Spelled, s-tail, s-line, spelled, phys-line}
 use Rattle.unfold.specs.First.{leading, noLf, endLen, Shortened, LineOf}
 use Rattle.unfold.proofs.Leading.{leading-within, leading-every, leading-append}
 

@@ -11,7 +11,7 @@ ghost use Rattle.meaning.specs.Answer.{textUnfolded};
 ghost use Rattle.unfold.specs.Answer.{answerOf, Within};
 ghost use Rattle.unfold.specs.Turn.{Put, Finished, Ready, Turned};
 use crate::steps::Step;
-use text::rooms;
+use base::rooms;
 
 // What unfolding answers: the text's length; the number of a fault and its logical line; no room for the text.
 pub enum Answer {

@@ -4,8 +4,8 @@ ghost use Prim.Native.Nat.{_+_, _≤_};
 ghost use lib.ListN.{length, drop};
 ghost use Rattle.meaning.specs.Unfold.{permitted};
 ghost use Rattle.unfold.specs.First.{leading, noLf, endLen, Shortened, FirstOf};
-use text::compare;
-use text::kinds;
+use base::compare;
+use base::kinds;
 
 // The first physical line: none is left; one with no LF; one with its content's length, and the next one's start, where each
 // byte of the content is permitted, and where one is not.

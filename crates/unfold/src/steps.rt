@@ -7,8 +7,8 @@ ghost use Rattle.unfold.specs.First.{LineOf};
 ghost use Rattle.unfold.specs.Step.{skip, Stepped};
 use crate::lines;
 use crate::lines::First;
-use text::compare;
-use text::tests;
+use base::bools;
+use base::compare;
 
 // What a step finds: no line left; the number of a fault; a part of a line that is continued, or that ends one. A part is
 // len bytes from start, and the next physical line begins at after.
@@ -53,7 +53,7 @@ fn judge(f: &[u8], len: usize, after: usize, fine: bool, mark: u8, continues: bo
 {
     let l = &f[..len];
     let continued = compare::ends_in(l, mark);
-    if tests::both(continued, after == f.len()) {
+    if bools::both(continued, after == f.len()) {
         return Step::Bad(3);
     }
     if unled(l, continues) {

@@ -4,7 +4,7 @@ use cases::escapes;
 use cases::parts;
 use cases::prepared;
 use cases::show;
-use model::check::Checked;
+use model_check::check::Checked;
 
 fn print_answer(number: usize, first: usize) {
     show::print_number(number);
@@ -15,7 +15,7 @@ fn print_answer(number: usize, first: usize) {
 }
 
 fn check(model: &[u8]) {
-    let answer = model::check::check(model);
+    let answer = model_check::check::check(model);
     match answer {
         Checked::Good(topics) => print_answer(0, topics),
         Checked::Bad(at) => print_answer(2, at),

@@ -14,7 +14,7 @@ fn show(
     points: &mut [i64],
     index: &mut [u64],
 ) {
-    let answer = reader::read(model, file, text, marks, rows, cells, points, index, seed);
+    let answer = read::read(model, file, text, marks, rows, cells, points, index, seed);
     shown::print_read(answer, text, marks, rows, cells, points, index);
 }
 

@@ -4,7 +4,7 @@ use cases::show::print_words;
 use cases::table::print_behind;
 use cases::table::print_left;
 use cases::table::print_text;
-use reading::Answer;
+use read_text::Answer;
 
 // A cell, with a sign below zero.
 fn print_cell(v: i64) {
@@ -13,7 +13,7 @@ fn print_cell(v: i64) {
     } else {
         io::write_all(1, b" ");
     }
-    io::print_decimal(1, value_written::magnitude(v));
+    io::print_decimal(1, value_write::magnitude(v));
 }
 
 // The first n cells.

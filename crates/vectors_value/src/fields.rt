@@ -1,8 +1,8 @@
 // The fields of a line.
+use base::fields::Next;
 use cases::escapes;
 use cases::parts;
 use cases::show;
-use text::fields::Next;
 
 fn print_stretch(from: usize, len: usize) {
     io::print_decimal(1, from as u64);
@@ -15,7 +15,7 @@ fn print_stretch(from: usize, len: usize) {
 fn print_fields(line: &[u8]) {
     let mut at = 0;
     while at < line.len() {
-        let Next::Field { start, len } = text::fields::next_field(&line[at..]) else {
+        let Next::Field { start, len } = base::fields::next_field(&line[at..]) else {
             return;
         };
         let from = at + start;

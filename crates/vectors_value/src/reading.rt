@@ -6,8 +6,8 @@ ghost use lib.ListN.{length};
 use cases::numbers;
 use cases::parts;
 use cases::show;
-use component::Component;
-use value::Value;
+use model_records::Component;
+use value_read::Value;
 
 fn print_pair(a: i64, b: i64) {
     show::write_byte(b' ');
@@ -42,13 +42,16 @@ fn value_of(code: u8, how: &[u8], field: &[u8]) -> Value
     requires { ⌜ length (now field) < 1000 ⌝ }
 {
     match code {
-        b'N' => value::numbers::read_number(field, component_of(how)),
-        b'E' => value::dates::read_enumeration(field, numbers::number(how)),
-        b'R' => value::stretches::read_reference(field, numbers::number_to(how, 1000) as usize),
+        b'N' => value_read::numbers::read_number(field, component_of(how)),
+        b'E' => value_read::dates::read_enumeration(field, numbers::number(how)),
+        b'R' => value_read::stretches::read_reference(
+            field,
+            numbers::number_to(how, 1000) as usize,
+        ),
         _ => {
             let start = numbers::number_to(parts::before(how, b' '), 1000);
             let longest = numbers::number(parts::past(how, b' '));
-            value::stretches::read_text(field, start as usize, longest as usize)
+            value_read::stretches::read_text(field, start as usize, longest as usize)
         }
     }
 }
@@ -65,5 +68,5 @@ pub fn read(code: u8, how: &[u8], field: &[u8]) {
 
 pub fn read_date(field: &[u8]) {
     show::print_name(field);
-    print_value(value::dates::read_date(field));
+    print_value(value_read::dates::read_date(field));
 }

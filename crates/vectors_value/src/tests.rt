@@ -2,7 +2,7 @@
 ghost use Prim.Native.Nat.{_≤_};
 use cases::parts;
 use cases::show;
-use value::Value;
+use value_read::Value;
 
 fn print_test(t: bool) {
     if t {
@@ -16,7 +16,7 @@ pub fn run_same(a: &[u8], b: &[u8]) {
     io::write_all(1, a);
     show::write_byte(b' ');
     show::print_name(b);
-    print_test(value::stretches::same_identification(a, b));
+    print_test(value_read::stretches::same_identification(a, b));
 }
 
 // Undefined once, and twice.
@@ -26,9 +26,9 @@ pub fn run_undefined(how: &[u8], field: &[u8]) {
     }
     let undefined = parts::code_of(how);
     show::print_name(field);
-    print_test(value::stretches::is_undefined(undefined, field));
+    print_test(value_read::stretches::is_undefined(undefined, field));
     show::print_name(field);
-    print_test(value::stretches::is_undefined_twice(undefined, field));
+    print_test(value_read::stretches::is_undefined_twice(undefined, field));
 }
 
 // 1 where a text of so many bytes at most may be this byte.
@@ -36,7 +36,7 @@ fn takes_byte(i: u64, longest: u64) -> u64
     ensures { λ r. ⌜ r ≤ 1 ⌝ }
 {
     let one = [(i % 256) as u8];
-    let v = value::stretches::read_text(&one, 0, longest as usize);
+    let v = value_read::stretches::read_text(&one, 0, longest as usize);
     match v {
         Value::Pair(_, _) => 1,
         Value::Wrong(_) => 0,

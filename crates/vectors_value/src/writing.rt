@@ -7,14 +7,14 @@ use cases::show;
 pub fn write_number(how: &[u8], what: &[u8]) {
     let mut room = [0u8; 21];
     let decimals = numbers::number_to(how, 9) as u8;
-    let n = value_written::put_number(signs::signed_number(what), decimals, &mut room);
+    let n = value_write::put_number(signs::signed_number(what), decimals, &mut room);
     show::print_front(&room, n);
     show::write_byte(b'\n');
 }
 
 pub fn write_date(what: &[u8]) {
     let mut room = [0u8; 21];
-    let n = value_written::put_date(signs::signed_number(what), &mut room);
+    let n = value_write::put_date(signs::signed_number(what), &mut room);
     show::print_front(&room, n);
     show::write_byte(b'\n');
 }
@@ -22,7 +22,7 @@ pub fn write_date(what: &[u8]) {
 // A leaf; and any cell.
 pub fn print_cell(v: i64) {
     let mut room = [0u8; 21];
-    let n = value_written::put_enumeration(v, &mut room);
+    let n = value_write::put_enumeration(v, &mut room);
     show::print_front(&room, n);
 }
 

@@ -51,8 +51,8 @@ fn write_table(
     cells: &[i64],
     out: &mut [u8],
     index: &mut [u64],
-) -> writer::Answer {
-    writer::write(
+) -> write::Answer {
+    write::write(
         model,
         text,
         marks,

@@ -19,14 +19,14 @@ fn print_bytes(wanted: u64, out: &[u8], n: usize) {
 }
 
 // The answer, and what the rooms hold.
-pub fn print_written(answer: writer::Answer, wanted: u64, out: &[u8], index: &[u64]) {
+pub fn print_written(answer: write::Answer, wanted: u64, out: &[u8], index: &[u64]) {
     match answer {
-        writer::Answer::Written(n) => {
+        write::Answer::Written(n) => {
             show::print_answer(0, n, 0, 0);
             print_rooms(out, index);
             print_bytes(wanted, out, n);
         }
-        writer::Answer::Refused(number, at) => {
+        write::Answer::Refused(number, at) => {
             show::print_answer(number as usize, at, 0, 0);
             print_rooms(out, index);
         }

@@ -1,6 +1,6 @@
 -- `unfold::finish` meets its contract. Assumes nothing.
 use mathlib.Core.Path.{refl}
-use Rattle.text.proofs.Fill.{cleared}
+use Rattle.base.proofs.Fill.{cleared}
 use borrow.Author.Needs.{needs}
 use native.Mathlib.Omega.{arith}
 use denote.Ref.{now}

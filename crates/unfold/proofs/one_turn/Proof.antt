@@ -5,7 +5,7 @@ use mathlib.Core.Bool.{true, false}
 use mathlib.Core.List.{List}
 use lib.ListN.{drop}
 use Rattle.meaning.specs.Unfold.{next}
-use Rattle.text.proofs.Fill.{to-end}
+use Rattle.base.proofs.Fill.{to-end}
 use Rattle.unfold.specs.Step.{Stepped, Parted}
 use Rattle.unfold.proofs.Flat.{ended, part-is, Fitting, fitting}
 use Rattle.unfold.proofs.Kept.{put-both, goes-on, done, refused}

@@ -1,6 +1,6 @@
 -- `unfold::put_line_end` meets its contract. Assumes nothing.
 use mathlib.Core.Path.{refl}
-use Rattle.text.proofs.Fill.{stored}
+use Rattle.base.proofs.Fill.{stored}
 use borrow.Author.Needs.{needs}
 use native.Mathlib.Omega.{arith}
 use denote.Ref.{now}

@@ -1,5 +1,5 @@
 -- `cases::numbers::cell_of` meets its contract: what is left up to 2^64 - 1 is below 2^63. Assumes nothing.
-use Rattle.decode.proofs.Twos.{below-fits}
+use Rattle.model_records.proofs.Twos.{below-fits}
 use Prim.Native.Nat.{_-_}
 use native.Mathlib.Omega.{arith}
 use borrow.Author.Needs.{needs}

@@ -4,7 +4,7 @@ use mathlib.Core.Path.{_≡_, sym, ap, _∙_}
 use mathlib.Core.Bool.{true}
 use lib.ListN.{take, drop}
 use Rattle.meaning.specs.Unfold.{permitted, every}
-use Rattle.text.proofs.Fill.{to-end}
+use Rattle.base.proofs.Fill.{to-end}
 use Rattle.unfold.specs.First.{endLen, LineOf}
 use Rattle.unfold.proofs.Leading.{leading-within}
 use Rattle.unfold.proofs.Physical.{line-permitted}

@@ -5,8 +5,8 @@ use mathlib.Core.List.{List}
 use native.Mathlib.Omega.{arith}
 use borrow.Author.Needs.{needs}
 use lib.ListN.{length, length-drop}
-use Rattle.text.specs.Fields.{NextField}
-use Rattle.text.proofs.Fill.{to-end}
+use Rattle.base.specs.Fields.{NextField}
+use Rattle.base.proofs.Fill.{to-end}
 use Rattle.vectors_value.proofs.fields.print_fields.Statement.{statement}
 use Rattle.vectors_value.proofs.fields.print_fields.Tie as tie
 

@@ -1,4 +1,0 @@
-pub mod Records
-pub mod Held
-pub mod Meant
-pub mod Standing

@@ -1,1 +1,0 @@
-// What reading holds between two lines: definitions, no code. See specs/.

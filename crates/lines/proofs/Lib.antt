@@ -1,3 +1,0 @@
-pub mod Next
-pub mod Ways
-pub mod PointLaws

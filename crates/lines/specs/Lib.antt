@@ -1,4 +1,0 @@
-pub mod Cells
-pub mod Codes
-pub mod Ways
-pub mod Points

@@ -1,0 +1,11 @@
+pub mod Valid
+pub mod EqualTables
+pub mod Unwritable
+pub mod Cells
+pub mod Points
+pub mod Pairs
+pub mod Rows
+pub mod Marks
+pub mod Tables
+pub mod TablesBack
+pub mod Exactly

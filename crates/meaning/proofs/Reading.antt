@@ -1,0 +1,12 @@
+pub mod Rooms
+pub mod Fields
+pub mod Buffers
+pub mod Stretches
+pub mod FieldsRead
+pub mod PointsRead
+pub mod References
+pub mod RowsRead
+pub mod StepsRead
+pub mod TablesRead
+pub mod LinesRead
+pub mod Claims

@@ -1,0 +1,78 @@
+-- The claims of specs/Claims.antt. Assumes nothing.
+use mathlib.Core.Path.{_≡_, refl, sym, _∙_, subst}
+use lib.ListN.{length}
+use borrow.Author.Tests.{le-ltb}
+use Rattle.meaning.specs.Bytes.{refuse}
+use Rattle.meaning.specs.Unfold.{lines, fault, Unfolded, unfoldFile}
+use Rattle.meaning.specs.Check.{bad, good, Checked, checkModel}
+use Rattle.meaning.specs.Answer.{Answer, textChecked, unfoldText}
+use Rattle.meaning.specs.Table.{read, readUnfolded, readChecked}
+use Rattle.meaning.specs.Claims.{CutUnfolds, UnfoldsCut, OnlyCut, OneCut, CheckedGood, GoodMark, CutReadsAsLines, CutUnfoldsToText, BadModelReads, CutUnder, CutsReadAlike, RefusalZeroes, BuffersKept, CountsSayWhatIsUsed, UnfoldingRefusalZeroes, UnfoldingKeepsRoom, WidthCuts}
+use Rattle.meaning.proofs.Unfolding.TextLeft as text-left
+use Rattle.meaning.proofs.Unfolding.Cuts as cuts
+use Rattle.meaning.proofs.Model.Marks as marks
+use Rattle.meaning.proofs.Model.GoodModels as models
+use Rattle.meaning.proofs.Unfolding.Widths as widths
+use Rattle.meaning.proofs.Reading.Buffers as buffers
+
+pub cut-unfolds : CutUnfolds
+cut-unfolds m mark ls f c = cuts.cut-unfolds m mark c
+
+pub unfolds-cut : UnfoldsCut
+unfolds-cut m mark ls f e = cuts.unfolds-cut m mark ls f e
+
+pub one-cut : OneCut
+one-cut m mark f fine = go (unfoldFile m f) refl
+  where
+    go : (u : Unfolded) → unfoldFile m f ≡ u → OnlyCut m f
+    go (fault k n) e = absurd (fine k n e)
+    go (lines ls) e = record {
+      of = ls;
+      cut = cuts.unfolds-cut m mark ls f e .0;
+      only = λ ks c. cuts.cut-unique m mark c (cuts.unfolds-cut m mark ls f e .0);
+    }
+
+pub checked-good : CheckedGood
+checked-good model m h = models.checked-good model m h
+
+pub good-mark : GoodMark
+good-mark model m h = marks.good-mark model m h
+
+pub cut-reads-as-lines : CutReadsAsLines
+unfolding read refuse readChecked readUnfolded
+cut-reads-as-lines model m ls f rooms e short cut =
+    rw (le-ltb 16777216 (length f) short, e, cuts.cut-unfolds (m .mark) (marks.good-mark model m e) cut)
+
+pub cut-unfolds-to-text : CutUnfoldsToText
+unfolding unfoldText refuse textChecked
+cut-unfolds-to-text model m ls f room e short cut =
+    rw (le-ltb 16777216 (length f) short, e, cuts.cut-unfolds (m .mark) (marks.good-mark model m e) cut)
+
+pub bad-model-reads : BadModelReads
+unfolding read refuse readChecked
+bad-model-reads model at f rooms e short = rw (le-ltb 16777216 (length f) short, e)
+
+pub cuts-read-alike : CutsReadAlike
+cuts-read-alike model ls f g rooms short-f short-g = go (checkModel model) refl
+  where
+    go : (c : Checked) → checkModel model ≡ c → CutUnder c ls f → CutUnder c ls g → read model f rooms ≡ read model g rooms
+    go (good m) e cut-f cut-g = cut-reads-as-lines model m ls f rooms e short-f cut-f ∙ sym (cut-reads-as-lines model m ls g rooms e short-g cut-g)
+    go (bad at) e cut-f cut-g = bad-model-reads model at f rooms e short-f ∙ sym (bad-model-reads model at g rooms e short-g)
+
+pub refusal-zeroes : RefusalZeroes
+refusal-zeroes model file rooms number first second e = subst (λ (a : Answer). buffers.Leaves rooms (read model file rooms) a) e (buffers.read-leaves model file rooms .leaves)
+
+pub buffers-kept : BuffersKept
+buffers-kept model file rooms = buffers.read-leaves model file rooms .kept
+
+pub counts-say-what-is-used : CountsSayWhatIsUsed
+counts-say-what-is-used model file rooms objects count points e = subst (λ (a : Answer). buffers.Leaves rooms (read model file rooms) a) e (buffers.read-leaves model file rooms .leaves)
+
+pub width-cuts : WidthCuts
+width-cuts mark width ls h = widths.width-cuts mark width ls h
+
+pub unfolding-refusal-zeroes : UnfoldingRefusalZeroes
+unfolding-refusal-zeroes model file room = text-left.unfolding-left model file room .zeroes
+
+pub unfolding-keeps-room : UnfoldingKeepsRoom
+unfolding-keeps-room model file room = text-left.unfolding-left model file room .keeps

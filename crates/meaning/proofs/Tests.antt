@@ -1,0 +1,3 @@
+pub mod Refuse
+pub mod Unequal
+pub mod Same

@@ -1,0 +1,3 @@
+pub mod Cuts
+mod Widths
+pub mod TextLeft

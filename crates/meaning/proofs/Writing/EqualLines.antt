@@ -1,0 +1,145 @@
+-- Tables that compare equal have the same lines. Assumes nothing.
+use Prim.Native.Nat.{ℕ, suc, _+_, _*_, _-_, _/_, min}
+use native.Mathlib.Omega.{arith}
+use mathlib.Core.Path.{_≡_, refl, sym, ap, ap₂, subst, _∙_}
+use mathlib.Core.Bool.{Bool, true, false, not, _&&_}
+use mathlib.Core.List.{List, [], _∷_, _++_}
+use lib.Dec.{eqb}
+use lib.IntN.{ℤ, pos, natAbs}
+use lib.ListN.{length, drop, getD, replicate, length-drop}
+use lib.Seq.{drop-drop, getD-drop}
+use borrow.Author.Tests.{ne-eqb}
+use Rattle.meaning.specs.Bytes.{choose}
+use Rattle.meaning.specs.Model.{Component, AttributeType, Reference, Text, Model, tableAt, found, missing, targetOf}
+use Rattle.meaning.specs.Field.{SCNT, slashes, MTID, MODL, TOPI, TABL, OBJE, ELIN, ETAB, ETOP}
+use Rattle.meaning.specs.Row.{Pair, OfAttribute, OfComponent, OfLine, pairsOf}
+use Rattle.meaning.specs.Reading.{Content, cellAt, lineAttributes, pointCount}
+use Rattle.meaning.specs.Digits.{numberBytes}
+use Rattle.meaning.specs.Table.{findObject}
+use Rattle.meaning.specs.Writing.{stretchBytes, identificationBytes, typeBytes, fieldBytes, pairFields, attributeLines, pointLines, objectLines, topicLines, fieldLines, linesBytes, linesOf}
+use Rattle.meaning.specs.Readback.{isText, hasStart, pairsWithoutStarts, pairTexts}
+use Rattle.meaning.proofs.Judge.Valid.{RowOk, done, absent, plain, word, name, without, along, noLine, line, lentObjects, ObjectOk, Place, topicsFrom, tablesFrom, objects, Rest, finished, topicOut, topicIn, topicEnd, tableOut, tableIn, object, tableEnd, Valid}
+use Rattle.meaning.proofs.Reading.RowsRead.{found-at}
+use Rattle.meaning.proofs.Writing.Tables.{linesAt, last-lines, topic-out-lines, topic-in-lines, topic-end-lines, table-out-lines, table-in-lines, object-lines, table-end-lines}
+use Rattle.meaning.proofs.Judge.EqualTables.{pair-alike, start-zero, start-plain, start-word, reference-start, kept, taken, plain-bytes, pairsAt, RowAlike, AllAlike, rows-alike, of-table, behind-table, behind-topic, TablesAlike, all-objects, cons-inv}
+
+-- ## The fields of a row
+
+module _ (text : List ℕ) (c : Content) (text′ : List ℕ) (c′ : Content) (same-points : c .points ≡ c′ .points)
+    (same-objects : lentObjects text (c .cells) (c .rows) ≡ lentObjects text′ (c′ .cells) (c′ .rows)) where
+  -- a field, where the first cell is the same
+  field : (u : ℕ) (a : ℤ) (f f′ : List ℕ) (fs fs′ : List (List ℕ)) → f ≡ f′ → fs ≡ fs′ → fieldBytes u a f ∷ fs ≡ fieldBytes u a f′ ∷ fs′
+  field u a f f′ fs fs′ e r = rw (e, r)
+
+  pub fields-alike : {u : ℕ} {before : Bool} {k k′ : ℕ} {ps : List Pair} {xs : List ℤ} → RowOk u text c before k ps xs k′ → (ys : List ℤ) → length ys ≡ length xs
+      → pairsWithoutStarts ps xs ≡ pairsWithoutStarts ps ys → pairTexts text ps xs ≡ pairTexts text′ ps ys → pairFields u text c ps xs ≡ pairFields u text′ c′ ps ys
+  unfolding hasStart pairFields fieldBytes choose typeBytes
+  fields-alike done ys l e t = refl
+  fields-alike {u = u} (absent {type = type} {ps = ps} {cs = xs} r) ys l e t =
+      let q = pair-alike text text′ (OfAttribute true type) ps (pos 0) (pos 0) xs ys l e t in
+      rw (q .is) (ap (λ (fs : List (List ℕ)). (u ∷ []) ∷ fs) (fields-alike r (q .others) (q .long) (q .cells) (q .texts)))
+  fields-alike {u = u} (plain {o = o} {type = type} {ps = ps} {a = a} {b = b} {cs = xs} h g z d v r) ys l e t =
+      let q = pair-alike text text′ (OfAttribute o type) ps a b xs ys l e t in
+      rw (q .is, sym (kept _ b (q .b′) (start-plain o type a h) (q .second)))
+      (field u a _ _ _ _ (plain-bytes text c text′ c′ same-points same-objects type a b h g) (fields-alike r (q .others) (q .long) (q .cells) (q .texts)))
+  fields-alike {u = u} (word {o = o} {longest = longest} {ps = ps} {b = b} {cs = xs} f d v s st r) ys l e t =
+      let q = pair-alike text text′ (OfAttribute o (Text longest)) ps (pos (1 + length f)) b xs ys l e t in
+      rw (q .is) (field u (pos (1 + length f)) _ _ _ _ (taken _ _ _ (start-word o longest (length f)) (q .bytes)) (fields-alike r (q .others) (q .long) (q .cells) (q .texts)))
+  fields-alike {u = u} (name {o = o} {target = target} {n = n} {ps = ps} {cs = xs} f d v st g r) ys l e t =
+      let q = pair-alike text text′ (OfAttribute o (Reference target)) ps (pos 1) (pos n) xs ys l e t in
+      let g′ : findObject target 0 f (lentObjects text′ (c′ .cells) (c′ .rows)) ≡ found n = rw same-objects at g in
+      let y : n - 0 ≡ n = omega arith in
+      let at : identificationBytes text′ (c′ .cells) (getD (c′ .rows) n 0) ≡ f = rw y at (found-at text′ (c′ .cells) target 0 f (c′ .rows) n g′ .1) in
+      rw (q .is, sym (kept _ (pos n) (q .b′) (reference-start o target) (q .second)))
+      (field u (pos 1) _ _ _ _ (st ∙ sym at) (fields-alike r (q .others) (q .long) (q .cells) (q .texts)))
+  fields-alike {u = u} (without {x = x} {ps = ps} {cs = xs} r) ys l e t =
+      let q = pair-alike text text′ (OfComponent x) ps (pos 0) (pos 0) xs ys l e t in
+      rw (q .is) (ap (λ (fs : List (List ℕ)). (u ∷ []) ∷ fs) (fields-alike r (q .others) (q .long) (q .cells) (q .texts)))
+  fields-alike {u = u} (along {x = x} {ps = ps} {b = b} {cs = xs} w r) ys l e t =
+      let q = pair-alike text text′ (OfComponent x) ps (pos 1) b xs ys l e t in
+      rw (q .is, sym (kept _ b (q .b′) refl (q .second))) (field u (pos 1) _ _ _ _ refl (fields-alike r (q .others) (q .long) (q .cells) (q .texts)))
+  fields-alike (noLine {forms = forms} {ks = ks} {ps = ps} {cs = xs} r) ys l e t =
+      let q = pair-alike text text′ (OfLine true forms ks) ps (pos 0) (pos 0) xs ys l e t in
+      rw (q .is) (fields-alike r (q .others) (q .long) (q .cells) (q .texts))
+  fields-alike (line {o = o} {k = k} {forms = forms} {ks = ks} {ps = ps} {cs = xs} n room p r) ys l e t =
+      let q = pair-alike text text′ (OfLine o forms ks) ps (pos (1 + suc n)) (pos k) xs ys l e t in
+      rw (q .is) (fields-alike r (q .others) (q .long) (q .cells) (q .texts))
+
+-- ## The lines of line attributes
+
+-- the points of a line attribute whose pair is a b
+abbrev drawnBy : List Component → (a b : ℤ) (points : List ℤ) → List (List (List ℕ))
+drawnBy ks a b points = pointLines ks (min (natAbs a - 1) (length points / 4)) (drop (4 * natAbs b) points)
+
+drawn-same : (ks : List Component) (a a′ b b′ : ℤ) (points points′ : List ℤ) → a ≡ a′ → b ≡ b′ → points ≡ points′ → drawnBy ks a b points ≡ drawnBy ks a′ b′ points′
+drawn-same ks a a′ b b′ points points′ e f g = rw (e, f, g)
+
+module _ (c c′ : Content) (same-points : c .points ≡ c′ .points) where
+  pub drawn-alike : (ps : List Pair) (cell : ℕ) → pairsWithoutStarts ps (drop cell (c .cells)) ≡ pairsWithoutStarts ps (drop cell (c′ .cells))
+      → attributeLines c (lineAttributes cell ps) ≡ attributeLines c′ (lineAttributes cell ps)
+  unfolding attributeLines lineAttributes pairsWithoutStarts hasStart choose
+  drawn-alike [] cell e = refl
+  drawn-alike (OfAttribute o type ∷ ps) cell e = drawn-alike ps (cell + 2) (rw (drop-drop 2 cell (c .cells), drop-drop 2 cell (c′ .cells)) at (cons-inv _ _ _ _ (cons-inv _ _ _ _ e .1) .1))
+  drawn-alike (OfComponent x ∷ ps) cell e = drawn-alike ps (cell + 2) (rw (drop-drop 2 cell (c .cells), drop-drop 2 cell (c′ .cells)) at (cons-inv _ _ _ _ (cons-inv _ _ _ _ e .1) .1))
+  drawn-alike (OfLine o forms ks ∷ ps) cell e =
+      let a = cons-inv _ _ _ _ e in
+      let b = cons-inv _ _ _ _ (a .1) in
+      let at-first : (cs : List ℤ) → getD (drop cell cs) 0 (pos 0) ≡ getD cs cell (pos 0) = λ cs. getD-drop cell cs 0 (pos 0) ∙ ap (λ (n : ℕ). getD cs n (pos 0)) (omega arith) in
+      let first : getD (c .cells) cell (pos 0) ≡ getD (c′ .cells) cell (pos 0) = sym (at-first (c .cells)) ∙ (a .0 ∙ at-first (c′ .cells)) in
+      let second : getD (c .cells) (cell + 1) (pos 0) ≡ getD (c′ .cells) (cell + 1) (pos 0) = sym (getD-drop cell (c .cells) 1 (pos 0)) ∙ (b .0 ∙ getD-drop cell (c′ .cells) 1 (pos 0)) in
+      let others = drawn-alike ps (cell + 2) (rw (drop-drop 2 cell (c .cells), drop-drop 2 cell (c′ .cells)) at (b .1)) in
+      ap₂ (λ (l k : List (List (List ℕ))). l ++ ((ELIN ∷ []) ∷ k)) (drawn-same ks _ _ _ _ _ _ first second same-points) others
+
+-- ## The lines of a table
+
+module _ (m : Model) (text : List ℕ) (c : Content) (text′ : List ℕ) (c′ : Content) (s : TablesAlike m text c text′ c′) where
+  object-same : {t : ℕ} {before : List ℕ} {at k k′ : ℕ} → RowAlike m text (c .cells) text′ (c′ .cells) at → ObjectOk m text c t before at k k′
+      → objectLines m text c (pairsOf (tableAt (m .tables) t .attributes)) at ≡ objectLines m text′ c′ (pairsOf (tableAt (m .tables) t .attributes)) at
+  unfolding objectLines
+  object-same {t = t} {at = at} h o =
+      let ps : List Pair = pairsOf (tableAt (m .tables) t .attributes) in
+      let here : cellAt (c .cells) at ≡ t = ap natAbs (o .table) in
+      let same-t : pairsAt m text (c .cells) text′ (c′ .cells) at ≡ ps = ap (λ (n : ℕ). pairsOf (tableAt (m .tables) n .attributes)) here in
+      let pairs : pairsWithoutStarts ps (drop (at + 3) (c .cells)) ≡ pairsWithoutStarts ps (drop (at + 3) (c′ .cells)) = rw same-t at (h .pairs) in
+      let texts : pairTexts text ps (drop (at + 3) (c .cells)) ≡ pairTexts text′ ps (drop (at + 3) (c′ .cells)) = rw same-t at (h .texts) in
+      let long : length (drop (at + 3) (c′ .cells)) ≡ length (drop (at + 3) (c .cells)) =
+      length-drop (at + 3) (c′ .cells) ∙ (ap (λ (n : ℕ). n - (at + 3)) (sym (s .long)) ∙ sym (length-drop (at + 3) (c .cells))) in
+      let fields = fields-alike text c text′ c′ (s .points) (all-objects m text c text′ c′ s) (o .row) (drop (at + 3) (c′ .cells)) long pairs texts in
+      ap₂ (λ (l : List (List ℕ)) (k : List (List (List ℕ))). l ∷ k) (ap₂ (λ (i : List ℕ) (fs : List (List ℕ)). OBJE ∷ i ∷ fs) (h .identification) fields)
+      (drawn-alike c c′ (s .points) ps (at + 3) pairs)
+
+  abbrev Same : Place → List ℕ → Type 0
+  Same place rows = linesAt m text c place rows ≡ linesAt m text′ c′ place rows
+
+  rest-same : {place : Place} {marks before : List ℕ} {at k : ℕ} {rows : List ℕ} → Rest m text c place marks before at k rows → AllAlike m text (c .cells) text′ (c′ .cells) rows → Same place rows
+  rest-same (finished {from = from} {p = p} a b d e) rows-a = sym (last-lines m text c from p) ∙ last-lines m text′ c′ from p
+  rest-same (topicOut {from = from} {p = p} {name = title} {names = names} {rows = rows} e r) rows-a =
+      topic-out-lines m text c from p title names rows e ∙ (rest-same r rows-a ∙ sym (topic-out-lines m text′ c′ from p title names rows (rw (s .marks) at e)))
+  rest-same (topicIn {from = from} {p = p} {name = title} {names = names} {rows = rows} e d f r) rows-a =
+      topic-in-lines m text c from p title names rows e
+      ∙ (ap (λ (l : List (List (List ℕ))). (TOPI ∷ title ∷ []) ∷ l) (rest-same r rows-a) ∙ sym (topic-in-lines m text′ c′ from p title names rows (rw (s .marks) at e)))
+  rest-same (topicEnd {p = p} {from = from} {n = n} {names = names} {rows = rows} g e r) rows-a =
+      topic-end-lines m text c p from n names rows e
+      ∙ (ap (λ (l : List (List (List ℕ))). (ETOP ∷ []) ∷ l) (rest-same r rows-a)
+      ∙ sym (topic-end-lines m text′ c′ p from n names rows (sym (behind-topic m text (c .cells) text′ (c′ .cells) p rows rows-a) ∙ e)))
+  rest-same (tableOut {p = p} {from = from} {n = n} {table = table} {ts = ts} {names = names} {rows = rows} e r) rows-a =
+      table-out-lines m text c p from n table ts names rows e ∙ (rest-same r rows-a ∙ sym (table-out-lines m text′ c′ p from n table ts names rows (rw (s .marks) at e)))
+  rest-same (tableIn {p = p} {from = from} {n = n} {table = table} {ts = ts} {names = names} {rows = rows} e here d f g r) rows-a =
+      table-in-lines m text c p from n table ts names rows e here
+      ∙ (ap (λ (l : List (List (List ℕ))). (TABL ∷ table .name ∷ []) ∷ l) (rest-same r rows-a) ∙ sym (table-in-lines m text′ c′ p from n table ts names rows (rw (s .marks) at e) here))
+  rest-same (object {p = p} {t = t} {at = at} {ts = ts} {names = names} {rows = rows} o topic r) rows-a =
+      object-lines m text c p t ts names at rows (ap natAbs (o .table)) topic
+      ∙ (ap₂ (λ (l k : List (List (List ℕ))). l ++ k) (object-same (rows-a .0) o) (rest-same r (rows-a .1))
+      ∙ sym (object-lines m text′ c′ p t ts names at rows (ap natAbs (sym (rows-a .0 .table) ∙ o .table)) topic))
+  rest-same (tableEnd {p = p} {t = t} {ts = ts} {names = names} {rows = rows} topic none behind r) rows-a =
+      table-end-lines m text c p t ts names rows none behind
+      ∙ (ap (λ (l : List (List (List ℕ))). (ETAB ∷ []) ∷ l) (rest-same r rows-a)
+      ∙ sym (table-end-lines m text′ c′ p t ts names rows (sym (of-table m text (c .cells) text′ (c′ .cells) t rows rows-a) ∙ none) (sym (behind-table m text (c .cells) text′ (c′ .cells) t rows rows-a) ∙ behind)))
+
+  -- a table that compares equal to one that is fine has its lines
+  pub lines-same : Valid m text c → linesOf m text c ≡ linesOf m text′ c′
+  unfolding linesOf fieldLines linesAt
+  lines-same v =
+      ap (λ (ls : List (List (List ℕ))). linesBytes ((SCNT ∷ []) ∷ (slashes ∷ []) ∷ (MTID ∷ m .transfer ∷ []) ∷ (MODL ∷ m .name ∷ []) ∷ ls))
+      (rest-same v (rows-alike m text (c .cells) text′ (c′ .cells) (c .rows) (s .cells) (s .texts))
+      ∙ ap (λ (rows : List ℕ). linesAt m text′ c′ (topicsFrom 0 0 (m .topics)) rows) (s .rows))

@@ -1,0 +1,134 @@
+-- What writing leaves in its room, and the width of what is written. Assumes nothing.
+use Prim.Native.Nat.{ℕ, zero, suc, _+_, _-_, _≤_, _<_}
+use native.Mathlib.Omega.{arith}
+use mathlib.Core.Path.{_≡_, refl, sym, subst}
+use mathlib.Core.Bool.{Bool, true, false, not, _||_, false≢true}
+use mathlib.Core.List.{List, [], _∷_, _++_, append-assoc}
+use lib.Dec.{ltb, eqb, leb}
+use lib.ListN.{length, take, replicate, length-replicate}
+use lib.Seq.{drop-append-seam, take-append-seam}
+use borrow.Author.Tests.{ltb-false, lt-ltb, leb-true, le-leb, ne-eqb}
+use Rattle.meaning.specs.Bytes.{choose, permitted, every, allPermitted, cont}
+use Rattle.meaning.specs.Cut.{Mark, Permitted}
+use Rattle.meaning.specs.Model.{Model}
+use Rattle.meaning.specs.Check.{Checked, good, bad, checkModel, GoodModel}
+use Rattle.meaning.specs.Answer.{accepted, refusal}
+use Rattle.meaning.specs.Writing.{Lent, contentOf, linesOf}
+use Rattle.meaning.specs.Readback.{isTable}
+use Rattle.meaning.specs.Width.{goesWhole, cutRest, cutLine, cutLines, Written, writingRefused, writeBytes, writeChecked, write}
+use Rattle.meaning.specs.WritingClaims.{RoomUsed, fitsWidth}
+use Rattle.meaning.proofs.Tests.Refuse.{refuse-keeps, both, neither}
+use Rattle.meaning.proofs.Model.Marks.{good-mark}
+use Rattle.meaning.proofs.Tests.Unequal.{not-refused, not-accepted}
+use Rattle.meaning.proofs.Unfolding.TextLeft.{filled-length}
+use Rattle.meaning.proofs.Model.GoodModels.{checked-good}
+use Rattle.meaning.proofs.Writing.Permits.{valid-permits}
+use Rattle.meaning.proofs.Judge.Unwritable.{reads-valid, table-reads}
+use Rattle.meaning.proofs.Writing.RoundTrip.{written-as}
+
+-- ## The room of writing
+
+pub record Left (room : ℕ) (w : Written) : Type 0 where
+  pub zeroes : (number first second : ℕ) → w .answer ≡ refusal number first second → w .output ≡ replicate room 0
+  pub keeps : length (w .output) ≡ room
+  pub used : (n : ℕ) → w .answer ≡ accepted n 0 0 → RoomUsed room n (w .output)
+
+refused-left : (room number at : ℕ) → Left room (writingRefused room number at)
+refused-left room number at = record { zeroes = λ k f s h. refl; keeps = length-replicate room 0; used = λ n h. absurd (not-accepted number at 0 n 0 0 h) }
+
+bytes-left : (room : ℕ) (file : List ℕ) → Left room (writeBytes room file)
+unfolding writeBytes
+bytes-left room file = refuse-keeps (Left room) (ltb room (length file) || ltb 16777216 (length file)) _ _ (refused-left room 21 0) (λ h.
+    let fits : length file ≤ room = ltb-false room (length file) (neither _ _ h .0) in
+    record {
+      zeroes = λ k f s e. absurd (not-refused (length file) 0 0 k f s e);
+      keeps = filled-length room file fits;
+      used = λ n e. let same : length file ≡ n = cc in record { fits = rw (← same) fits; behind = rw (← same) (drop-append-seam file _) };
+    })
+
+pub writing-left : (model : List ℕ) (t : Lent) (width room : ℕ) → Left room (write model t width room)
+unfolding write writeChecked
+writing-left model t width room = go (checkModel model)
+  where
+    go : (c : Checked) → Left room (writeChecked t width room c)
+    go (bad at) = refused-left room 2 at
+    go (good m) =
+        refuse-keeps (Left room) (ltb width 16 || ltb 65535 width) _ _ (refused-left room 20 0) (λ _.
+        refuse-keeps (Left room) (not (isTable m t)) _ _ (refused-left room 19 0) (λ _.
+        bytes-left room (cutLines (m .mark) width (linesOf m (t .text) (contentOf m t)))))
+
+-- ## The width
+
+no-lf : (b : ℕ) → permitted b ≡ true → eqb b 0x0a ≡ false
+unfolding permitted
+no-lf b h = ne-eqb b 0x0a (λ e. false≢true (rw e at h))
+
+module _ (width : ℕ) where
+  -- a byte that is no LF, where the line has room for it
+  byte-fits : (b column : ℕ) (s : List ℕ) → permitted b ≡ true → column < width → fitsWidth width (column + 1) s ≡ true → fitsWidth width column (b ∷ s) ≡ true
+  unfolding fitsWidth choose
+  byte-fits b column s p h k = rw (no-lf b p, lt-ltb column width h, k)
+
+  -- so many bytes
+  bytes-fit : (l : List ℕ) (column : ℕ) (s : List ℕ) → allPermitted l ≡ true → column + length l ≤ width → fitsWidth width (column + length l) s ≡ true → fitsWidth width column (l ++ s) ≡ true
+  unfolding every
+  bytes-fit [] column s p h k = subst (λ (n : ℕ). fitsWidth width n s ≡ true) (omega arith) k
+  bytes-fit (b ∷ l) column s p h k =
+      let q = both (permitted b) _ p in
+      byte-fits b column (l ++ s) (q .0) (omega arith) (bytes-fit l (column + 1) s (q .1) (omega arith) (subst (λ (n : ℕ). fitsWidth width n s ≡ true) (omega arith) k))
+
+  -- a line's end
+  end-fits : (column : ℕ) (s : List ℕ) → fitsWidth width 0 s ≡ true → fitsWidth width column (0x0a ∷ s) ≡ true
+  unfolding fitsWidth choose
+  end-fits column s k = k
+
+  module _ (mark : ℕ) (least : 16 ≤ width) (p : permitted mark ≡ true) where
+    -- a mark, a line's end, and the continuation
+    cut-fits : (column : ℕ) (s : List ℕ) → column < width → fitsWidth width 5 s ≡ true → fitsWidth width column (mark ∷ 0x0a ∷ (cont ++ s)) ≡ true
+    unfolding every permitted
+    cut-fits column s h k = byte-fits mark column _ p h (end-fits (column + 1) _ (bytes-fit cont 0 s refl (omega arith) k))
+
+    rest-fits : (left column : ℕ) (l s : List ℕ) → column + left < width → allPermitted l ≡ true → fitsWidth width 0 s ≡ true → fitsWidth width column (cutRest mark width left l ++ s) ≡ true
+    unfolding cutRest every choose goesWhole
+    rest-fits left column [] s h q k = cut-fits column (0x0a ∷ s) (omega arith) (end-fits 5 s k)
+    rest-fits (suc left) column (b ∷ l) s h q k =
+        let r = both (permitted b) _ q in
+        byte-fits b column (cutRest mark width left l ++ s) (r .0) (omega arith) (rest-fits left (column + 1) l s (omega arith) (r .1) k)
+    rest-fits zero column (b ∷ l) s h q k = go (goesWhole mark (width - 5) (b ∷ l)) refl (rest-fits (width - 7) 6 l s (omega arith) (both (permitted b) _ q .1) k)
+      where
+        go : (t : Bool) → goesWhole mark (width - 5) (b ∷ l) ≡ t → fitsWidth width 6 (cutRest mark width (width - 7) l ++ s) ≡ true → fitsWidth width column (cutRest mark width zero (b ∷ l) ++ s) ≡ true
+        go true e others =
+            let short : length (b ∷ l) ≤ width - 5 = leb-true (length (b ∷ l)) (width - 5) (both (leb (length (b ∷ l)) (width - 5)) _ e .0) in
+            rw (e, append-assoc (b ∷ l) (0x0a ∷ []) s) (cut-fits column _ (omega arith) (bytes-fit (b ∷ l) 5 (0x0a ∷ s) q (omega arith) (end-fits _ s k)))
+        go false e others = rw e (cut-fits column _ (omega arith) (byte-fits b 5 (cutRest mark width (width - 7) l ++ s) (both (permitted b) _ q .0) (omega arith) others))
+
+    line-fits : (l s : List ℕ) → allPermitted l ≡ true → fitsWidth width 0 s ≡ true → fitsWidth width 0 (cutLine mark width l ++ s) ≡ true
+    unfolding cutLine choose goesWhole
+    line-fits l s q k = go (goesWhole mark width l) refl
+      where
+        go : (t : Bool) → goesWhole mark width l ≡ t → fitsWidth width 0 (choose t (l ++ (0x0a ∷ [])) (cutRest mark width (width - 1) l) ++ s) ≡ true
+        go true e =
+            let short : length l ≤ width = leb-true (length l) width (both (leb (length l) width) _ e .0) in
+            rw (append-assoc l (0x0a ∷ []) s) (bytes-fit l 0 (0x0a ∷ s) q (omega arith) (end-fits _ s k))
+        go false e = rest-fits (width - 1) 0 l s (omega arith) q k
+
+    lines-fit : (ls : List (List ℕ)) → Permitted ls → fitsWidth width 0 (cutLines mark width ls) ≡ true
+    unfolding cutLines fitsWidth
+    lines-fit [] q = refl
+    lines-fit (l ∷ ls) q = line-fits l (cutLines mark width ls) (q .0) (lines-fit ls (q .1))
+
+mark-permitted : (mark : ℕ) → Mark mark → permitted mark ≡ true
+unfolding permitted
+mark-permitted mark h = rw (ne-eqb mark 0x09 (λ e. omega (arith, h .low)), le-leb 0x20 mark (omega (arith, h .low)), le-leb mark 0x7e (h .high))
+
+pub written-fits : (model : List ℕ) (m : Model) (t : Lent) (width room n : ℕ) → checkModel model ≡ good m → write model t width room .answer ≡ accepted n 0 0
+    → fitsWidth width 0 (take n (write model t width room .output)) ≡ true
+written-fits model m t width room n e h =
+    let g : GoodModel m = checked-good model m e in
+    let w = written-as model m t width room n e h in
+    let ls : List (List ℕ) = linesOf m (t .text) (contentOf m t) in
+    let file : List ℕ = cutLines (m .mark) width ls in
+    let back = table-reads m t (w .table) in
+    let front : take n (write model t width room .output) ≡ file = rw (w .output, ← (w .size)) (take-append-seam file _) in
+    subst (λ (f : List ℕ). fitsWidth width 0 f ≡ true) (sym front)
+    (lines-fit width (m .mark) (w .wide) (mark-permitted (m .mark) (good-mark model m e)) ls (valid-permits m g (t .text) (contentOf m t) (reads-valid m g ls (t .text) (contentOf m t) (back .reads))))

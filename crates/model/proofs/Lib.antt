@@ -1,5 +1,0 @@
-pub mod Payloads
-pub mod Judging
-pub mod Walking
-pub mod Ending
-pub mod Found

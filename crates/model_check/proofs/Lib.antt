@@ -1,0 +1,11 @@
+pub mod Components
+pub mod Ranges
+pub mod Words
+pub mod Signs
+pub mod Transfer
+pub mod Types
+pub mod Payloads
+pub mod Judging
+pub mod Walking
+pub mod Ending
+pub mod Found

@@ -1,0 +1,5 @@
+pub mod Names
+pub mod Attributes
+pub mod Records
+pub mod References
+pub mod Walk

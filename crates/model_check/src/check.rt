@@ -1,0 +1,201 @@
+// The check of a compiled model.
+ghost use mathlib.Core.Path.{_≡_};
+ghost use Prim.Native.Nat.{_≤_};
+ghost use lib.Dec.{eqb};
+ghost use lib.ListN.{length, take};
+ghost use Rattle.meaning.specs.Answer as meaning;
+ghost use Rattle.meaning.specs.Check.{keeps, keepsTopic, keepsTable, checkRecords, nothingSeen};
+ghost use Rattle.model_check.specs.Names.{namesOf};
+ghost use Rattle.model_check.specs.Records.{nextAt};
+ghost use Rattle.model_check.specs.Walk.{seenOf, passesAt, advanced, topicsSeen, tablesSeen, Walked, checkedRecords, checkedMeant};
+use crate::attributes;
+use crate::names;
+use crate::records;
+use crate::references;
+use crate::references::Outside;
+use crate::rules;
+use base::bools;
+use model_records::numbers;
+
+// A good model with its count of topics, or the byte of the first bad record.
+pub enum Checked {
+    Good(usize),
+    Bad(usize),
+}
+
+// Where the check stands: the byte of a record, the kind of the one before it, how many topics, tables of the last topic and attributes of
+// the last table were seen, and how many tables in all.
+pub struct Walker {
+    pub at: usize,
+    pub before: u16,
+    pub topics: usize,
+    pub tables: usize,
+    pub attributes: usize,
+    pub count: usize,
+}
+
+// "3 topic: name, 1 to 24 bytes", "At most 64 topics"
+fn keeps_topic(model: &[u8], p: &[u8], seen: &[usize], count: usize) -> bool
+    requires { ⌜ count ≤ length (now seen) ⌝ }
+    ensures { λ r. ⌜ r ≡ keepsTopic (now (p .entry)) (topicsSeen (namesOf (now (model .entry)) (take count (now (seen .entry))))) ⌝ }
+{
+    names::is_free(model, p, seen, count, count, 64)
+}
+
+// "4 table: optional (0 or 1), name of 1 to 24 bytes", "512 tables"
+fn keeps_table(model: &[u8], p: &[u8], seen: &[usize], count: usize, all: usize) -> bool
+    requires { ⌜ count ≤ length (now seen) ⌝ }
+    ensures { λ r. ⌜ r ≡ keepsTable (now (p .entry)) (tablesSeen (namesOf (now (model .entry)) (take count (now (seen .entry)))) all) ⌝ }
+{
+    if p.len() == 0 {
+        return false;
+    }
+    let free = names::is_free(model, &p[1..], seen, count, all, 512);
+    bools::both(rules::is_flag(p), free)
+}
+
+// Does a record of this kind keep the rules, behind what is seen?
+fn keeps_rules(
+    model: &[u8],
+    p: &[u8],
+    kind: u16,
+    w: Walker,
+    topics: &[usize],
+    tables: &[usize],
+    attributes: &[usize],
+) -> bool
+    requires { ⌜ w .topics ≤ length (now topics) ⌝ }
+    requires { ⌜ w .tables ≤ length (now tables) ⌝ }
+    requires { ⌜ w .attributes ≤ length (now attributes) ⌝ }
+    ensures { λ r. ⌜ r ≡ keeps kind (now (p .entry)) (seenOf (now (model .entry)) w (now (topics .entry)) (now (tables .entry)) (now (attributes .entry))) ⌝ }
+{
+    match kind {
+        1 => rules::keeps_transfer(p),
+        2 => rules::is_name(p, 63),
+        3 => keeps_topic(model, p, topics, w.topics),
+        4 => keeps_table(model, p, tables, w.tables, w.count),
+        5 => attributes::keeps_attribute(model, p, attributes, w.attributes),
+        _ => p.len() == 0,
+    }
+}
+
+// Whether the record at the walker's byte fits, may stand there and keeps the rules.
+fn passes(model: &[u8], w: Walker, topics: &[usize], tables: &[usize], attributes: &[usize]) -> bool
+    requires { ⌜ w .topics ≤ length (now topics) ⌝ }
+    requires { ⌜ w .tables ≤ length (now tables) ⌝ }
+    requires { ⌜ w .attributes ≤ length (now attributes) ⌝ }
+    ensures { λ r. ⌜ r ≡ passesAt (now (model .entry)) w (now (topics .entry)) (now (tables .entry)) (now (attributes .entry)) ⌝ }
+{
+    let at = w.at;
+    if records::fits_at(model, at) {
+        let kind = records::kind_at(model, at);
+        let start = at + 4;
+        let end = records::next_at(model, at);
+        let kept = keeps_rules(
+            model,
+            &model[start..end],
+            kind,
+            w,
+            topics,
+            tables,
+            attributes,
+        );
+        bools::both(rules::may_follow(w.before, kind), kept)
+    } else {
+        false
+    }
+}
+
+// The walker behind the record at its byte.
+fn advance(model: &[u8], w: Walker) -> Walker
+    requires { ⌜ nextAt (now model) (w .at) ≤ length (now model) ⌝ }
+    requires { ⌜ w .topics ≤ 64 ⌝ }
+    requires { ⌜ w .tables ≤ 512 ⌝ }
+    requires { ⌜ w .attributes ≤ 64 ⌝ }
+    requires { ⌜ w .count ≤ 512 ⌝ }
+    ensures { λ r. ⌜ r ≡ advanced (now (model .entry)) w ⌝ }
+{
+    let mut next = w;
+    let kind = records::kind_at(model, w.at);
+    next.at = records::next_at(model, w.at);
+    next.before = kind;
+    match kind {
+        3 => {
+            next.topics = w.topics + 1;
+            next.tables = 0;
+            next.attributes = 0;
+            next
+        }
+        4 => {
+            next.tables = w.tables + 1;
+            next.attributes = 0;
+            next.count = w.count + 1;
+            next
+        }
+        5 => {
+            next.attributes = w.attributes + 1;
+            next
+        }
+        _ => next,
+    }
+}
+
+// What the walk's end says: the end record was the last, and no reference lies outside.
+fn finish(model: &[u8], w: Walker, places: &[usize]) -> Checked
+    requires { ⌜ Walked (now model) w (now places) ⌝ }
+    ensures { λ r. ⌜ checkedMeant r ≡ meaning.checkAnswer (checkedRecords (now (model .entry))) ⌝ }
+{
+    if w.before != 6 {
+        return Checked::Bad(w.at);
+    }
+    match references::first_outside(model, places, w.count) {
+        Outside::At(at) => Checked::Bad(at),
+        Outside::Nowhere => Checked::Good(w.topics),
+    }
+}
+
+// The walk over the records. Each name is stored behind those that count; the walker says whether it counts.
+fn check_records(model: &[u8]) -> Checked
+    requires { ⌜ length (now model) ≤ 65536 ⌝ }
+    ensures { λ r. ⌜ checkedMeant r ≡ meaning.checkAnswer (checkedRecords (now (model .entry))) ⌝ }
+{
+    let mut topics: [usize; 65] = [0; 65];
+    let mut tables: [usize; 513] = [0; 513];
+    let mut attributes: [usize; 65] = [0; 65];
+    let mut places: [usize; 513] = [0; 513];
+    let mut w = Walker {
+        at: 0,
+        before: 0,
+        topics: 0,
+        tables: 0,
+        attributes: 0,
+        count: 0,
+    };
+    while w.at < model.len() {
+        if passes(model, w, &topics, &tables, &attributes) {
+            let name = records::name_at(model, w.at);
+            let topic = w.topics;
+            topics[topic] = name;
+            let table = w.tables;
+            tables[table] = name;
+            let attribute = w.attributes;
+            attributes[attribute] = name;
+            let place = w.count;
+            places[place] = references::less_one(topic);
+            w = advance(model, w);
+        } else {
+            return Checked::Bad(w.at);
+        }
+    }
+    finish(model, w, &places)
+}
+
+// The check of a compiled model: the count of its topics, or the byte of the first bad record.
+pub fn check(model: &[u8]) -> Checked
+    ensures { λ r. ⌜ checkedMeant r ≡ meaning.check (now (model .entry)) ⌝ }
+{
+    if 65536 < model.len() {
+        return Checked::Bad(0);
+    }
+    check_records(model)
+}

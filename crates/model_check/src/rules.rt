@@ -1,0 +1,156 @@
+// Rules of a record by itself: bytes, names, flags, components.
+ghost use mathlib.Core.Path.{_≡_};
+ghost use mathlib.Core.Bool.{not};
+ghost use mathlib.Core.List.{[], _∷_};
+ghost use Prim.Native.Nat.{_≤_};
+ghost use lib.Dec.{eqb};
+ghost use lib.ListN.{length};
+ghost use lib.Signed.{ltZ};
+ghost use Rattle.meaning.specs.Bytes.{every, allOf};
+ghost use Rattle.meaning.specs.Check.{special, nameByte, isName, isFlag, isBound, goodComponent, goodComponents, keepsTransfer, follows};
+ghost use Rattle.model_records.specs.Components.{componentOf, componentsOf};
+use base::bools;
+use base::kinds;
+use model_records::Component;
+use model_records::Components;
+
+// "lie in 21 to 7E hex, and are no letter, digit, + - . or /"
+pub fn is_special(b: u8) -> bool
+    ensures { λ r. ⌜ r ≡ special b ⌝ }
+{
+    match b {
+        0x21..=0x2a | 0x2c..=0x2c | 0x3a..=0x40 | 0x5b..=0x60 | 0x7b..=0x7e => true,
+        _ => false,
+    }
+}
+
+// Letters, digits and _.
+pub fn is_name_byte(b: u8) -> bool
+    ensures { λ r. ⌜ r ≡ nameByte b ⌝ }
+{
+    match b {
+        b'A'..=b'Z' | b'a'..=b'z' | b'0'..=b'9' | b'_'..=b'_' => true,
+        _ => false,
+    }
+}
+
+fn every_name_byte(l: &[u8]) -> bool
+    ensures { λ r. ⌜ r ≡ every nameByte (now (l .entry)) ⌝ }
+{
+    let mut all = true;
+    let mut i = 0;
+    while i < l.len() {
+        all = bools::both(all, is_name_byte(l[i]));
+        i += 1;
+    }
+    all
+}
+
+// "Names follow 000, 2.2.1.1": a letter, then letters, digits and _.
+pub fn is_name(n: &[u8], longest: usize) -> bool
+    ensures { λ r. ⌜ r ≡ isName longest (now (n .entry)) ⌝ }
+{
+    if n.len() == 0 {
+        return false;
+    }
+    let first = kinds::is_letter(n[0]);
+    let all = every_name_byte(n);
+    let short = n.len() <= longest;
+    bools::both(bools::both(first, all), short)
+}
+
+// "optional (0 or 1)"
+pub fn is_flag(p: &[u8]) -> bool
+    ensures { λ r. ⌜ r ≡ isFlag (now (p .entry)) ⌝ }
+{
+    if p.len() == 0 { false } else { p[0] <= 1 }
+}
+
+// "Bounds lie strictly between -10^18 and 10^18"
+pub fn is_bound(v: i64) -> bool
+    ensures { λ r. ⌜ r ≡ isBound v ⌝ }
+{
+    if -1000000000000000000 < v {
+        v < 1000000000000000000
+    } else {
+        false
+    }
+}
+
+// "least at most greatest"
+fn is_ordered(least: i64, greatest: i64) -> bool
+    ensures { λ r. ⌜ r ≡ not (ltZ greatest least) ⌝ }
+{
+    if greatest < least { false } else { true }
+}
+
+pub fn is_component(c: Component) -> bool
+    ensures { λ r. ⌜ r ≡ goodComponent (componentOf c) ⌝ }
+{
+    let shown = c.decimals <= 9;
+    let ordered = is_ordered(c.least, c.greatest);
+    let inside = bools::both(is_bound(c.greatest), ordered);
+    bools::both(shown, bools::both(is_bound(c.least), inside))
+}
+
+// Whether each of the components is good.
+pub fn are_components(c: Components) -> bool
+    requires { ⌜ c .count ≤ 3 ⌝ }
+    requires { ⌜ length (c .items) ≡ 3 ⌝ }
+    ensures { λ r. ⌜ r ≡ goodComponents (componentsOf c) ⌝ }
+{
+    let items = c.items;
+    let count = c.count;
+    let mut all = true;
+    let mut i = 0;
+    while i < count {
+        let item = items[i];
+        all = bools::both(all, is_component(item));
+        i += 1;
+    }
+    all
+}
+
+// "The three differ"
+fn are_different(a: u8, b: u8, c: u8) -> bool
+    ensures { λ r. ⌜ r ≡ allOf (not (eqb a b) ∷ not (eqb a c) ∷ not (eqb b c) ∷ []) ⌝ }
+{
+    bools::both(a != b, bools::both(a != c, b != c))
+}
+
+// "1 transfer: blank, undefined and continuation byte, then a name of 1 to 63 bytes"
+pub fn keeps_transfer(p: &[u8]) -> bool
+    ensures { λ r. ⌜ r ≡ keepsTransfer (now (p .entry)) ⌝ }
+{
+    if p.len() < 4 {
+        return false;
+    }
+    let name = is_name(&p[3..], 63);
+    let rest = bools::both(are_different(p[0], p[1], p[2]), name);
+    are_special(p[0], p[1], p[2], rest)
+}
+
+// Three special bytes, and one more test.
+fn are_special(a: u8, b: u8, c: u8, rest: bool) -> bool
+    ensures { λ r. ⌜ r ≡ allOf (special a ∷ special b ∷ special c ∷ rest ∷ []) ⌝ }
+{
+    bools::both(
+        is_special(a),
+        bools::both(is_special(b), bools::both(is_special(c), rest)),
+    )
+}
+
+// May a record of this kind stand behind one of kind `before`, which is 0 for the first record?
+pub fn may_follow(before: u16, kind: u16) -> bool
+    ensures { λ r. ⌜ r ≡ follows before kind ⌝ }
+{
+    match before {
+        0 => kind == 1,
+        1 => kind == 2,
+        2 => kind == 3,
+        3 => kind == 4,
+        4 => kind == 5,
+        5 => bools::both(3 <= kind, kind <= 6),
+        _ => false,
+    }
+}

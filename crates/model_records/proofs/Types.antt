@@ -1,0 +1,167 @@
+-- Parameters of a type: where they lie, and that what is decoded of them means the type. Assumes nothing.
+use Prim.Native.Nat.{ℕ, zero, suc, _+_, _*_, _-_, _≤_, _<_}
+use native.Mathlib.Omega.{arith}
+use mathlib.Core.Path.{_≡_, refl, sym, ap, _∙_}
+use mathlib.Core.Bool.{Bool, true, false, false≢true}
+use mathlib.Core.List.{List, [], _∷_}
+use mathlib.Core.Logic.{_⊎_, ⊎-elim}
+use lib.Dec.{eqb}
+use lib.ListN.{length, take, drop, getD, length-take, length-drop}
+use lib.Seq.{take-nil, getD-take, getD-drop, drop-drop}
+use borrow.Author.Tests.{leb-true}
+use Rattle.meaning.specs.Bytes.{choose, letter, byteAt, u16At}
+use Rattle.meaning.specs.Model as meaning
+use Rattle.meaning.specs.Check.{isName, isType, isDimension}
+use Rattle.model_records.specs.declared.Component.{Component}
+use Rattle.model_records.specs.Components.{componentOf, listOf}
+use Rattle.model_records.specs.declared.Attribute.{Attribute}
+use Rattle.model_records.specs.ComponentsAre.{Held}
+use Rattle.model_records.specs.Records.{payloadAt, nextAt}
+use Rattle.model_records.specs.Attributes.{typeOf, numberOf, countOf, startOf, Sized, Decoded}
+use Rattle.model_records.specs.Standing.{AttributeHere}
+use Rattle.meaning.proofs.Tests.Refuse.{holds}
+
+-- ## A part of a payload
+
+drop-take : {A : Type 0} (k n : ℕ) (l : List A) → drop k (take n l) ≡ take (n - k) (drop k l)
+drop-take zero n l = let e : n - 0 ≡ n = omega arith in rw e
+drop-take (suc k) zero l = let e : 0 - suc k ≡ 0 = omega arith in rw e
+drop-take (suc k) (suc n) [] = sym (take-nil (suc n - suc k))
+drop-take (suc k) (suc n) (x ∷ l) = let e : suc n - suc k ≡ n - k = omega arith in rw e (drop-take k n l)
+
+-- the model's bytes from a byte of a payload on to the next record
+pub payload-part : (b : List ℕ) (at k start : ℕ) → start ≡ at + 4 + k → take (nextAt b at - start) (drop start b) ≡ drop k (payloadAt b at)
+payload-part b at k start e =
+    let n : nextAt b at - start ≡ u16At b at - k = omega arith in
+    sym (drop-take k (u16At b at) (drop (at + 4) b) ∙ rw (drop-drop k (at + 4) b, ← e, ← n) refl)
+
+-- some bytes of a record's payload are bytes of the record
+pub payload-room : (b : List ℕ) (at n : ℕ) → n ≤ length (payloadAt b at) → at + 4 + n ≤ nextAt b at
+payload-room b at n h = let e = length-take (u16At b at) (drop (at + 4) b) in omega arith
+
+-- a byte of the payload is a byte of the model
+pub payload-byte : (b : List ℕ) (at k : ℕ) → at + 4 + k < nextAt b at → byteAt (payloadAt b at) k ≡ byteAt b (at + 4 + k)
+payload-byte b at k h = getD-take (u16At b at) (drop (at + 4) b) k 0 (omega arith) ∙ getD-drop (at + 4) b k 0
+
+nil-cons : {A : Type 0} (x : A) (l : List A) → [] ≡ x ∷ l → ⊥
+nil-cons x l e = let z : 0 ≡ suc (length l) = ap length e in omega arith
+
+-- ## The parameters
+
+-- a name is not empty
+named : (longest : ℕ) (n : List ℕ) → isName longest n ≡ true → 1 ≤ length n
+unfolding isName letter
+named longest [] h = absurd (false≢true h)
+named longest (b ∷ n) h = omega arith
+
+-- the type of a good attribute record is one of 1 to 8, and its parameters are all there
+pub sized : (b : List ℕ) (at : ℕ) → AttributeHere b at → Sized (byteAt (payloadAt b at) 1) (drop 2 (payloadAt b at))
+unfolding meaning.attributeOf isType
+sized b at h =
+    let p : List ℕ = payloadAt b at in
+    let t : ℕ = byteAt p 1 in
+    let l = named 24 _ (h .name) in
+    let d = length-drop (2 + meaning.parametersSize t (drop 2 p)) p in
+    let e = length-drop 2 p in
+    record { least = leb-true 1 t (holds _ 0 (h .type)); most = leb-true t 8 (holds _ 1 (h .type)); room = omega arith }
+
+-- where its parts lie among the model's bytes
+module _ (b : List ℕ) (at : ℕ) (h : AttributeHere b at) where
+  pub parts-room : at + 6 ≤ nextAt b at
+  unfolding meaning.attributeOf
+  parts-room =
+      let p : List ℕ = payloadAt b at in
+      let l = named 24 _ (h .name) in
+      let d = length-drop (2 + meaning.parametersSize (byteAt p 1) (drop 2 p)) p in
+      omega (arith, payload-room b at 2 (omega arith))
+
+  pub flag-at : eqb (byteAt b (at + 4)) 1 ≡ meaning.flagOf (payloadAt b at)
+  unfolding meaning.flagOf
+  flag-at = let e : at + 4 + 0 ≡ at + 4 = omega arith in sym (rw e at (ap (λ (x : ℕ). eqb x 1) (payload-byte b at 0 (omega (arith, parts-room)))))
+
+  pub type-at : byteAt b (at + 5) ≡ byteAt (payloadAt b at) 1
+  type-at = let e : at + 4 + 1 ≡ at + 5 = omega arith in sym (rw e at (payload-byte b at 1 (omega (arith, parts-room))))
+
+  pub parameters-at : (next : ℕ) → next ≡ nextAt b at → take (next - (at + 6)) (drop (at + 6) b) ≡ drop 2 (payloadAt b at)
+  parameters-at next e = rw e (payload-part b at 2 (at + 6) (omega arith))
+
+dimension-is : (x : Bool) → isDimension (choose x 3 2) ≡ true
+unfolding isDimension choose
+dimension-is true = refl
+dimension-is false = refl
+
+dimension-most : (x : Bool) → choose x 3 2 ≤ 3
+unfolding choose
+dimension-most true = omega arith
+dimension-most false = omega arith
+
+module _ (q : List ℕ) where
+  -- a number or a word is there
+  pub word-size : (t : ℕ) → (t ≡ 1) ⊎ ((t ≡ 5) ⊎ (t ≡ 7)) → Sized t q → 2 ≤ length q
+  unfolding meaning.parametersSize choose
+  word-size t e s = ⊎-elim (λ o. rw o at (s .room)) (λ f. ⊎-elim (λ o. rw o at (s .room)) (λ o. rw o at (s .room)) f) e
+
+  pub line-size : (t : ℕ) → t ≡ 8 → Sized t q → 2 + 17 * meaning.dimensionOf q ≤ length q
+  unfolding meaning.parametersSize choose
+  line-size t e s = rw e at (s .room)
+
+  -- the components are there
+  pub components-fit : (t : ℕ) → Sized t q → (startOf t + 17 * countOf t q ≤ length q) × (countOf t q ≤ 3)
+  unfolding meaning.parametersSize meaning.dimensionOf countOf startOf choose
+  components-fit zero s = absurd (omega (arith, s .least))
+  components-fit (suc zero) s = (omega arith, omega arith)
+  components-fit (suc (suc zero)) s = (omega (arith, s .room), omega arith)
+  components-fit (suc (suc (suc zero))) s = (omega (arith, s .room), omega arith)
+  components-fit (suc (suc (suc (suc zero)))) s = (omega (arith, s .room), omega arith)
+  components-fit (suc (suc (suc (suc (suc zero))))) s = (omega arith, omega arith)
+  components-fit (suc (suc (suc (suc (suc (suc zero)))))) s = (omega arith, omega arith)
+  components-fit (suc (suc (suc (suc (suc (suc (suc zero))))))) s = (omega arith, omega arith)
+  components-fit (suc (suc (suc (suc (suc (suc (suc (suc zero)))))))) s = (s .room, dimension-most (eqb (byteAt q 1) 3))
+  components-fit (suc (suc (suc (suc (suc (suc (suc (suc (suc n))))))))) s = absurd (omega (arith, s .most))
+
+-- the first of some components
+first-is : (cs : List Component) (d : Component) (c : meaning.Component) → listOf (take 1 cs) ≡ c ∷ [] → componentOf (getD cs 0 d) ≡ c
+unfolding listOf
+first-is [] d c e = absurd (nil-cons c [] e)
+first-is (x ∷ cs) d c e = cc
+
+-- what is decoded means the type
+pub meant : (q : List ℕ) (t : ℕ) (a : Attribute) → a .kind ≡ t → a .number ≡ numberOf t q → Held (drop (startOf t) q) (countOf t q) (a .components) → Sized t q
+    → typeOf a ≡ meaning.typeOf t q
+unfolding typeOf meaning.typeOf meaning.componentsOf numberOf countOf startOf choose
+meant q zero a k n h s = absurd (omega (arith, s .least))
+meant q (suc zero) a k n h s = rw (k, n)
+meant q (suc (suc zero)) a k n h s = rw (k, h .meant)
+meant q (suc (suc (suc zero))) a k n h s = rw (k, h .meant)
+meant q (suc (suc (suc (suc zero)))) a k n h s = rw k (ap meaning.Number (first-is (a .components .items) _ (meaning.componentOf q) (rw (h .count) at (h .meant))))
+meant q (suc (suc (suc (suc (suc zero))))) a k n h s = rw (k, n)
+meant q (suc (suc (suc (suc (suc (suc zero)))))) a k n h s = rw k
+meant q (suc (suc (suc (suc (suc (suc (suc zero))))))) a k n h s = rw (k, n)
+meant q (suc (suc (suc (suc (suc (suc (suc (suc zero)))))))) a k n h s = rw (k, n, h .meant)
+meant q (suc (suc (suc (suc (suc (suc (suc (suc (suc n'))))))))) a k n h s = absurd (omega (arith, s .most))
+
+-- the attribute of a record, from what is read of it
+pub decoded : (b : List ℕ) (at : ℕ) (a : Attribute) → AttributeHere b at → a .optional ≡ meaning.flagOf (payloadAt b at) → a .kind ≡ byteAt (payloadAt b at) 1
+    → a .number ≡ numberOf (byteAt (payloadAt b at) 1) (drop 2 (payloadAt b at))
+    → Held (drop (startOf (byteAt (payloadAt b at) 1)) (drop 2 (payloadAt b at))) (countOf (byteAt (payloadAt b at) 1) (drop 2 (payloadAt b at))) (a .components)
+    → Decoded b at a
+unfolding meaning.attributeOf isType countOf meaning.dimensionOf choose
+decoded b at a h o k n c =
+    let q : List ℕ = drop 2 (payloadAt b at) in
+    let t : ℕ = byteAt (payloadAt b at) 1 in
+    let s = sized b at h in
+    let e : typeOf a ≡ meaning.typeOf t q = meant q t a k n c s in
+    record {
+      type = e;
+      optional = o;
+      kind = k;
+      least = omega (arith, s .least);
+      most = omega (arith, s .most);
+      good = rw e (holds _ 3 (h .type));
+      room = c .room;
+      two = λ f. rw (sym k ∙ f) at (c .count);
+      three = λ f. rw (sym k ∙ f) at (c .count);
+      single = λ f. rw (sym k ∙ f) at (c .count);
+      line = λ f. rw (rw (sym k ∙ f) at (c .count)) (dimension-is (eqb (byteAt q 1) 3));
+      count = omega (arith, c .count, components-fit q t s .1);
+    }

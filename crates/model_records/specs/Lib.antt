@@ -1,0 +1,5 @@
+pub mod Components
+pub mod Records
+pub mod ComponentsAre
+pub mod Attributes
+pub mod Standing

@@ -1,5 +1,0 @@
-pub mod Sizes
-pub mod Cells
-pub mod Names
-pub mod Rows
-pub mod Fields

@@ -1,0 +1,25 @@
+-- `read_frame::opening_line` meets its contract. Assumes nothing.
+use Rattle.read_frame.proofs.Moves.{alone-moved, alone-holds, nothing-read}
+use Rattle.read_frame.specs.Moves.{MovedHolds}
+use Rattle.read_state.specs.Meaning.{dueOf, movedOf}
+use Rattle.read_state.specs.declared.Moved.{Moved}
+use Rattle.meaning.specs.Field.{fieldsOf, SCNT}
+use Rattle.meaning.specs.Lines.{openingLine}
+use mathlib.Core.Path.{refl, sym, ap, subst, _∙_}
+use borrow.Author.Needs.{needs}
+use Rattle.read_frame.proofs.lines.opening_line.Statement.{statement}
+use Rattle.read_frame.proofs.lines.opening_line.Tie as tie
+
+alone-line-requires : tie.Need-alone-line-requires
+alone-line-requires c κs = search needs
+
+returns : tie.Need-returns
+unfolding openingLine dueOf
+returns c = let l = c .before .before .args .l .now in
+    let e = c .alone-line .ensures in (
+      (λ m rooms text b s k. ap (λ (x : Moved). movedOf b x k) (e s 0 refl) ∙ alone-moved b k SCNT (fieldsOf s l) _),
+      (λ m b. subst (λ (x : Moved). MovedHolds m b x) (sym (e 0 0 refl)) (alone-holds b nothing-read SCNT (fieldsOf 0 l) _ m (λ rows n used points. tt))),
+    )
+
+pub opening-line-spec : {M : Type 1} → statement M
+opening-line-spec = tie.close (tie.spec alone-line-requires returns)

@@ -1,0 +1,4 @@
+pub mod Codes
+pub mod Heads
+pub mod Moves
+pub mod Walks

@@ -1,0 +1,58 @@
+// The lines that name the transfer and the model.
+ghost use mathlib.Core.Path.{_≡_};
+ghost use mathlib.Core.List.{List};
+ghost use Prim.Native.Nat.{ℕ};
+ghost use Rattle.meaning.specs.Check.{good, checkModel};
+ghost use Rattle.meaning.specs.Field.{fieldsOf};
+ghost use Rattle.meaning.specs.Reading.{Content, Rooms};
+ghost use Rattle.meaning.specs.Lines.{transferLine, modelLine};
+ghost use Rattle.read_state.specs.Meaning.{movedOf};
+ghost use Rattle.model_records.specs.Records.{modelAt};
+ghost use Rattle.read_frame.specs.Moves.{MovedHolds};
+use crate::codes;
+use crate::lines;
+use read_state::Due;
+use read_state::Moved;
+use read_state::Stand;
+
+// "MTID with the transfer name"; 8: "MOTR in place of MTID".
+pub fn transfer_line(model: &[u8], l: &[u8]) -> Moved
+    requires { ⌜ checkModel (now model) ≡ good (modelAt (now model)) ⌝ }
+    ensures meant { λ r. ⌜ ((rooms : Rooms) (text : List ℕ) (s : ℕ) (c : Content) → movedOf (now (model .entry)) r c ≡ transferLine (modelAt (now (model .entry))) rooms text (fieldsOf s (now (l .entry))) c) ⌝ }
+    ensures held { λ r. ⌜ MovedHolds (modelAt (now (model .entry))) (now (model .entry)) r ⌝ }
+{
+    let head = codes::head_of(l);
+    let behind = head.behind;
+    let code = head.code;
+    let second = model_records::next_at(model, 0);
+    match code {
+        3 => lines::named_line(&l[behind..], &model[7..second], Due::ModelName),
+        4 => Moved::No(8, 1),
+        _ => Moved::No(7, 1),
+    }
+}
+
+// "MODL with the model name".
+pub fn model_line(model: &[u8], l: &[u8]) -> Moved
+    requires { ⌜ checkModel (now model) ≡ good (modelAt (now model)) ⌝ }
+    ensures meant { λ r. ⌜ ((rooms : Rooms) (text : List ℕ) (s : ℕ) (c : Content) → movedOf (now (model .entry)) r c ≡ modelLine (modelAt (now (model .entry))) rooms text (fieldsOf s (now (l .entry))) c) ⌝ }
+    ensures held { λ r. ⌜ MovedHolds (modelAt (now (model .entry))) (now (model .entry)) r ⌝ }
+{
+    let head = codes::head_of(l);
+    let behind = head.behind;
+    if head.code != 5 {
+        return Moved::No(7, 1);
+    }
+    let second = model_records::next_at(model, 0);
+    let first = model_records::next_at(model, second);
+    let stand = Stand {
+        topics: 0,
+        tables: 0,
+        at: first,
+    };
+    lines::named_line(
+        &l[behind..],
+        &model[second + 4..first],
+        Due::TopicFrom(stand),
+    )
+}

@@ -1,0 +1,100 @@
+// Lines that are a code alone, or a code and a name.
+ghost use mathlib.Core.Path.{_≡_};
+ghost use mathlib.Core.Bool.{not};
+ghost use mathlib.Core.List.{List, []};
+ghost use Prim.Native.Nat.{ℕ, _+_, _≤_};
+ghost use lib.ListN.{getD};
+ghost use Rattle.meaning.specs.Model.{Model};
+ghost use Rattle.meaning.specs.Field.{fieldsOf, moreThan};
+ghost use Rattle.meaning.specs.Reading.{Content, Rooms};
+ghost use Rattle.meaning.specs.Lines.{openingLine, descriptionLine, closingLine};
+ghost use Rattle.read_state.specs.Meaning.{movedOf};
+ghost use Rattle.read_frame.specs.Codes.{codes};
+ghost use Rattle.read_frame.specs.Moves.{endIn, aloneIn, namedIn, MovedHolds};
+use crate::codes;
+use base::compare;
+use base::fields;
+use base::fields::Next;
+use read_state::Due;
+use read_state::Moved;
+
+// Whether the rest of a line has no field.
+pub fn is_bare(rest: &[u8]) -> bool
+    ensures { λ r. ⌜ ((s : ℕ) → r ≡ not (moreThan 0 (fieldsOf s (now (rest .entry))))) ⌝ }
+{
+    let next = fields::next_field(rest);
+    match next {
+        Next::Nothing => true,
+        _ => false,
+    }
+}
+
+// The end of a line, whose next field would be this one.
+pub fn end_line(rest: &[u8], field: usize, due: Due) -> Moved
+    ensures { λ r. ⌜ ((s : ℕ) → r ≡ endIn field (fieldsOf s (now (rest .entry))) due) ⌝ }
+{
+    if is_bare(rest) {
+        Moved::To(due)
+    } else {
+        Moved::No(11, field)
+    }
+}
+
+// This name behind a line's code, and nothing else.
+pub fn named_line(rest: &[u8], name: &[u8], due: Due) -> Moved
+    ensures { λ r. ⌜ ((s : ℕ) → r ≡ namedIn (now (name .entry)) (fieldsOf s (now (rest .entry))) due) ⌝ }
+{
+    let next = fields::next_field(rest);
+    match next {
+        Next::Nothing => Moved::No(11, 2),
+        Next::Field { start, len } => {
+            let end = start + len;
+            if compare::same_bytes(&rest[start..end], name) {
+                end_line(&rest[end..], 3, due)
+            } else {
+                Moved::No(9, 2)
+            }
+        }
+    }
+}
+
+// A line that is the code of this number alone.
+pub fn alone_line(l: &[u8], code: u8, due: Due) -> Moved
+    requires { ⌜ code ≤ 16 ⌝ }
+    ensures { λ r. ⌜ ((s i : ℕ) → code ≡ i + 1 → r ≡ aloneIn (getD codes i []) (fieldsOf s (now (l .entry))) due) ⌝ }
+{
+    let head = codes::head_of(l);
+    let behind = head.behind;
+    if head.code != code {
+        return Moved::No(7, 1);
+    }
+    end_line(&l[behind..], 2, due)
+}
+
+// SCNT.
+pub fn opening_line(l: &[u8]) -> Moved
+    ensures meant { λ r. ⌜ ((m : Model) (rooms : Rooms) (text b : List ℕ) (s : ℕ) (c : Content) → movedOf b r c ≡ openingLine m rooms text (fieldsOf s (now (l .entry))) c) ⌝ }
+    ensures held { λ r. ⌜ ((m : Model) (b : List ℕ) → MovedHolds m b r) ⌝ }
+{
+    alone_line(l, 1, Due::Description)
+}
+
+// A description line, or ////.
+pub fn description_line(l: &[u8]) -> Moved
+    ensures meant { λ r. ⌜ ((m : Model) (rooms : Rooms) (text b : List ℕ) (s : ℕ) (c : Content) → movedOf b r c ≡ descriptionLine m rooms text (now (l .entry)) (fieldsOf s (now (l .entry))) c) ⌝ }
+    ensures held { λ r. ⌜ ((m : Model) (b : List ℕ) → MovedHolds m b r) ⌝ }
+{
+    if compare::begins_with(l, b"////") {
+        alone_line(l, 2, Due::Transfer)
+    } else {
+        Moved::To(Due::Description)
+    }
+}
+
+// ENDE.
+pub fn closing_line(l: &[u8]) -> Moved
+    ensures meant { λ r. ⌜ ((m : Model) (rooms : Rooms) (text b : List ℕ) (s : ℕ) (c : Content) → movedOf b r c ≡ closingLine m rooms text (fieldsOf s (now (l .entry))) c) ⌝ }
+    ensures held { λ r. ⌜ ((m : Model) (b : List ℕ) → MovedHolds m b r) ⌝ }
+{
+    alone_line(l, 16, Due::Nothing)
+}

@@ -1,0 +1,7 @@
+pub mod Records
+pub mod Ends
+pub mod Sizes
+pub mod Cells
+pub mod Names
+pub mod Rows
+pub mod Fields

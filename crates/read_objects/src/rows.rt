@@ -1,0 +1,175 @@
+// The row of an OBJE line: the fields behind its identification, by the attribute records of its table.
+ghost use mathlib.Core.Path.{_≡_};
+ghost use mathlib.Core.Bool.{true};
+ghost use Prim.Native.Nat.{ℕ, _+_, _*_, _≤_, _<_, _^_};
+ghost use lib.ListN.{length};
+ghost use Rattle.meaning.specs.Field.{fieldsOf};
+ghost use Rattle.meaning.specs.Row.{pairsOfType, hasMandatory, pairCells};
+ghost use Rattle.model_records.specs.Attributes.{typeOf};
+ghost use Rattle.model_records.specs.Records.{pairsAt};
+ghost use Rattle.model_records.specs.Standing.{AttributeHere};
+ghost use Rattle.read_fields.specs.Filled.{goingOver, covering, Counted, Ready, Fills};
+ghost use Rattle.read_objects.specs.Fields.{recordPairs, AttributesFrom, EndsHere, Ends};
+use base::fields::Next;
+use model_records::Attribute;
+use read_fields::filling;
+use read_fields::filling::Filled;
+use read_fields::filling::Filling;
+use read_fields::storing;
+
+// The row is full with so many cells behind its first three; or a refusal and its field.
+pub enum RowOut {
+    Full(usize),
+    No(u8, usize),
+}
+
+// Whether an attribute's field may not be undefined; a line has none here.
+fn is_mandatory(a: Attribute) -> bool
+    requires { ⌜ Counted a ⌝ }
+    ensures { λ r. ⌜ r ≡ hasMandatory (pairsOfType (a .optional) (typeOf a)) ⌝ }
+{
+    let kind = a.kind;
+    match kind {
+        1..=7 => !a.optional,
+        _ => false,
+    }
+}
+
+// "one pair per attribute, per component for coordinates"
+fn count_pairs(a: Attribute) -> usize
+    requires { ⌜ Counted a ⌝ }
+    ensures count { λ r. ⌜ r ≡ length (pairsOfType (a .optional) (typeOf a)) ⌝ }
+    ensures few { λ r. ⌜ r ≤ 3 ⌝ }
+{
+    let kind = a.kind;
+    match kind {
+        2..=3 => a.components.count,
+        _ => 1,
+    }
+}
+
+// Whether one of the attributes from a byte on may not be undefined.
+pub fn has_mandatory(model: &[u8], at: usize) -> bool
+    requires { ⌜ AttributesFrom (now model) at ⌝ }
+    ensures { λ r. ⌜ r ≡ hasMandatory (pairsAt (now (model .entry)) at) ⌝ }
+{
+    let mut here = at;
+    while model_records::kind_at(model, here) == 5 {
+        if is_mandatory(model_records::attribute_at(model, here)) {
+            return true;
+        }
+        here = model_records::next_at(model, here);
+    }
+    false
+}
+
+// The count of the pairs of the attributes from a byte on.
+pub fn pair_count(model: &[u8], at: usize) -> usize
+    requires { ⌜ AttributesFrom (now model) at ⌝ }
+    ensures count { λ r. ⌜ r ≡ length (pairsAt (now (model .entry)) at) ⌝ }
+    ensures few { λ r. ⌜ at + r ≤ length (now (model .entry)) ⌝ }
+{
+    let mut here = at;
+    let mut count = 0;
+    while model_records::kind_at(model, here) == 5 {
+        count += count_pairs(model_records::attribute_at(model, here));
+        here = model_records::next_at(model, here);
+    }
+    count
+}
+
+// The pairs of the attribute record at a byte.
+fn put_record(
+    model: &[u8],
+    at: usize,
+    rest: &[u8],
+    start: usize,
+    undefined: u8,
+    cells: &mut [i64],
+    s: Filling,
+) -> Filled
+    requires { ⌜ AttributeHere (now model) at ⌝ }
+    requires { ⌜ Ready start (now rest) 6 s ⌝ }
+    ensures { λ r. ⌜ Fills undefined start (now (rest .entry)) 6 (goingOver undefined start (now (rest .entry)) (recordPairs (now (model .entry)) at) s) s (now (cells .entry)) (now (cells .exit)) r ⌝ }
+{
+    let a = model_records::attribute_at(model, at);
+    filling::put_attribute(a, rest, start, undefined, cells, s)
+}
+
+// Behind the last attribute no field is left.
+fn end_row(rest: &[u8], s: Filling) -> RowOut
+    requires { ⌜ s .at ≤ length (now rest) ⌝ }
+    ensures { λ r. ⌜ EndsHere (now (rest .entry)) s r ⌝ }
+{
+    let at = s.at;
+    match base::fields::next_field(&rest[at..]) {
+        Next::Field { start, len } => RowOut::No(11, s.place),
+        Next::Nothing => RowOut::Full(s.used),
+    }
+}
+
+// Two undefined bytes stood before: the pairs of the attribute that are left and those of the records from a byte on are undefined.
+fn undefine_rest(
+    model: &[u8],
+    at: usize,
+    rest: &[u8],
+    left: usize,
+    cells: &mut [i64],
+    s: Filling,
+) -> RowOut
+    requires { ⌜ AttributesFrom (now model) at ⌝ }
+    requires { ⌜ (s .at ≤ length (now rest)) × (s .place + 1 < 2 ^ 64) × (s .used + (left + left) ≤ at + at) ⌝ }
+    ensures { λ r. ⌜ ((start : ℕ) → Ends (covering start (now (rest .entry)) s left (pairsAt (now (model .entry)) at)) (2 * length (now (model .entry))) (s .used) (now (cells .entry)) (now (cells .exit)) r) ⌝ }
+{
+    if has_mandatory(model, at) {
+        return RowOut::No(12, s.place);
+    }
+    let from = s.at;
+    match base::fields::next_field(&rest[from..]) {
+        Next::Field { start, len } => RowOut::No(11, s.place + 1),
+        Next::Nothing => {
+            let pairs = left + pair_count(model, at);
+            storing::put_zeros(cells, s.used, pairs);
+            RowOut::Full(s.used + 2 * pairs)
+        }
+    }
+}
+
+// The fields of an OBJE line behind its identification, as pairs behind the row's first three cells. The part of the cells that
+// starts there is lent on to the field writers.
+pub fn row_fields(
+    model: &[u8],
+    at: usize,
+    rest: &[u8],
+    start: usize,
+    undefined: u8,
+    cells: &mut [i64],
+) -> RowOut
+    requires { ⌜ AttributesFrom (now model) at ⌝ }
+    requires { ⌜ start + length (now rest) < 2 ^ 62 ⌝ }
+    ensures { λ r. ⌜ Ends (pairCells undefined true 3 (pairsAt (now (model .entry)) at) (fieldsOf start (now (rest .entry)))) (2 * length (now (model .entry))) 0 (now (cells .entry)) (now (cells .exit)) r ⌝ }
+{
+    let mut here = at;
+    let mut s = Filling {
+        at: 0,
+        place: 3,
+        used: 0,
+        before: true,
+    };
+    while model_records::kind_at(model, here) == 5 {
+        let next = model_records::next_at(model, here);
+        match put_record(model, here, rest, start, undefined, cells, s) {
+            Filled::On(t) => {
+                s = t;
+            }
+            Filled::Rest(t, left) => {
+                return undefine_rest(model, next, rest, left, cells, t);
+            }
+            Filled::No(k, f) => {
+                return RowOut::No(k, f);
+            }
+        }
+        here = next;
+    }
+    end_row(rest, s)
+}

@@ -1,0 +1,4 @@
+pub mod PointFields
+pub mod Next
+pub mod Ways
+pub mod PointLaws

@@ -1,0 +1,85 @@
+// Lines of a line attribute that are a code alone: an undefined line, and the end of a line.
+ghost use mathlib.Core.Path.{_≡_};
+ghost use mathlib.Core.List.{List};
+ghost use Prim.Native.Nat.{ℕ, _+_, _*_, _-_, _≤_, _<_, _^_};
+ghost use lib.IntN.{ℤ, pos};
+ghost use lib.ListN.{length, drop, set};
+ghost use Rattle.meaning.specs.Field.{Field, fieldsOf};
+ghost use Rattle.meaning.specs.Reading.{Rooms, undefinedLine, ended};
+ghost use Rattle.meaning.specs.Lines.{attributeLine};
+ghost use Rattle.model_records.specs.declared.Attribute.{Attribute};
+ghost use Rattle.model_records.specs.Records.{modelAt};
+ghost use Rattle.read_state.specs.Meaning.{lineCodeOf};
+ghost use Rattle.read_polylines.specs.Codes.{codeOf};
+ghost use Rattle.read_polylines.specs.Ways.{wayOf, Ready, Behind, Does};
+use read_state::LineCode;
+use read_state::State;
+use read_state::Step;
+use read_state::Underway;
+
+// The code of a line, by the number of its code.
+pub fn name_code(number: u8) -> LineCode
+    ensures { λ r. ⌜ lineCodeOf r ≡ codeOf number ⌝ }
+{
+    match number {
+        9 => LineCode::Stpt,
+        10 => LineCode::Lipt,
+        11 => LineCode::Arcp,
+        12 => LineCode::Elin,
+        _ => LineCode::Other,
+    }
+}
+
+// The state behind the last line of the line attribute under way: the next one has this first point.
+fn behind_line(model: &[u8], u: Underway, s: State, first: usize) -> State
+    requires { ⌜ Ready (now model) u s ⌝ }
+    ensures { λ r. ⌜ Behind (now (model .entry)) u s first r ⌝ }
+{
+    let at = u.at;
+    let here = u.here;
+    let next = model_records::next_at(model, at);
+    let due = crate::due_lines(model, here, next, u.cell + 2, first);
+    State {
+        due,
+        rows: s.rows,
+        cells: s.cells,
+        points: s.points,
+    }
+}
+
+// "ELIN alone is an undefined line".
+pub fn undefined_line(model: &[u8], optional: bool, rest: &[u8], u: Underway, s: State) -> Step
+    requires { ⌜ Ready (now model) u s ⌝ }
+    ensures { λ r. ⌜ ((a : Attribute) (rooms : Rooms) (text : List ℕ) (fs : List Field) (start : ℕ) (cells points : List ℤ) → a .optional ≡ optional → drop 1 fs ≡ fieldsOf start (now (rest .entry)) → Does (now (model .entry)) u s (λ c. attributeLine (modelAt (now (model .entry))) rooms text (wayOf (now (model .entry)) a u) fs c undefinedLine) cells points cells points r) ⌝ }
+{
+    if !optional {
+        return Step::No(12, 1);
+    }
+    if !read_frame::lines::is_bare(rest) {
+        return Step::No(11, 2);
+    }
+    Step::Go(behind_line(model, u, s, u.first))
+}
+
+// "Line: 1 plus its count of points, its first point".
+fn put_line(cells: &mut [i64], cell: usize, count: usize, first: usize)
+    requires { ⌜ cell + 1 < length (now cells) ⌝ }
+    requires { ⌜ (count < 2 ^ 61) × (first < 2 ^ 61) ⌝ }
+    ensures { λ _. ⌜ now (cells .exit) ≡ set (set (now (cells .entry)) cell (pos (1 + count))) (cell + 1) (pos first) ⌝ }
+{
+    cells[cell] = (1 + count) as i64;
+    cells[cell + 1] = first as i64;
+}
+
+// ELIN behind the last point of a line.
+pub fn end_line(model: &[u8], rest: &[u8], cells: &mut [i64], u: Underway, s: State) -> Step
+    requires { ⌜ Ready (now model) u s ⌝ }
+    requires { ⌜ s .cells ≤ length (now cells) ⌝ }
+    ensures { λ r. ⌜ ((a : Attribute) (rooms : Rooms) (text : List ℕ) (fs : List Field) (start : ℕ) (points : List ℤ) → 4 * s .points ≤ length points → drop 1 fs ≡ fieldsOf start (now (rest .entry)) → Does (now (model .entry)) u s (λ c. attributeLine (modelAt (now (model .entry))) rooms text (wayOf (now (model .entry)) a u) fs c ended) (now (cells .entry)) points (now (cells .exit)) points r) ⌝ }
+{
+    if !read_frame::lines::is_bare(rest) {
+        return Step::No(11, 2);
+    }
+    put_line(cells, u.cell, s.points - u.first, u.first);
+    Step::Go(behind_line(model, u, s, s.points))
+}

@@ -1,0 +1,62 @@
+-- What resolving references answers, and what it needs.
+use Prim.Native.Nat.{ℕ, _+_, _*_, _≤_, _<_}
+use mathlib.Core.Path.{_≡_}
+use mathlib.Core.List.{List}
+use lib.Dec.{eqb}
+use lib.IntN.{ℤ}
+use lib.ListN.{length, getD, take}
+use Rattle.meaning.specs.Bytes.{choose}
+use Rattle.meaning.specs.Model.{Model}
+use Rattle.meaning.specs.Reading.{stretch, objectsOf}
+use Rattle.meaning.specs.Table as table
+use Rattle.model_records.specs.Records.{pairsAt}
+use Rattle.model_records.specs.Standing.{Standing}
+use Rattle.table_index.specs.Holds.{Held, Beside}
+use Rattle.read_references.specs.declared.Resolved.{Resolved}
+use Rattle.read_references.specs.declared.Resolved.the-variants.{All, Unresolved}
+
+abbrev pub resolvedOf : Resolved → List ℤ → table.Resolved
+resolvedOf All cs = table.resolved cs
+resolvedOf (Unresolved object field) cs = table.unresolved object field
+
+-- a stretch cut at the end of a text of so many bytes: it names the same bytes
+pub record Cut (size start len start′ len′ : ℕ) : Type 0 where
+  pub inside : start′ + len′ ≤ size
+  pub same : (text : List ℕ) → length text ≡ size → stretch text start′ len′ ≡ stretch text start len
+
+-- the pair at this cell is none of the first three cells of a row
+pub record PairHere (rows : List ℕ) (n cell : ℕ) (cells : List ℤ) : Type 0 where
+  pub inside : cell + 1 < length cells
+  pub first : Beside rows n cell
+  pub second : Beside rows n (cell + 1)
+
+-- resolving goes on: the objects are those of the beginning
+pub record Going (seed : ℕ) (text rows : List ℕ) (n : ℕ) (index : List ℕ) (cells₀ cells : List ℤ) : Type 0 where
+  pub held : Held seed text n (length cells₀) rows cells index
+  pub size : length cells ≡ length cells₀
+  pub objects : objectsOf text cells (take n rows) ≡ objectsOf text cells₀ (take n rows)
+
+-- the fields and the pairs of an attribute of type number t, 1 to 8: a coordinate has both for each component, a line no field
+unfoldable pub fieldsOf : (t : ℕ) → ℕ
+fieldsOf t = choose (eqb t 2) 2 (choose (eqb t 3) 3 (choose (eqb t 8) 0 1))
+
+unfoldable pub pairCount : (t : ℕ) → ℕ
+pairCount t = choose (eqb t 2) 2 (choose (eqb t 3) 3 1)
+
+pub record Counted (t f p : ℕ) : Type 0 where
+  pub fields : f ≡ fieldsOf t
+  pub pairs : p ≡ pairCount t
+
+-- so many pairs from this cell on are of the row of object o: behind its first three cells, and before the later rows
+pub record InRow (rows : List ℕ) (n o cell pairs size : ℕ) : Type 0 where
+  pub object : o < n
+  pub behind : getD rows o 0 + 2 < cell
+  pub inside : cell + 2 * pairs ≤ size
+  pub later : (p : ℕ) → o < p → p < n → cell + 2 * pairs ≤ getD rows p 0
+
+-- the attribute records of the table of object o begin at this byte
+pub record RowHere (m : Model) (b rows : List ℕ) (n o at size : ℕ) : Type 0 where
+  pub topics : ℕ
+  pub tables : ℕ
+  pub standing : Standing m b at topics tables
+  pub row : InRow rows n o (getD rows o 0 + 3) (length (pairsAt b at)) size

@@ -1,0 +1,98 @@
+// The pair of a reference.
+ghost use mathlib.Core.Path.{_≡_};
+ghost use Prim.Native.Nat.{_+_, _<_, min};
+ghost use lib.IntN.{pos};
+ghost use lib.ListN.{length, set, take};
+ghost use Rattle.meaning.specs.Model.{found};
+ghost use Rattle.meaning.specs.Reading.{objectsOf, cellAt};
+ghost use Rattle.meaning.specs.Table.{resolvePair};
+ghost use Rattle.table_index.specs.Holds.{Known};
+ghost use Rattle.read_references.specs.Resolved.{resolvedOf, Cut, PairHere};
+use crate::Resolved;
+use table_index::Found;
+
+// A part of the text.
+pub struct Part {
+    pub start: usize,
+    pub len: usize,
+}
+
+pub fn least_of(a: usize, b: usize) -> usize
+    ensures { λ r. ⌜ r ≡ min a b ⌝ }
+{
+    if a <= b { a } else { b }
+}
+
+// A stretch, cut at the end of a text of so many bytes.
+pub fn cut_stretch(size: usize, start: usize, len: usize) -> Part
+    ensures { λ r. ⌜ Cut size start len (r .start) (r .len) ⌝ }
+{
+    let from = least_of(start, size);
+    let left = least_of(len, size - from);
+    Part {
+        start: from,
+        len: left,
+    }
+}
+
+// The size of a cell.
+pub fn size_at(cells: &[i64], cell: usize) -> usize
+    requires { ⌜ cell < length (now cells) ⌝ }
+    ensures { λ r. ⌜ r ≡ cellAt (now (cells .entry)) cell ⌝ }
+{
+    value_write::magnitude(cells[cell]) as usize
+}
+
+// The number of the object, in the place of its identification's stretch.
+fn put_reference(cells: &mut [i64], cell: usize, o: usize)
+    requires { ⌜ cell + 1 < length (now cells) ⌝ }
+    requires { ⌜ o < 9223372036854775808 ⌝ }
+    ensures { λ _. ⌜ now (cells .exit) ≡ set (set (now (cells .entry)) cell (pos 1)) (cell + 1) (pos o) ⌝ }
+{
+    cells[cell] = 1;
+    cells[cell + 1] = o as i64;
+}
+
+// Where this object's field is a reference to a table: nothing where it is undefined, else the number of the object that it names.
+pub fn resolve_pair(
+    text: &[u8],
+    rows: &[u64],
+    cells: &mut [i64],
+    index: &[u64],
+    objects: usize,
+    seed: u64,
+    table: usize,
+    cell: usize,
+    object: usize,
+    field: usize,
+) -> Resolved
+    requires { ⌜ Known seed (now text) (now rows) (now cells) (now index) objects ⌝ }
+    requires { ⌜ PairHere (now rows) objects cell (now cells) ⌝ }
+    requires { ⌜ objects < 9223372036854775808 ⌝ }
+    ensures { λ r. ⌜ resolvedOf r (now (cells .exit)) ≡ resolvePair (now (text .entry)) (objectsOf (now (text .entry)) (now (cells .entry)) (take objects (now (rows .entry)))) object field cell (found table) (now (cells .entry)) ⌝ }
+{
+    let a = size_at(cells, cell);
+    if a == 0 {
+        return Resolved::All;
+    }
+    let b = size_at(cells, cell + 1);
+    let part = cut_stretch(text.len(), b, a - 1);
+    let found = table_index::find_reference(
+        text,
+        rows,
+        cells,
+        index,
+        objects,
+        seed,
+        table,
+        part.start,
+        part.len,
+    );
+    match found {
+        Found::At(o) => {
+            put_reference(cells, cell, o);
+            Resolved::All
+        }
+        Found::Nothing => Resolved::Unresolved(object, field),
+    }
+}

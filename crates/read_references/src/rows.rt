@@ -1,0 +1,170 @@
+// The references of a row, and of all rows.
+ghost use mathlib.Core.Path.{_≡_};
+ghost use Prim.Native.Nat.{_+_, _≤_, _<_};
+ghost use lib.ListN.{length, getD, take};
+ghost use Rattle.meaning.specs.Model.{targetOf, attributeOf};
+ghost use Rattle.meaning.specs.Reading.{objectsOf};
+ghost use Rattle.meaning.specs.Table.{resolvePair, resolvePairs, resolveRows};
+ghost use Rattle.model_records.specs.Records.{modelAt, payloadAt, pairsAt};
+ghost use Rattle.model_records.specs.Standing.{AttributeHere};
+ghost use Rattle.table_index.specs.Holds.{Known, Held};
+ghost use Rattle.read_state.specs.Holds.{Laid};
+ghost use Rattle.read_references.specs.Placed.{Placed};
+ghost use Rattle.read_references.specs.Resolved.{resolvedOf, Counted, PairHere, RowHere};
+use crate::Resolved;
+use crate::pairs;
+
+// How many fields and pairs an attribute has, by its type's number.
+pub struct Counts {
+    pub fields: usize,
+    pub pairs: usize,
+}
+
+// A coordinate has a field and a pair for each component, a line no field on its object's line.
+pub fn count_of(kind: u8) -> Counts
+    ensures { λ r. ⌜ Counted kind (r .fields) (r .pairs) ⌝ }
+{
+    match kind {
+        2 => Counts {
+            fields: 2,
+            pairs: 2,
+        },
+        3 => Counts {
+            fields: 3,
+            pairs: 3,
+        },
+        8 => Counts {
+            fields: 0,
+            pairs: 1,
+        },
+        _ => Counts {
+            fields: 1,
+            pairs: 1,
+        },
+    }
+}
+
+// The attribute of the record at a byte, where it is a reference: this object's pair at this cell.
+fn resolve_attribute(
+    model: &[u8],
+    text: &[u8],
+    rows: &[u64],
+    cells: &mut [i64],
+    index: &[u64],
+    objects: usize,
+    seed: u64,
+    at: usize,
+    cell: usize,
+    object: usize,
+    field: usize,
+) -> Resolved
+    requires { ⌜ AttributeHere (now model) at ⌝ }
+    requires { ⌜ Known seed (now text) (now rows) (now cells) (now index) objects ⌝ }
+    requires { ⌜ PairHere (now rows) objects cell (now cells) ⌝ }
+    requires { ⌜ objects < 9223372036854775808 ⌝ }
+    ensures { λ r. ⌜ resolvedOf r (now (cells .exit)) ≡ resolvePair (now (text .entry)) (objectsOf (now (text .entry)) (now (cells .entry)) (take objects (now (rows .entry)))) object field cell (targetOf (attributeOf at (payloadAt (now (model .entry)) at) .type)) (now (cells .entry)) ⌝ }
+{
+    if model[at + 5] != 1 {
+        return Resolved::All;
+    }
+    let table = model_records::numbers::u16_at(model, at + 6) as usize;
+    pairs::resolve_pair(
+        text,
+        rows,
+        cells,
+        index,
+        objects,
+        seed,
+        table,
+        cell,
+        object,
+        field,
+    )
+}
+
+// The row of this object, whose table's attribute records begin at the byte `first`.
+fn resolve_row(
+    model: &[u8],
+    text: &[u8],
+    rows: &[u64],
+    cells: &mut [i64],
+    index: &[u64],
+    objects: usize,
+    seed: u64,
+    first: usize,
+    object: usize,
+) -> Resolved
+    requires { ⌜ Held seed (now text) objects (length (now cells)) (now rows) (now cells) (now index) ⌝ }
+    requires { ⌜ RowHere (modelAt (now model)) (now model) (now rows) objects object first (length (now cells)) ⌝ }
+    requires { ⌜ objects < 9223372036854775808 ⌝ }
+    ensures { λ r. ⌜ resolvedOf r (now (cells .exit)) ≡ resolvePairs (now (text .entry)) (objectsOf (now (text .entry)) (now (cells .entry)) (take objects (now (rows .entry)))) object 3 (getD (now (rows .entry)) object 0 + 3) (pairsAt (now (model .entry)) first) (now (cells .entry)) ⌝ }
+{
+    let mut at = first;
+    let mut field = 3;
+    let mut cell = rows[object] as usize + 3;
+    loop {
+        let kind = model_records::kind_at(model, at);
+        if kind != 5 {
+            return Resolved::All;
+        }
+        let done = resolve_attribute(
+            model,
+            text,
+            rows,
+            cells,
+            index,
+            objects,
+            seed,
+            at,
+            cell,
+            object,
+            field,
+        );
+        if let Resolved::Unresolved(o, f) = done {
+            return Resolved::Unresolved(o, f);
+        }
+        let counts = count_of(model[at + 5]);
+        field += counts.fields;
+        cell += 2 * counts.pairs;
+        at = model_records::next_at(model, at);
+    }
+}
+
+// The rows in order; `places` says where the attribute records of each table begin.
+pub fn resolve_references(
+    model: &[u8],
+    text: &[u8],
+    places: &[usize],
+    rows: &[u64],
+    cells: &mut [i64],
+    index: &[u64],
+    objects: usize,
+    seed: u64,
+) -> Resolved
+    requires { ⌜ Held seed (now text) objects (length (now cells)) (now rows) (now cells) (now index) ⌝ }
+    requires { ⌜ Laid (modelAt (now model)) objects (length (now cells)) (now rows) (now cells) ⌝ }
+    requires { ⌜ Placed (modelAt (now model)) (now model) (now places) ⌝ }
+    requires { ⌜ length (modelAt (now model) .tables) ≤ length (now places) ⌝ }
+    ensures { λ r. ⌜ resolvedOf r (now (cells .exit)) ≡ resolveRows (now (text .entry)) (objectsOf (now (text .entry)) (now (cells .entry)) (take objects (now (rows .entry)))) (modelAt (now (model .entry)) .tables) 0 (take objects (now (rows .entry))) (now (cells .entry)) ⌝ }
+{
+    let mut object = 0;
+    while object < objects {
+        let table = pairs::size_at(cells, rows[object] as usize);
+        let done = resolve_row(
+            model,
+            text,
+            rows,
+            cells,
+            index,
+            objects,
+            seed,
+            places[table],
+            object,
+        );
+        if let Resolved::Unresolved(o, f) = done {
+            return Resolved::Unresolved(o, f);
+        }
+        object += 1;
+    }
+    Resolved::All
+}

@@ -1,0 +1,102 @@
+-- What the state of reading means: each case of this crate's enums with its case of the meaning.
+use Prim.Native.Nat.{ℕ, _+_, _*_, _-_}
+use mathlib.Core.List.{List, [], _∷_}
+use lib.IntN.{ℤ}
+use lib.ListN.{length, take, drop}
+use Rattle.meaning.specs.Model.{Model, recordsFrom, attributesOf}
+use Rattle.meaning.specs.Row.{pairsOf}
+use Rattle.meaning.specs.Reading as meaning
+use Rattle.meaning.specs.Reading.{LineAttribute, lineAttributes, Content, withMark}
+use Rattle.meaning.specs.Lines as lines
+use Rattle.read_state.specs.declared.LineState.{LineState}
+use Rattle.read_state.specs.declared.LineState.the-variants.{Unstarted, Started, InArc, Reached}
+use Rattle.read_state.specs.declared.LineCode.{LineCode}
+use Rattle.read_state.specs.declared.LineCode.the-variants.{Stpt, Lipt, Arcp, Elin, Other}
+use Rattle.read_state.specs.declared.Move.{Move}
+use Rattle.read_state.specs.declared.Move.the-variants.{Unexpected, UndefinedLine, Ended, Point}
+use Rattle.read_state.specs.declared.Underway.{Underway}
+use Rattle.read_state.specs.declared.Due.{Due}
+use Rattle.read_state.specs.declared.Due.the-variants.{Opening, Description, Transfer, ModelName, TopicFrom, TableFrom, ObjectOf, LineOf, Closing, Nothing}
+use Rattle.read_state.specs.declared.Moved.{Moved}
+use Rattle.read_state.specs.declared.Moved.the-variants.{To}
+use Rattle.read_state.specs.declared.State.{State}
+use Rattle.read_state.specs.declared.Step.{Step}
+use Rattle.read_state.specs.declared.Step.the-variants.{Go}
+
+-- ## The line state
+
+abbrev pub lineStateOf : LineState → meaning.LineState
+lineStateOf Unstarted = meaning.unstarted
+lineStateOf Started = meaning.started
+lineStateOf InArc = meaning.inArc
+lineStateOf Reached = meaning.reached
+
+abbrev pub lineCodeOf : LineCode → meaning.LineCode
+lineCodeOf Stpt = meaning.stpt
+lineCodeOf Lipt = meaning.lipt
+lineCodeOf Arcp = meaning.arcp
+lineCodeOf Elin = meaning.elin
+lineCodeOf Other = meaning.other
+
+abbrev pub moveOf : Move → meaning.Move
+moveOf Unexpected = meaning.unexpected
+moveOf UndefinedLine = meaning.undefinedLine
+moveOf Ended = meaning.ended
+moveOf (Point kind state) = meaning.point kind (lineStateOf state)
+
+-- ## What is due, under a model's bytes
+
+-- the line attributes among the attribute records from a byte on, the first of which has its pair at this cell
+abbrev pub linesAt : (model : List ℕ) (at cell : ℕ) → List LineAttribute
+linesAt model at cell = lineAttributes cell (pairsOf (attributesOf (recordsFrom 0 at (drop at model))))
+
+-- the first of these line attributes is under way
+unfoldable pub underwayOf : Underway → List LineAttribute → meaning.Due
+underwayOf u [] = meaning.objectOf (u .here .table)
+underwayOf u (a ∷ others) = meaning.lineOf (record { table = u .here .table; state = lineStateOf (u .state); first = u .first; attribute = a; others = others })
+
+unfoldable pub dueOf : (model : List ℕ) → Due → meaning.Due
+dueOf model Opening = meaning.opening
+dueOf model Description = meaning.description
+dueOf model Transfer = meaning.transfer
+dueOf model ModelName = meaning.modelName
+dueOf model (TopicFrom s) = meaning.topicFrom (s .topics)
+dueOf model (TableFrom from s) = meaning.tableFrom (s .topics - 1) from
+dueOf model (ObjectOf t) = meaning.objectOf (t .table)
+dueOf model (LineOf u) = underwayOf u (linesAt model (u .at) (u .cell))
+dueOf model Closing = meaning.closing
+dueOf model Nothing = meaning.nothing
+
+-- ## What a line makes of the state
+
+-- a line that begins a topic or a table adds its mark; there are so many topics
+unfoldable pub markedBy : (topics : ℕ) → Due → Content → Content
+markedBy topics Opening c = c
+markedBy topics Description c = c
+markedBy topics Transfer c = c
+markedBy topics ModelName c = c
+markedBy topics (TopicFrom s) c = c
+markedBy topics (TableFrom from s) c = withMark (s .topics - 1) c
+markedBy topics (ObjectOf t) c = withMark (topics + t .table) c
+markedBy topics (LineOf u) c = c
+markedBy topics Closing c = c
+markedBy topics Nothing c = c
+
+-- behind a line that leaves the table as it is
+abbrev pub movedOf : (model : List ℕ) → Moved → Content → lines.Step
+movedOf model (To due) c = lines.go (dueOf model due) c
+movedOf model (Moved.No number field) c = lines.no number field
+
+-- behind a line that begins a topic or a table, or ends one
+abbrev pub markedOf : (model : List ℕ) (topics : ℕ) → Moved → Content → lines.Step
+markedOf model topics (To due) c = lines.go (dueOf model due) (markedBy topics due c)
+markedOf model topics (Moved.No number field) c = lines.no number field
+
+-- the table so far, in the lent buffers, of so many marks
+abbrev pub contentOf : (markCount : ℕ) → State → (marks rows : List ℕ) (cells points : List ℤ) → Content
+contentOf markCount s marks rows cells points =
+    record { marks = take markCount marks; rows = take (s .rows) rows; cells = take (s .cells) cells; points = take (4 * s .points) points }
+
+abbrev pub stepOf : (model : List ℕ) (markCount : ℕ) → Step → (marks rows : List ℕ) (cells points : List ℤ) → lines.Step
+stepOf model markCount (Go s) marks rows cells points = lines.go (dueOf model (s .due)) (contentOf markCount s marks rows cells points)
+stepOf model markCount (Step.No number field) marks rows cells points = lines.no number field

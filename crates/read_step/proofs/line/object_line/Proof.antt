@@ -1,0 +1,103 @@
+-- `read_step::object_line` meets its contract. Assumes nothing.
+use borrow.Author.Needs.{needs}
+use mathlib.Core.Path.{_∙_}
+use Prim.Native.Nat.{_-_}
+use native.Mathlib.Omega.{arith}
+use Rattle.meaning.specs.Reading.{stretch}
+use Rattle.model_records.specs.Records.{modelAt}
+use Rattle.read_state.specs.Meaning.{contentOf}
+use Rattle.read_step.proofs.Stepping.{behind-within, adds-as, object-here, object-none}
+use Rattle.read_step.proofs.line.object_line.Statement.{statement}
+use Rattle.read_step.proofs.line.object_line.Tie as tie
+
+sub-head-of : tie.Need-sub-head-of
+sub-head-of c = search needs
+
+part-head-of-start : tie.Need-part-head-of-start
+part-head-of-start c = search needs
+
+part-head-of-end : tie.Need-part-head-of-end
+part-head-of-end c = search needs
+
+head-of-requires : tie.Need-head-of-requires
+head-of-requires c κs = search needs
+
+sub-behind-objects : tie.Need-sub-behind-objects
+sub-behind-objects c = search needs
+
+part-behind-objects-start : tie.Need-part-behind-objects-start
+part-behind-objects-start c = search needs
+
+part-behind-objects-end : tie.Need-part-behind-objects-end
+part-behind-objects-end c = search needs
+
+behind-objects-requires : tie.Need-behind-objects-requires
+behind-objects-requires c κs = search needs
+
+plain-step-requires : tie.Need-plain-step-requires
+plain-step-requires c κs = search needs
+
+returns : tie.Need-returns
+returns c =
+    let a = c .before .before .before .before .before .before .before .before .before .before .before .args in
+    let b = a .model .now in
+    let l = stretch (a .text .now) (a .at) (a .end - a .at) in
+    let h = c .before .before .before .before .before .head-of in
+    let m = c .before .behind-objects in
+    let p = c .plain-step in
+    record {
+      step = λ k rooms marks points er ec fits.
+          let x = contentOf k (a .s) marks (a .rows .now) (a .cells .now) points in
+          p .ensures .0 b k marks (a .rows .now) (a .cells .now) points
+          ∙ m .ensures .0 rooms (a .text .now) (a .at) x
+          ∙ object-none (modelAt b) rooms (a .text .now) l (h .result) (h .ensures) (a .here .table) (a .at) x (c .before .before .before .if1 .taken);
+      holds = λ marks points g. p .ensures .1 b (a .text .now) (a .seed) marks (a .rows .now) (a .cells .now) points (a .index .now) (m .ensures .1) g;
+    }
+
+object-fields-requires : tie.Need-object-fields-requires
+object-fields-requires c κs =
+    let q = c .before .before .before .before .before .before .before .before .before .before .before in
+    let a = q .args in
+    let p = q .pre in
+    let h = c .before .before .before .before .before .head-of in
+    let e = c .before .before .before .if1 .left in
+    (p .0, ((behind-within (a .text .now) (a .at) (a .end) (h .result .behind) (p .1 .0 .0) (p .1 .0 .1) (h .ensures .within), p .1 .0 .1, p .1 .0 .2), (p .1 .1 .0, ((h .ensures .some (omega (arith, e)) (a .at), h .ensures .others (a .at)), p .1 .1 .1))))
+
+same-length : tie.Need-same-length
+same-length c = search needs
+
+same-length-2 : tie.Need-same-length-2
+same-length-2 c = search needs
+
+same-length-3 : tie.Need-same-length-3
+same-length-3 c = search needs
+
+returns-2 : tie.Need-returns-2
+returns-2 c =
+    let a = c .before .before .before .before .before .before .before .before .before .before .before .before .before .before .before .before .before .args in
+    let b = a .model .now in
+    let l = stretch (a .text .now) (a .at) (a .end - a .at) in
+    let h = c .before .before .before .before .before .before .before .before .before .before .before .head-of in
+    let e = c .before .before .before .before .before .before .before .before .before .if1 .left in
+    adds-as b (a .text .now) (a .seed) (a .s) _ _ (a .rows .now) _ (a .cells .now) _ (a .index .now) _ _ (λ rooms x. object-here (modelAt b) rooms (a .text .now) l (h .result) (h .ensures) (a .here .table) (a .at) x e)
+    (c .before .before .before .before .before .object-fields .ensures)
+
+pub object-line-spec : {M : Type 1} → statement M
+object-line-spec =
+    tie.close
+    (tie.spec
+    sub-head-of
+    part-head-of-start
+    part-head-of-end
+    head-of-requires
+    sub-behind-objects
+    part-behind-objects-start
+    part-behind-objects-end
+    behind-objects-requires
+    plain-step-requires
+    returns
+    object-fields-requires
+    same-length
+    same-length-2
+    same-length-3
+    returns-2)

@@ -1,0 +1,133 @@
+-- `read_text::tables::read_table` meets its contract. Assumes nothing.
+use borrow.Author.Needs.{needs}
+use Prim.Native.Nat.{ℕ}
+use mathlib.Core.Path.{refl, sym, ap, _∙_}
+use lib.ListN.{replicate}
+use Rattle.meaning.specs.Reading.{startOf}
+use Rattle.meaning.specs.Lines.{readLines}
+use Rattle.model_records.specs.Records.{modelAt}
+use Rattle.read_text.specs.Text.{linesOf}
+use Rattle.read_step.specs.Steps.{roomsOf}
+use Rattle.read_text.proofs.Referring.{stopped-read, ran-read, ran-stopped, all-read}
+use Rattle.read_text.proofs.tables.read_table.Statement.{statement}
+use Rattle.read_text.proofs.tables.read_table.Tie as tie
+
+clear-requires : tie.Need-clear-requires
+clear-requires c κs = search needs
+
+clear-requires-2 : tie.Need-clear-requires-2
+clear-requires-2 c κs = search needs
+
+undefined-of-requires : tie.Need-undefined-of-requires
+undefined-of-requires c κs = search needs
+
+read-lines-requires : tie.Need-read-lines-requires
+read-lines-requires c κs =
+    let a = c .before .before .before .before .before .before .before .before .before .before .before .before .before .before .before .before .before .before .before .before in
+    let k = c .before .before .before .before .before .before .before .before .before .before .before .before .clear in
+    let i = c .before .before .before .before .before .before .before .before .clear2 in (
+      record {
+        good = a .pre .0;
+        undefinedByte = c .before .before .before .before .before .undefined-of .ensures;
+        topicCount = a .pre .1 .0 .0;
+        markCount = k .kept .0 ∙ a .pre .1 .0 .1;
+      },
+      (a .pre .1 .1 .0, (k .ensures ∙ ap (λ (n : ℕ). replicate n 0) (sym (k .kept .0)), i .ensures ∙ ap (λ (n : ℕ). replicate n 0) (sym (i .kept .0)))),
+    )
+
+enum-known-ran : tie.Need-enum-known-ran
+enum-known-ran c = search needs
+
+enum-known-ran-2 : tie.Need-enum-known-ran-2
+enum-known-ran-2 c = search needs
+
+resolve-all-requires : tie.Need-resolve-all-requires
+resolve-all-requires c κs =
+    let a = c .before .before .before .before .before .before .before .before .before .before .before .before .before .before .before .before .before .before .before .before .before .before .before .before .before .before .before .before .before .before .before .before .before .before .before .args in
+    let l = c .before .before .before .before .before .before .before .before .before .before .before .before .before .before .read-lines in
+    let rooms = roomsOf (a .text .now) (a .marks .now) (a .rows .now) (a .cells .now) (a .points .now) in
+    let h = ran-read (a .model .now) (a .text .now) (a .seed) (l .last .1 .1 .1 .1 .0) (l .last .1 .1 .1 .1 .1 .0) (l .last .1 .1 .1 .1 .1 .1 .0) (l .last .1 .1 .1 .1 .1 .1 .1 .0) (l .last .1 .1 .1 .1 .1 .1 .1 .1 .0) (readLines (modelAt (a .model .now)) rooms (a .text .now) (startOf (modelAt (a .model .now))) (linesOf (a .text .now))) (l .result) _ (c .before .before .before .before .ran2 .given .1) (l .ensures rooms refl refl refl) in
+    (h .holds .objects, (h .holds .laid, c .before .before .before .before .before .before .before .before .before .before .before .before .before .before .before .before .before .before .before .before .before .before .before .before .before .before .before .before .before .before .before .before .before .before .before .pre .1 .1 .1))
+
+same-length : tie.Need-same-length
+same-length c = search needs
+
+same-length-2 : tie.Need-same-length-2
+same-length-2 c = search needs
+
+same-length-3 : tie.Need-same-length-3
+same-length-3 c = search needs
+
+same-length-4 : tie.Need-same-length-4
+same-length-4 c = search needs
+
+same-length-5 : tie.Need-same-length-5
+same-length-5 c = search needs
+
+returns : tie.Need-returns
+returns c =
+    let a = c .before .before .before .before .before .before .before .before .before .before .before .before .before .before .before .before .before .before .before .before .before .before .before .before .before .before .before .before .before .before .before .before .args in
+    let l = c .before .before .before .before .before .before .before .before .before .before .before .read-lines in (
+      λ rooms er ec ep. stopped-read (modelAt (a .model .now)) rooms (a .text .now) _ _ _ _
+          (ran-stopped (a .model .now) (a .text .now) (a .seed) (l .last .1 .1 .1 .1 .0) (l .last .1 .1 .1 .1 .1 .0) (l .last .1 .1 .1 .1 .1 .1 .0) (l .last .1 .1 .1 .1 .1 .1 .1 .0) (l .last .1 .1 .1 .1 .1 .1 .1 .1 .0) (readLines (modelAt (a .model .now)) rooms (a .text .now) (startOf (modelAt (a .model .now))) (linesOf (a .text .now))) (l .result) _ _ _ (c .before .ran .given .1) (l .ensures rooms er ec ep)),
+      tt,
+    )
+
+same-length-6 : tie.Need-same-length-6
+same-length-6 c = c .before .before .before .before .before .before .before .before .before .before .before .before .before .before .before .before .read-lines .kept .1 .1 .1 .1 .0 ∙ c .before .before .before .before .before .before .before .before .before .before .before .before .before .before .before .before .before .before .before .before .before .before .before .before .before .before .before .before .before .clear .kept .0
+
+same-length-7 : tie.Need-same-length-7
+same-length-7 c = search needs
+
+same-length-8 : tie.Need-same-length-8
+same-length-8 c = search needs
+
+same-length-9 : tie.Need-same-length-9
+same-length-9 c = search needs
+
+same-length-10 : tie.Need-same-length-10
+same-length-10 c = search needs
+
+returns-2 : tie.Need-returns-2
+returns-2 c =
+    let a = c .before .before .before .before .before .before .before .before .before .before .before .before .before .before .before .before .before .before .before .before .before .before .before .before .before .before .before .before .before .before .before .before .before .before .before .before .before .args in
+    let l = c .before .before .before .before .before .before .before .before .before .before .before .before .before .before .before .before .read-lines in
+    let s = c .before .before .before .before .before .before .ran2 .given .0 .0 in
+    let f = c .before .resolve-all in
+    let marks = l .last .1 .1 .1 .1 .0 in
+    let rows = l .last .1 .1 .1 .1 .1 .0 in
+    let cells = l .last .1 .1 .1 .1 .1 .1 .0 in
+    let points = l .last .1 .1 .1 .1 .1 .1 .1 .0 in
+    let index = l .last .1 .1 .1 .1 .1 .1 .1 .1 .0 in
+    let whole = roomsOf (a .text .now) (a .marks .now) (a .rows .now) (a .cells .now) (a .points .now) in
+    let k = ran-read (a .model .now) (a .text .now) (a .seed) marks rows cells points index (readLines (modelAt (a .model .now)) whole (a .text .now) (startOf (modelAt (a .model .now))) (linesOf (a .text .now))) (l .result) s (c .before .before .before .before .before .before .ran2 .given .1) (l .ensures whole refl refl refl) in (
+      λ rooms er ec ep.
+          let run = readLines (modelAt (a .model .now)) rooms (a .text .now) (startOf (modelAt (a .model .now))) (linesOf (a .text .now)) in
+          let h = ran-read (a .model .now) (a .text .now) (a .seed) marks rows cells points index run (l .result) s (c .before .before .before .before .before .before .ran2 .given .1) (l .ensures rooms er ec ep) in
+          all-read (a .model .now) (a .text .now) (a .seed) marks rows cells points index run rooms s h (f .last .1 .1 .1 .1 .0) (f .result) (f .ensures .0 rooms marks points (h .holds .pointsFit)),
+      f .ensures .1 points (k .holds .pointsFit),
+    )
+
+pub read-table-spec : {M : Type 1} → statement M
+read-table-spec =
+    tie.close
+    (tie.spec
+    clear-requires
+    clear-requires-2
+    undefined-of-requires
+    read-lines-requires
+    enum-known-ran
+    enum-known-ran-2
+    resolve-all-requires
+    same-length
+    same-length-2
+    same-length-3
+    same-length-4
+    same-length-5
+    returns
+    same-length-6
+    same-length-7
+    same-length-8
+    same-length-9
+    same-length-10
+    returns-2)

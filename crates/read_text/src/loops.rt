@@ -1,0 +1,96 @@
+// The lines of an unfolded text in order.
+ghost use mathlib.Core.Path.{_≡_};
+ghost use Prim.Native.Nat.{_<_, _^_};
+ghost use lib.ListN.{length, replicate};
+ghost use Rattle.meaning.specs.Reading.{startOf, Rooms};
+ghost use Rattle.meaning.specs.Lines.{readLines};
+ghost use Rattle.model_records.specs.Records.{modelAt};
+ghost use Rattle.read_text.specs.Text.{linesOf};
+ghost use Rattle.read_step.specs.Steps as line;
+ghost use Rattle.read_text.specs.Outcomes.{EndsAs, RanTo};
+use crate::ends;
+use read_state::Due;
+use read_state::State;
+use read_state::Step;
+
+// The state behind the last line; or the first refusal, its line and its field.
+pub enum Ran {
+    Read(State),
+    Stopped(u8, usize, usize),
+}
+
+// 7 where a line is still due behind the last one.
+fn at_end(s: State, line: usize) -> Ran
+    ensures { λ r. ⌜ EndsAs s line r ⌝ }
+{
+    let due = s.due;
+    match due {
+        Due::Opening => Ran::Stopped(7, line, 1),
+        Due::Description => Ran::Stopped(7, line, 1),
+        Due::Transfer => Ran::Stopped(7, line, 1),
+        Due::ModelName => Ran::Stopped(7, line, 1),
+        Due::TopicFrom(_) => Ran::Stopped(7, line, 1),
+        Due::TableFrom(_, _) => Ran::Stopped(7, line, 1),
+        Due::ObjectOf(_) => Ran::Stopped(7, line, 1),
+        Due::LineOf(_) => Ran::Stopped(7, line, 1),
+        Due::Closing => Ran::Stopped(7, line, 1),
+        Due::Nothing => Ran::Read(s),
+    }
+}
+
+// Every line, from the first on, into buffers whose marks and index are zeros.
+pub fn read_lines(
+    model: &[u8],
+    text: &[u8],
+    undefined: u8,
+    topics: usize,
+    marks: &mut [u8],
+    rows: &mut [u64],
+    cells: &mut [i64],
+    points: &mut [i64],
+    index: &mut [u64],
+    seed: u64,
+) -> Ran
+    requires { ⌜ line.Model (now model) undefined topics (now marks) ⌝ }
+    requires { ⌜ length (now text) < 2 ^ 62 ⌝ }
+    requires { ⌜ (now marks ≡ replicate (length (now marks)) 0) × (now index ≡ replicate (length (now index)) 0) ⌝ }
+    ensures { λ r. ⌜ ((rooms : Rooms) → rooms .rows ≡ length (now (rows .entry)) → rooms .cells ≡ length (now (cells .entry)) → rooms .points ≡ length (now (points .entry)) → RanTo (now (model .entry)) (now (text .entry)) seed (now (marks .exit)) (now (rows .exit)) (now (cells .exit)) (now (points .exit)) (now (index .exit)) (readLines (modelAt (now (model .entry))) rooms (now (text .entry)) (startOf (modelAt (now (model .entry)))) (linesOf (now (text .entry)))) r) ⌝ }
+{
+    let mut s = State {
+        due: Due::Opening,
+        rows: 0,
+        cells: 0,
+        points: 0,
+    };
+    let mut line = 1;
+    let mut at = 0;
+    while at < text.len() {
+        let end = ends::end_of_line(text, at);
+        let step = read_step::line::step_line(
+            model,
+            text,
+            at,
+            end,
+            undefined,
+            topics,
+            marks,
+            rows,
+            cells,
+            points,
+            index,
+            seed,
+            s,
+        );
+        match step {
+            Step::Go(next) => {
+                s = next;
+            }
+            Step::No(number, field) => {
+                return Ran::Stopped(number, line, field);
+            }
+        }
+        line += 1;
+        at = end + 1;
+    }
+    at_end(s, line)
+}

@@ -1,2 +1,0 @@
-// A row: from the fields of an OBJE line to its cells.
-pub mod rows;

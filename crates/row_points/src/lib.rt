@@ -1,2 +1,0 @@
-// A point of a line: from the fields of its line to its cells.
-pub mod points;

@@ -1,0 +1,62 @@
+// The writer: the lines of a lent table, put into a lent room.
+ghost use mathlib.Core.Path.{_≡_};
+ghost use lib.ListN.{length, replicate};
+ghost use Rattle.meaning.specs.Width as meaning;
+ghost use Rattle.write_judge.specs.Tables.{lentOf};
+ghost use Rattle.write.specs.Answers.{answerOf};
+use model_check::check::Checked;
+
+pub mod writing;
+
+// So many bytes are written; or a refusal, and the byte of the model's first bad record.
+pub enum Answer {
+    Written(usize),
+    Refused(u8, usize),
+}
+
+// Writes a lent table under a model, at a width, into a room; "In writing: 2, 20, 19, 21". The index is working room and comes back as zeros.
+pub fn write(
+    model: &[u8],
+    text: &[u8],
+    marks: &[u8],
+    rows: &[u64],
+    cells: &[i64],
+    points: &[i64],
+    objects: usize,
+    cells_used: usize,
+    points_used: usize,
+    width: usize,
+    out: &mut [u8],
+    index: &mut [u64],
+    seed: u64,
+) -> Answer
+    ensures answer { λ r. ⌜ answerOf r ≡ meaning.write (now (model .entry)) (lentOf (now (text .entry)) (now (marks .entry)) (now (rows .entry)) (now (cells .entry)) (now (points .entry)) objects «cells_used» «points_used») width (length (now (out .entry))) .answer ⌝ }
+    ensures output { λ _. ⌜ now (out .exit) ≡ meaning.write (now (model .entry)) (lentOf (now (text .entry)) (now (marks .entry)) (now (rows .entry)) (now (cells .entry)) (now (points .entry)) objects «cells_used» «points_used») width (length (now (out .entry))) .output ⌝ }
+    ensures index { λ _. ⌜ now (index .exit) ≡ replicate (length (now (index .entry))) 0 ⌝ }
+{
+    match model_check::check::check(model) {
+        Checked::Bad(at) => {
+            base::rooms::clear_numbers(index);
+            writing::refuse(2, at, out)
+        }
+        Checked::Good(_) => {
+            let answer = writing::write_under(
+                model,
+                text,
+                marks,
+                rows,
+                cells,
+                points,
+                objects,
+                cells_used,
+                points_used,
+                width,
+                out,
+                index,
+                seed,
+            );
+            base::rooms::clear_numbers(index);
+            answer
+        }
+    }
+}

@@ -1,0 +1,68 @@
+-- `write_file::behind_topic` meets its contract. Assumes nothing.
+use Prim.Native.Nat.{ℕ, _-_}
+use mathlib.Core.Path.{sym, ap, _∙_}
+use lib.ListN.{length, getD}
+use denote.Ref.{now}
+use Rattle.write_file.proofs.Topics.{TopicRun, topic-start, topic-on, topic-stop, topic-end}
+use borrow.Author.Needs.{needs}
+use native.Mathlib.Omega.{arith}
+use Rattle.write_file.proofs.file.behind_topic.Statement.{statement}
+use Rattle.write_file.proofs.file.behind_topic.Tie as tie
+
+abbrev Inv-loop : tie.InvT-loop
+Inv-loop tables rows cells p row i₀ i =
+    TopicRun tables p cells rows row i
+
+abbrev μ-loop : tie.MeasureT-loop
+μ-loop tables rows cells p row i₀ i = length rows - i
+
+loop-holds : tie.Need-loop-holds Inv-loop μ-loop
+loop-holds c = topic-start _ _ _ _ _ (c .before .before .pre)
+
+mul-table-of : tie.Need-mul-table-of Inv-loop μ-loop
+mul-table-of c = omega arith
+
+shared-slice-read-table-of : tie.Need-shared-slice-read-table-of Inv-loop μ-loop
+shared-slice-read-table-of c = omega arith
+
+table-of-requires : tie.Need-table-of-requires Inv-loop μ-loop
+table-of-requires c κs = search needs
+
+topic-of-requires : tie.Need-topic-of-requires Inv-loop μ-loop
+topic-of-requires c κs = search needs
+
+returns : tie.Need-returns Inv-loop μ-loop
+returns c = let a = c .before .before .before .before .before .before .before .before .args in
+    let k = c .before .topic-of .ensures ∙ ap (λ (t : ℕ). getD (now (a .tables)) t 0) (c .before .before .table-of .ensures) in
+    topic-stop _ _ _ _ _ _ (c .before .before .before .before .before .loop .inv) (c .before .before .before .before .loop-test .taken) (λ e. c .if1 .taken (k ∙ e))
+
+add-i : tie.Need-add-i Inv-loop μ-loop
+add-i c = omega arith
+
+loop-less : tie.Need-loop-less Inv-loop μ-loop
+loop-less c = omega arith
+
+loop-again : tie.Need-loop-again Inv-loop μ-loop
+loop-again c = let a = c .before .before .before .before .before .before .before .before .args in
+    let k = c .before .topic-of .ensures ∙ ap (λ (t : ℕ). getD (now (a .tables)) t 0) (c .before .before .table-of .ensures) in
+    topic-on _ _ _ _ _ _ (c .before .before .before .before .before .loop .inv) (c .before .before .before .before .loop-test .taken) (sym k ∙ c .if1 .left)
+
+returns-2 : tie.Need-returns-2 Inv-loop μ-loop
+returns-2 c = topic-end _ _ _ _ _ _ (c .before .loop .inv) (c .loop-test .left)
+
+pub behind-topic-spec : {M : Type 1} → statement M
+behind-topic-spec =
+    tie.close
+    (tie.spec
+    Inv-loop
+    μ-loop
+    loop-holds
+    mul-table-of
+    shared-slice-read-table-of
+    table-of-requires
+    topic-of-requires
+    returns
+    add-i
+    loop-less
+    loop-again
+    returns-2)

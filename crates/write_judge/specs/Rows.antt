@@ -1,0 +1,55 @@
+-- What judging rows needs and answers. Short names: m the model, b its bytes, o an object's number, p the place of its row.
+use Prim.Native.Nat.{ℕ, _+_, _*_, _≤_}
+use mathlib.Core.Path.{_≡_}
+use mathlib.Core.Bool.{Bool, false, not, _&&_}
+use mathlib.Core.List.{List, [], _∷_}
+use lib.Dec.{eqb}
+use lib.IntN.{ℤ, pos}
+use lib.Signed.{ltZ}
+use lib.ListN.{length, getD, take, drop}
+use Rattle.meaning.specs.Bytes.{allOf}
+use Rattle.meaning.specs.Model.{Model}
+use Rattle.meaning.specs.Reading.{cellAt}
+use Rattle.meaning.specs.Judge.{judgeStretch, judgeRows}
+use Rattle.table_index.specs.Holds.{Known}
+use Rattle.read_references.specs.Placed.{Placed}
+use Rattle.write_judge.specs.Marks.{MarksFor}
+use Rattle.write_judge.specs.Meant.{contentFrom}
+use Rattle.write_judge.specs.declared.rows.Place.{Place}
+use Rattle.write_judge.specs.declared.rows.Judged.{Judged}
+use Rattle.write_judge.specs.declared.rows.Judged.the-variants.{On, No}
+
+-- where the attribute records of each table begin, and a mark for each topic and each table
+pub record Judging (m : Model) (b : List ℕ) (topics tables : ℕ) (places marks : List ℕ) : Type 0 where
+  pub placed : Placed m b places
+  pub placesFit : length (m .tables) ≤ length places
+  pub tables-are : tables ≡ length (m .tables)
+  pub marksFor : MarksFor m topics marks
+
+-- the first three rules of a row: its table is no earlier than the one before, is one of the model's, and is delivered
+unfoldable pub tableTests : (marks : List ℕ) → List ℤ → (topics tables least at : ℕ) → Bool
+tableTests marks cells topics tables least at = allOf
+    (not (ltZ (getD cells at (pos 0)) (pos least))
+    ∷ ltZ (getD cells at (pos 0)) (pos tables)
+    ∷ not (eqb (getD marks (topics + cellAt cells at) 0) 0)
+    ∷ [])
+
+-- the rules of its identification but that it is unique
+unfoldable pub nameTests : (text : List ℕ) → List ℤ → (u at : ℕ) → Bool
+nameTests text cells u at = not (ltZ (getD cells (at + 2) (pos 0)) (pos 1)) && judgeStretch u text (getD cells (at + 1) (pos 0)) (cellAt cells (at + 2))
+
+-- the rows before object o are fine: they can be looked for, and its row may start at this place
+pub record AtRow (seed : ℕ) (text rows : List ℕ) (cells points : List ℤ) (index : List ℕ) (o : ℕ) (p : Place) : Type 0 where
+  pub known : Known seed text rows cells index o
+  pub cellsFit : p .at ≤ length cells
+  pub pointsFit : 4 * p .points ≤ length points
+
+-- the judge of the rows from that of object o on
+unfoldable pub rowsFrom : Model → (text marks rows : List ℕ) (cells points : List ℤ) (o : ℕ) → Place → Bool
+rowsFrom m text marks rows cells points o p =
+    judgeRows m text (contentFrom marks rows cells points) (p .least) (p .at) (p .points) (take o rows) (drop o rows)
+
+-- a row is fine, and the next one's place says what the row's place said; or it is not fine
+abbrev pub Turned : (whole : Bool) (next : Place → Bool) (Holds : Place → Type 0) → Judged → Type 0
+Turned whole next Holds (On p) = (next p ≡ whole) × Holds p
+Turned whole next Holds No = false ≡ whole

@@ -1,0 +1,128 @@
+// The judge of a lent table: "row list, cells, points and marks must be exactly those of a reading".
+ghost use mathlib.Core.Path.{_≡_};
+ghost use mathlib.Core.List.{[], _∷_};
+ghost use Prim.Native.Nat.{_*_};
+ghost use lib.Dec.{leb};
+ghost use Rattle.meaning.specs.Bytes.{allOf};
+ghost use Rattle.meaning.specs.Check.{good, checkModel};
+ghost use Rattle.meaning.specs.Judge as meaning;
+ghost use Rattle.model_records.specs.Records.{modelAt};
+ghost use Rattle.model_records.specs.Standing.{Standing};
+ghost use Rattle.write_judge.specs.Meant.{contentFrom};
+ghost use Rattle.write_judge.specs.Rows.{Judging};
+ghost use Rattle.write_judge.specs.Tables.{lentOf, judgeUsed};
+use crate::marks;
+use crate::rows;
+use base::bools;
+
+// "A count above a lent length .. is 19": counts beside lengths; a point is four cells.
+fn counts_fit(
+    count: usize,
+    marks: usize,
+    objects: usize,
+    rows: usize,
+    cells_used: usize,
+    cells: usize,
+    points_used: usize,
+    points: usize,
+) -> bool
+    ensures { λ r. ⌜ r ≡ allOf (leb count marks ∷ leb objects rows ∷ leb «cells_used» cells ∷ leb (4 * «points_used») points ∷ []) ⌝ }
+{
+    let few = bools::both(cells_used <= cells, points_used <= points / 4);
+    bools::both(count <= marks, bools::both(objects <= rows, few))
+}
+
+// A table whose buffers are exactly what is used of them.
+fn judge_used(
+    model: &[u8],
+    first: usize,
+    text: &[u8],
+    places: &[usize],
+    topics: usize,
+    tables: usize,
+    marks: &[u8],
+    rows: &[u64],
+    cells: &[i64],
+    points: &[i64],
+    index: &mut [u64],
+    seed: u64,
+) -> bool
+    requires { ⌜ checkModel (now model) ≡ good (modelAt (now model)) ⌝ }
+    requires { ⌜ Standing (modelAt (now model)) (now model) first 0 0 ⌝ }
+    requires { ⌜ Judging (modelAt (now model)) (now model) topics tables (now places) (now marks) ⌝ }
+    ensures { λ r. ⌜ r ≡ judgeUsed (modelAt (now (model .entry))) (now (text .entry)) (contentFrom (now (marks .entry)) (now (rows .entry)) (now (cells .entry)) (now (points .entry))) ⌝ }
+{
+    if !marks::are_marks(marks) {
+        return false;
+    }
+    if !marks::judge_tables(model, first, topics, marks) {
+        return false;
+    }
+    table_index::clear(index);
+    rows::judge_rows(
+        model,
+        text,
+        model_records::undefined_of(model),
+        places,
+        topics,
+        tables,
+        marks,
+        rows,
+        cells,
+        points,
+        index,
+        seed,
+    )
+}
+
+// Whether some lines read as a table in buffers of any lengths, with any counts of objects, cells and points, under a good model.
+// The index is working room: what it holds does not matter, and is not told.
+pub fn judge(
+    model: &[u8],
+    text: &[u8],
+    marks: &[u8],
+    rows: &[u64],
+    cells: &[i64],
+    points: &[i64],
+    objects: usize,
+    cells_used: usize,
+    points_used: usize,
+    index: &mut [u64],
+    seed: u64,
+) -> bool
+    requires { ⌜ checkModel (now model) ≡ good (modelAt (now model)) ⌝ }
+    ensures { λ r. ⌜ r ≡ meaning.judge (modelAt (now (model .entry))) (lentOf (now (text .entry)) (now (marks .entry)) (now (rows .entry)) (now (cells .entry)) (now (points .entry)) objects «cells_used» «points_used») ⌝ }
+{
+    let mut places: [usize; 512] = [0; 512];
+    let first = model_records::first_record(model);
+    let topics = marks::count_topics(model, first);
+    let tables = read_references::places::place_tables(model, first, &mut places);
+    let count = topics + tables;
+    if !counts_fit(
+        count,
+        marks.len(),
+        objects,
+        rows.len(),
+        cells_used,
+        cells.len(),
+        points_used,
+        points.len(),
+    ) {
+        return false;
+    }
+    let end = 4 * points_used;
+    judge_used(
+        model,
+        first,
+        text,
+        &places,
+        topics,
+        tables,
+        &marks[..count],
+        &rows[..objects],
+        &cells[..cells_used],
+        &points[..end],
+        index,
+        seed,
+    )
+}

@@ -1,0 +1,324 @@
+// Rows: "An object's row: table number, start and length of the identification in the unfolded text", then its pairs.
+ghost use mathlib.Core.Path.{_≡_};
+ghost use mathlib.Core.Bool.{true, not, _&&_};
+ghost use mathlib.Core.List.{[]};
+ghost use Prim.Native.Nat.{_+_, _*_, _≤_, _<_};
+ghost use lib.Dec.{leb};
+ghost use lib.IntN.{pos};
+ghost use lib.Signed.{ltZ};
+ghost use lib.ListN.{length, getD, take, replicate};
+ghost use Rattle.meaning.specs.Bytes.{choose};
+ghost use Rattle.meaning.specs.Reading.{objectsOf, isUsed};
+ghost use Rattle.meaning.specs.Judge.{rowEnd, judgeRow, judgeRows};
+ghost use Rattle.model_records.specs.Records.{modelAt, pairsAt};
+ghost use Rattle.table_index.specs.Objects.{identificationOf, Row};
+ghost use Rattle.table_index.specs.Holds.{Known};
+ghost use Rattle.read_references.specs.Resolved.{pairCount};
+ghost use Rattle.write_judge.specs.Meant.{contentFrom, AttributesHere};
+ghost use Rattle.write_judge.specs.Rows.{Judging, AtRow, tableTests, nameTests, rowsFrom, Turned};
+use crate::cells;
+use crate::pairs;
+use crate::pairs::Fine;
+
+// Where the next row has to start, the count of points before it, and the least table that it may be of.
+pub struct Place {
+    pub least: usize,
+    pub at: usize,
+    pub points: usize,
+}
+
+// A row is fine, and the next one has its place; or it is not fine.
+pub enum Judged {
+    On(Place),
+    No,
+}
+
+// How many pairs an attribute has, by its type's number.
+fn pairs_of(kind: u8) -> usize
+    ensures { λ r. ⌜ r ≡ pairCount kind ⌝ }
+{
+    match kind {
+        2 => 2,
+        3 => 3,
+        _ => 1,
+    }
+}
+
+// The count of pairs of a row, whose table's attribute records begin at the byte `first`.
+pub fn count_pairs(model: &[u8], first: usize) -> usize
+    requires { ⌜ AttributesHere (modelAt (now model)) (now model) first ⌝ }
+    ensures { λ r. ⌜ r ≡ length (pairsAt (now (model .entry)) first) ⌝ }
+{
+    let mut at = first;
+    let mut pairs = 0;
+    loop {
+        let kind = model_records::kind_at(model, at);
+        if kind != 5 {
+            return pairs;
+        }
+        pairs += pairs_of(model[at + 5]);
+        at = model_records::next_at(model, at);
+    }
+}
+
+// Is a cell below a number?
+fn is_below_at(cells: &[i64], cell: usize, n: usize) -> bool
+    requires { ⌜ cell < length (now cells) ⌝ }
+    ensures { λ r. ⌜ r ≡ ltZ (getD (now (cells .entry)) cell (pos 0)) (pos n) ⌝ }
+{
+    cells::is_below(cells[cell], n)
+}
+
+// The row's table: no earlier than the one before, and delivered.
+fn judge_table(
+    cells: &[i64],
+    at: usize,
+    least: usize,
+    topics: usize,
+    tables: usize,
+    marks: &[u8],
+) -> bool
+    requires { ⌜ at < length (now cells) ⌝ }
+    requires { ⌜ topics + tables ≤ length (now marks) ⌝ }
+    ensures { λ r. ⌜ r ≡ tableTests (now (marks .entry)) (now (cells .entry)) topics tables least at ⌝ }
+{
+    if is_below_at(cells, at, least) {
+        return false;
+    }
+    if !is_below_at(cells, at, tables) {
+        return false;
+    }
+    marks[topics + read_references::pairs::size_at(cells, at)] != 0
+}
+
+// The cell behind the row, where it is of a table that may come here and lies within the cells; else 0.
+fn end_of_row(
+    model: &[u8],
+    places: &[usize],
+    topics: usize,
+    tables: usize,
+    marks: &[u8],
+    cells: &[i64],
+    at: usize,
+    least: usize,
+) -> usize
+    requires { ⌜ Judging (modelAt (now model)) (now model) topics tables (now places) (now marks) ⌝ }
+    requires { ⌜ at ≤ length (now cells) ⌝ }
+    ensures { λ r. ⌜ r ≡ choose (tableTests (now (marks .entry)) (now (cells .entry)) topics tables least at && leb (rowEnd (modelAt (now (model .entry))) (now (cells .entry)) at) (length (now (cells .entry)))) (rowEnd (modelAt (now (model .entry))) (now (cells .entry)) at) 0 ⌝ }
+{
+    if cells.len() - at < 3 {
+        return 0;
+    }
+    if !judge_table(cells, at, least, topics, tables, marks) {
+        return 0;
+    }
+    let table = read_references::pairs::size_at(cells, at);
+    let pairs = count_pairs(model, places[table]);
+    if (cells.len() - at - 3) / 2 < pairs {
+        return 0;
+    }
+    at + 3 + 2 * pairs
+}
+
+// The row's identification is one, and lies in the text.
+fn judge_name(text: &[u8], undefined: u8, cells: &[i64], at: usize) -> bool
+    requires { ⌜ at + 2 < length (now cells) ⌝ }
+    ensures { λ r. ⌜ r ≡ nameTests (now (text .entry)) (now (cells .entry)) undefined at ⌝ }
+{
+    if is_below_at(cells, at + 2, 1) {
+        return false;
+    }
+    let size = read_references::pairs::size_at(cells, at + 2);
+    cells::judge_stretch(text, undefined, cells[at + 1], size)
+}
+
+// "identifications are unique in the file": this object's is not used by the objects before, and goes into the index.
+fn add_name(
+    text: &[u8],
+    rows: &[u64],
+    cells: &[i64],
+    index: &mut [u64],
+    seed: u64,
+    object: usize,
+) -> bool
+    requires { ⌜ Known seed (now text) (now rows) (now cells) (now index) object ⌝ }
+    requires { ⌜ (object < length (now rows)) × Row (now text) (now cells) (getD (now rows) object 0) ⌝ }
+    ensures unused { λ r. ⌜ r ≡ not (isUsed (identificationOf (now (text .entry)) (now (rows .entry)) (now (cells .entry)) object) (objectsOf (now (text .entry)) (now (cells .entry)) (take object (now (rows .entry))))) ⌝ }
+    ensures known { λ r. ⌜ (r ≡ true → Known seed (now (text .entry)) (now (rows .entry)) (now (cells .entry)) (now (index .exit)) (object + 1)) ⌝ }
+{
+    let row = rows[object] as usize;
+    let start = read_references::pairs::size_at(cells, row + 1);
+    let end = start + read_references::pairs::size_at(cells, row + 2);
+    let hash = table_index::hash(&text[start..end], seed);
+    let used = table_index::is_used(
+        text,
+        rows,
+        cells,
+        index,
+        object,
+        seed,
+        hash,
+        &text[start..end],
+    );
+    if used {
+        return false;
+    }
+    table_index::insert(index, rows.len(), object, hash);
+    true
+}
+
+// The cell behind the row of this object, where the row is fine up to its pairs; else 0. A fine row goes into the index.
+fn judge_row(
+    model: &[u8],
+    text: &[u8],
+    undefined: u8,
+    places: &[usize],
+    topics: usize,
+    tables: usize,
+    marks: &[u8],
+    rows: &[u64],
+    cells: &[i64],
+    index: &mut [u64],
+    seed: u64,
+    object: usize,
+    at: usize,
+    least: usize,
+) -> usize
+    requires { ⌜ Judging (modelAt (now model)) (now model) topics tables (now places) (now marks) ⌝ }
+    requires { ⌜ undefined ≡ modelAt (now model) .undefined ⌝ }
+    requires { ⌜ Known seed (now text) (now rows) (now cells) (now index) object ⌝ }
+    requires { ⌜ (object < length (now rows)) × (getD (now rows) object 0 ≡ at) × (at ≤ length (now cells)) ⌝ }
+    ensures end { λ r. ⌜ r ≡ choose (judgeRow (modelAt (now (model .entry))) (now (text .entry)) (contentFrom (now (marks .entry)) [] (now (cells .entry)) []) least at (take object (now (rows .entry)))) (rowEnd (modelAt (now (model .entry))) (now (cells .entry)) at) 0 ⌝ }
+    ensures known { λ r. ⌜ (0 < r → Known seed (now (text .entry)) (now (rows .entry)) (now (cells .entry)) (now (index .exit)) (object + 1)) ⌝ }
+{
+    let end = end_of_row(model, places, topics, tables, marks, cells, at, least);
+    if end == 0 {
+        return 0;
+    }
+    if !judge_name(text, undefined, cells, at) {
+        return 0;
+    }
+    if !add_name(text, rows, cells, index, seed, object) {
+        return 0;
+    }
+    end
+}
+
+// The row of this object and its pairs.
+fn judge_object(
+    model: &[u8],
+    text: &[u8],
+    undefined: u8,
+    places: &[usize],
+    topics: usize,
+    tables: usize,
+    marks: &[u8],
+    rows: &[u64],
+    cells: &[i64],
+    points: &[i64],
+    index: &mut [u64],
+    seed: u64,
+    object: usize,
+    place: Place,
+) -> Judged
+    requires { ⌜ Judging (modelAt (now model)) (now model) topics tables (now places) (now marks) ⌝ }
+    requires { ⌜ undefined ≡ modelAt (now model) .undefined ⌝ }
+    requires { ⌜ object < length (now rows) ⌝ }
+    requires { ⌜ AtRow seed (now text) (now rows) (now cells) (now points) (now index) object place ⌝ }
+    ensures { λ r. ⌜ Turned (rowsFrom (modelAt (now (model .entry))) (now (text .entry)) (now (marks .entry)) (now (rows .entry)) (now (cells .entry)) (now (points .entry)) object place) (rowsFrom (modelAt (now (model .entry))) (now (text .entry)) (now (marks .entry)) (now (rows .entry)) (now (cells .entry)) (now (points .entry)) (object + 1)) (AtRow seed (now (text .entry)) (now (rows .entry)) (now (cells .entry)) (now (points .entry)) (now (index .exit)) (object + 1)) r ⌝ }
+{
+    let at = place.at;
+    if rows[object] as usize != at {
+        return Judged::No;
+    }
+    let end = judge_row(
+        model,
+        text,
+        undefined,
+        places,
+        topics,
+        tables,
+        marks,
+        rows,
+        cells,
+        index,
+        seed,
+        object,
+        at,
+        place.least,
+    );
+    if end == 0 {
+        return Judged::No;
+    }
+    let table = read_references::pairs::size_at(cells, at);
+    match pairs::judge_pairs(
+        model,
+        places[table],
+        text,
+        undefined,
+        rows,
+        cells,
+        points,
+        at + 3,
+        place.points,
+    ) {
+        Fine::At(k) => Judged::On(Place {
+            least: table,
+            at: end,
+            points: k,
+        }),
+        Fine::No => Judged::No,
+    }
+}
+
+// All rows, over buffers that are exactly what is used of them, and an index of no object.
+pub fn judge_rows(
+    model: &[u8],
+    text: &[u8],
+    undefined: u8,
+    places: &[usize],
+    topics: usize,
+    tables: usize,
+    marks: &[u8],
+    rows: &[u64],
+    cells: &[i64],
+    points: &[i64],
+    index: &mut [u64],
+    seed: u64,
+) -> bool
+    requires { ⌜ Judging (modelAt (now model)) (now model) topics tables (now places) (now marks) ⌝ }
+    requires { ⌜ undefined ≡ modelAt (now model) .undefined ⌝ }
+    requires { ⌜ now index ≡ replicate (length (now index)) 0 ⌝ }
+    ensures { λ r. ⌜ r ≡ judgeRows (modelAt (now (model .entry))) (now (text .entry)) (contentFrom (now (marks .entry)) (now (rows .entry)) (now (cells .entry)) (now (points .entry))) 0 0 0 [] (now (rows .entry)) ⌝ }
+{
+    let mut place = Place {
+        least: 0,
+        at: 0,
+        points: 0,
+    };
+    let mut object = 0;
+    while object < rows.len() {
+        let judged = judge_object(
+            model,
+            text,
+            undefined,
+            places,
+            topics,
+            tables,
+            marks,
+            rows,
+            cells,
+            points,
+            index,
+            seed,
+            object,
+            place,
+        );
+        let Judged::On(next) = judged else {
+            return false;
+        };
+        place = next;
+        object += 1;
+    }
+    base::bools::both(place.at == cells.len(), 4 * place.points == points.len())
+}

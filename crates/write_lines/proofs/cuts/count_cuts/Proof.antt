@@ -1,0 +1,82 @@
+-- `write_lines::cuts::count_cuts` meets its contract. Assumes nothing.
+use Prim.Native.Nat.{_+_, _*_, _-_, _≤_, _<_}
+use mathlib.Core.Path.{_≡_, _∙_}
+use native.Mathlib.Omega.{arith}
+use denote.Ref.{now}
+use borrow.Author.Needs.{needs}
+use lib.ListN.{length}
+use Rattle.meaning.specs.Width.{cutRest}
+use Rattle.write_lines.proofs.Cutting.{cutOn, count-first, count-turn, count-end, placed-next, room-most}
+use Rattle.write_lines.proofs.cuts.count_cuts.Statement.{statement}
+use Rattle.write_lines.proofs.cuts.count_cuts.Tie as tie
+
+abbrev Inv-loop : tie.InvT-loop
+Inv-loop line mark width room count₀ last₀ count last = (0 < count) × (cutRest mark width (width - 1) line ≡ cutOn mark width count last line) × (last ≡ 5 + count * (width - 6)) × (10 * count ≤ last) × (last < length line + width)
+
+abbrev μ-loop : tie.MeasureT-loop
+μ-loop line mark width room count₀ last₀ count last = length line - last
+
+sub-last-room : tie.Need-sub-last-room Inv-loop μ-loop
+sub-last-room c = omega arith
+
+last-room-requires : tie.Need-last-room-requires Inv-loop μ-loop
+last-room-requires c κs = search needs
+
+sub-last : tie.Need-sub-last Inv-loop μ-loop
+sub-last c = omega arith
+
+loop-holds : tie.Need-loop-holds Inv-loop μ-loop
+loop-holds c =
+    let a = c .before .before .args in
+    (omega arith, count-first (a .mark) (a .width) (now (a .line)) (omega arith), omega arith, omega arith, omega arith)
+
+add-loop : tie.Need-add-loop Inv-loop μ-loop
+add-loop c =
+    let a = c .before .before .before .args in
+    omega (arith, c .before .last-room .ensures, room-most (a .mark) (a .width - 5) (now (a .line)), c .before .before .before .good)
+
+add-count : tie.Need-add-count Inv-loop μ-loop
+add-count c = omega (arith, c .before .before .before .before .good)
+
+sub-last-2 : tie.Need-sub-last-2 Inv-loop μ-loop
+sub-last-2 c = omega arith
+
+add-last : tie.Need-add-last Inv-loop μ-loop
+add-last c = omega (arith, c .before .before .before .before .good)
+
+loop-less : tie.Need-loop-less Inv-loop μ-loop
+loop-less c = omega arith
+
+loop-again : tie.Need-loop-again Inv-loop μ-loop
+loop-again c =
+    let at = c .before in
+    let a = at .before .before .before .args in
+    let e = at .before .last-room .ensures in
+    let i = at .loop .inv in
+    (omega arith, i .1 ∙ count-turn (a .mark) (a .width) (now (a .line)) (omega arith) (at .loop .count) (at .loop .last) (i .0) (omega (arith, e)), rw (i .2) (placed-next (at .loop .count) (a .width - 6)), omega arith, omega arith)
+
+returns : tie.Need-returns Inv-loop μ-loop
+returns c =
+    let at = c .before in
+    let a = at .before .before .before .args in
+    let e = at .before .last-room .ensures in
+    let i = at .loop .inv in
+    record { cut = i .1 ∙ count-end (a .mark) (a .width) (now (a .line)) (omega arith) (at .loop .count) (at .loop .last) (i .0) (omega (arith, e)); placed = i .2; few = i .3; near = i .4 }
+
+pub count-cuts-spec : {M : Type 1} → statement M
+count-cuts-spec =
+    tie.close
+    (tie.spec
+    Inv-loop
+    μ-loop
+    sub-last-room
+    last-room-requires
+    sub-last
+    loop-holds
+    add-loop
+    add-count
+    sub-last-2
+    add-last
+    loop-less
+    loop-again
+    returns)

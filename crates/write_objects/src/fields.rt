@@ -1,0 +1,267 @@
+// The fields of an object's line, put into a lent room from n on. A cell or a row outside its list is 0, a stretch outside the text is cut.
+ghost use mathlib.Core.Path.{_≡_};
+ghost use mathlib.Core.List.{[], _∷_};
+ghost use Prim.Native.Nat.{_+_, _-_, _≤_, _<_, _^_};
+ghost use lib.IntN.{pos, natAbs};
+ghost use lib.ListN.{length, drop, getD};
+ghost use Rattle.meaning.specs.Digits.{numberBytes};
+ghost use Rattle.meaning.specs.Row.{pairsOfType};
+ghost use Rattle.meaning.specs.Writing.{stretchBytes, identificationBytes, typeBytes, fieldBytes, pairFields, spaced};
+ghost use Rattle.model_records.specs.Components.{componentsOf};
+ghost use Rattle.model_records.specs.Attributes.{typeOf};
+ghost use Rattle.write_lines.specs.Puts.{Puts};
+ghost use Rattle.write_objects.specs.Given.{lentOf, componentFields, GoodComponents, GoodAttribute};
+use model_records::Attribute;
+use model_records::Components;
+use read_references::pairs::cut_stretch;
+use value_write::magnitude;
+use write_lines::Put;
+use write_lines::fields::put_byte;
+use write_lines::fields::put_bytes;
+use write_lines::fields::put_field;
+use write_lines::values;
+
+// The cell so many cells behind another.
+pub fn cell_behind(cells: &[i64], at: usize, by: usize) -> i64
+    requires { ⌜ by ≤ 3 ⌝ }
+    ensures { λ r. ⌜ r ≡ getD (drop at (now (cells .entry))) by (pos 0) ⌝ }
+{
+    if cells.len() <= at {
+        return 0;
+    }
+    let i = at + by;
+    if cells.len() <= i {
+        return 0;
+    }
+    cells[i]
+}
+
+// Its size.
+pub fn size_behind(cells: &[i64], at: usize, by: usize) -> usize
+    requires { ⌜ by ≤ 3 ⌝ }
+    ensures { λ r. ⌜ r ≡ natAbs (getD (drop at (now (cells .entry))) by (pos 0)) ⌝ }
+{
+    magnitude(cell_behind(cells, at, by)) as usize
+}
+
+// The row of an object.
+fn row_of(rows: &[u64], o: usize) -> usize
+    ensures { λ r. ⌜ r ≡ getD (now (rows .entry)) o 0 ⌝ }
+{
+    if o < rows.len() { rows[o] as usize } else { 0 }
+}
+
+pub fn put_stretch(text: &[u8], start: i64, size: usize, out: &mut [u8], n: usize) -> Put
+    requires { ⌜ n ≤ length (now out) ⌝ }
+    ensures { λ r. ⌜ Puts (stretchBytes (now (text .entry)) start size) n (now (out .entry)) (now (out .exit)) r ⌝ }
+{
+    if start < 0 {
+        return Put::At(n);
+    }
+    let part = cut_stretch(text.len(), magnitude(start) as usize, size);
+    let from = part.start;
+    let end = from + part.len;
+    put_bytes(out, n, &text[from..end])
+}
+
+// The identification of the object whose row begins at this cell.
+pub fn put_identification(text: &[u8], cells: &[i64], row: usize, out: &mut [u8], n: usize) -> Put
+    requires { ⌜ n ≤ length (now out) ⌝ }
+    ensures { λ r. ⌜ Puts (identificationBytes (now (text .entry)) (now (cells .entry)) row) n (now (out .entry)) (now (out .exit)) r ⌝ }
+{
+    let start = cell_behind(cells, row, 1);
+    let size = size_behind(cells, row, 2);
+    put_stretch(text, start, size, out, n)
+}
+
+// The identification of the object that a reference names.
+fn put_reference(text: &[u8], rows: &[u64], cells: &[i64], b: i64, out: &mut [u8], n: usize) -> Put
+    requires { ⌜ n ≤ length (now out) ⌝ }
+    ensures { λ r. ⌜ Puts (identificationBytes (now (text .entry)) (now (cells .entry)) (getD (now (rows .entry)) (natAbs b) 0)) n (now (out .entry)) (now (out .exit)) r ⌝ }
+{
+    let row = row_of(rows, magnitude(b) as usize);
+    put_identification(text, cells, row, out, n)
+}
+
+// "Text: 1 plus its length, its start"
+fn put_text(text: &[u8], a: i64, b: i64, out: &mut [u8], n: usize) -> Put
+    requires { ⌜ n ≤ length (now out) ⌝ }
+    ensures { λ r. ⌜ Puts (stretchBytes (now (text .entry)) b (natAbs a - 1)) n (now (out .entry)) (now (out .exit)) r ⌝ }
+{
+    let size = magnitude(a) as usize;
+    if size < 2 {
+        put_stretch(text, b, 0, out, n)
+    } else {
+        put_stretch(text, b, size - 1, out, n)
+    }
+}
+
+// A pair that is not undefined.
+pub fn put_value(
+    text: &[u8],
+    rows: &[u64],
+    cells: &[i64],
+    attribute: Attribute,
+    a: i64,
+    b: i64,
+    out: &mut [u8],
+    n: usize,
+) -> Put
+    requires { ⌜ GoodAttribute attribute ⌝ }
+    requires { ⌜ n ≤ length (now out) ⌝ }
+    ensures { λ r. ⌜ Puts (typeBytes (now (text .entry)) (lentOf (now (rows .entry)) (now (cells .entry)) []) (typeOf attribute) a b) n (now (out .entry)) (now (out .exit)) r ⌝ }
+{
+    let kind = attribute.kind;
+    let components = attribute.components;
+    let items = components.items;
+    let first = items[0];
+    match kind {
+        1 => put_reference(text, rows, cells, b, out, n),
+        4 => values::put_number(out, n, first.decimals, b),
+        5 => put_text(text, a, b, out, n),
+        6 => values::put_date(out, n, b),
+        7 => values::put_leaf(out, n, b),
+        _ => Put::At(n),
+    }
+}
+
+// "the single undefined byte in every undefined field"
+fn put_undefined(undefined: u8, out: &mut [u8], n: usize) -> Put
+    requires { ⌜ n ≤ length (now out) ⌝ }
+    ensures { λ r. ⌜ Puts (0x20 ∷ undefined ∷ []) n (now (out .entry)) (now (out .exit)) r ⌝ }
+{
+    let field = [undefined];
+    put_field(out, n, &field)
+}
+
+// A number behind a space.
+pub fn put_number_field(decimals: u8, v: i64, out: &mut [u8], n: usize) -> Put
+    requires { ⌜ (n ≤ length (now out)) × (decimals ≤ 9) ⌝ }
+    ensures { λ r. ⌜ Puts (0x20 ∷ numberBytes decimals v) n (now (out .entry)) (now (out .exit)) r ⌝ }
+{
+    match put_byte(out, n, b' ') {
+        Put::At(at) => values::put_number(out, at, decimals, v),
+        Put::Full => Put::Full,
+    }
+}
+
+// A value behind a space.
+fn put_value_field(
+    text: &[u8],
+    rows: &[u64],
+    cells: &[i64],
+    attribute: Attribute,
+    a: i64,
+    b: i64,
+    out: &mut [u8],
+    n: usize,
+) -> Put
+    requires { ⌜ GoodAttribute attribute ⌝ }
+    requires { ⌜ n ≤ length (now out) ⌝ }
+    ensures { λ r. ⌜ Puts (0x20 ∷ typeBytes (now (text .entry)) (lentOf (now (rows .entry)) (now (cells .entry)) []) (typeOf attribute) a b) n (now (out .entry)) (now (out .exit)) r ⌝ }
+{
+    match put_byte(out, n, b' ') {
+        Put::At(at) => put_value(text, rows, cells, attribute, a, b, out, at),
+        Put::Full => Put::Full,
+    }
+}
+
+// The field of a pair, behind a space.
+fn put_pair(
+    text: &[u8],
+    rows: &[u64],
+    cells: &[i64],
+    undefined: u8,
+    attribute: Attribute,
+    cell: usize,
+    out: &mut [u8],
+    n: usize,
+) -> Put
+    requires { ⌜ GoodAttribute attribute ⌝ }
+    requires { ⌜ n ≤ length (now out) ⌝ }
+    ensures { λ r. ⌜ Puts (0x20 ∷ fieldBytes undefined (getD (drop cell (now (cells .entry))) 0 (pos 0)) (typeBytes (now (text .entry)) (lentOf (now (rows .entry)) (now (cells .entry)) []) (typeOf attribute) (getD (drop cell (now (cells .entry))) 0 (pos 0)) (getD (drop cell (now (cells .entry))) 1 (pos 0)))) n (now (out .entry)) (now (out .exit)) r ⌝ }
+{
+    let a = cell_behind(cells, cell, 0);
+    if magnitude(a) == 0 {
+        return put_undefined(undefined, out, n);
+    }
+    let b = cell_behind(cells, cell, 1);
+    put_value_field(text, rows, cells, attribute, a, b, out, n)
+}
+
+// The field of a coordinate's component, behind a space.
+fn put_component(
+    cells: &[i64],
+    undefined: u8,
+    decimals: u8,
+    cell: usize,
+    out: &mut [u8],
+    n: usize,
+) -> Put
+    requires { ⌜ (n ≤ length (now out)) × (decimals ≤ 9) ⌝ }
+    ensures { λ r. ⌜ Puts (0x20 ∷ fieldBytes undefined (getD (drop cell (now (cells .entry))) 0 (pos 0)) (numberBytes decimals (getD (drop cell (now (cells .entry))) 1 (pos 0)))) n (now (out .entry)) (now (out .exit)) r ⌝ }
+{
+    if size_behind(cells, cell, 0) == 0 {
+        return put_undefined(undefined, out, n);
+    }
+    let b = cell_behind(cells, cell, 1);
+    put_number_field(decimals, b, out, n)
+}
+
+// The fields of a coordinate.
+fn put_components(
+    cells: &[i64],
+    undefined: u8,
+    components: Components,
+    cell: usize,
+    out: &mut [u8],
+    n: usize,
+) -> Put
+    requires { ⌜ GoodComponents components ⌝ }
+    requires { ⌜ (n ≤ length (now out)) × (cell + 6 < 2 ^ 64) ⌝ }
+    ensures { λ r. ⌜ Puts (spaced (componentFields undefined (componentsOf components) (drop cell (now (cells .entry))))) n (now (out .entry)) (now (out .exit)) r ⌝ }
+{
+    let count = components.count;
+    let items = components.items;
+    let mut i = 0;
+    let mut at = n;
+    while i < count {
+        let component = items[i];
+        match put_component(cells, undefined, component.decimals, cell + 2 * i, out, at) {
+            Put::At(end) => {
+                at = end;
+            }
+            Put::Full => {
+                return Put::Full;
+            }
+        }
+        i += 1;
+    }
+    Put::At(at)
+}
+
+// The fields of an attribute's pairs, the first of which is at this cell.
+pub fn put_attribute(
+    text: &[u8],
+    rows: &[u64],
+    cells: &[i64],
+    undefined: u8,
+    attribute: Attribute,
+    cell: usize,
+    out: &mut [u8],
+    n: usize,
+) -> Put
+    requires { ⌜ GoodAttribute attribute ⌝ }
+    requires { ⌜ (n ≤ length (now out)) × (cell + 6 < 2 ^ 64) ⌝ }
+    ensures { λ r. ⌜ Puts (spaced (pairFields undefined (now (text .entry)) (lentOf (now (rows .entry)) (now (cells .entry)) []) (pairsOfType (attribute .optional) (typeOf attribute)) (drop cell (now (cells .entry))))) n (now (out .entry)) (now (out .exit)) r ⌝ }
+{
+    let kind = attribute.kind;
+    match kind {
+        2 | 3 => {
+            let components = attribute.components;
+            put_components(cells, undefined, components, cell, out, n)
+        }
+        8 => Put::At(n),
+        _ => put_pair(text, rows, cells, undefined, attribute, cell, out, n),
+    }
+}

@@ -1,0 +1,397 @@
+// The lines of an object, put into a lent room from n on, each cut to the width.
+ghost use mathlib.Core.Path.{_≡_};
+ghost use mathlib.Core.List.{List, [], _∷_, _++_};
+ghost use Prim.Native.Nat.{ℕ, _+_, _*_, _-_, _/_, _≤_, _<_, _^_, min};
+ghost use lib.IntN.{pos};
+ghost use lib.ListN.{length, drop, getD};
+ghost use Rattle.meaning.specs.Field.{OBJE, ELIN};
+ghost use Rattle.meaning.specs.Model.{attributeOf};
+ghost use Rattle.meaning.specs.Row.{pairsOfType};
+ghost use Rattle.meaning.specs.Reading.{cellAt, lineAttributes};
+ghost use Rattle.meaning.specs.Writing.{identificationBytes, pairFields, pointCode, pointFields, pointLines, attributeLines, objectLines, spaced, lineBytes, linesBytes};
+ghost use Rattle.meaning.specs.Width.{cutLine, cutLines};
+ghost use Rattle.model_records.specs.Components.{componentsOf};
+ghost use Rattle.model_records.specs.Records.{modelAt, payloadAt, pairsAt};
+ghost use Rattle.model_records.specs.Standing.{AttributeHere};
+ghost use Rattle.write_lines.specs.Puts.{Puts};
+ghost use Rattle.write_objects.specs.Given.{lentOf, GoodComponents, AttributesHere};
+use crate::fields;
+use model_records::Components;
+use read_references::pairs::least_of;
+use read_references::rows::count_of;
+use value_write::magnitude;
+use write_lines::Put;
+use write_lines::cuts::end_line;
+use write_lines::fields::put_bytes;
+
+// The fields of the pairs, from this cell on, of the attribute whose record is at a byte.
+fn put_attribute_at(
+    model: &[u8],
+    text: &[u8],
+    undefined: u8,
+    rows: &[u64],
+    cells: &[i64],
+    at: usize,
+    cell: usize,
+    out: &mut [u8],
+    n: usize,
+) -> Put
+    requires { ⌜ AttributeHere (now model) at ⌝ }
+    requires { ⌜ (n ≤ length (now out)) × (cell + 6 < 2 ^ 64) ⌝ }
+    ensures { λ r. ⌜ Puts (spaced (pairFields undefined (now (text .entry)) (lentOf (now (rows .entry)) (now (cells .entry)) []) (pairsOfType (attributeOf at (payloadAt (now (model .entry)) at) .optional) (attributeOf at (payloadAt (now (model .entry)) at) .type)) (drop cell (now (cells .entry))))) n (now (out .entry)) (now (out .exit)) r ⌝ }
+{
+    let attribute = model_records::attribute_at(model, at);
+    fields::put_attribute(text, rows, cells, undefined, attribute, cell, out, n)
+}
+
+// The fields of a row's pairs; the attribute records of its table begin at the byte `first`.
+fn put_pairs(
+    model: &[u8],
+    first: usize,
+    text: &[u8],
+    undefined: u8,
+    rows: &[u64],
+    cells: &[i64],
+    row: usize,
+    out: &mut [u8],
+    n: usize,
+) -> Put
+    requires { ⌜ AttributesHere (modelAt (now model)) (now model) first ⌝ }
+    requires { ⌜ n ≤ length (now out) ⌝ }
+    ensures { λ r. ⌜ Puts (spaced (pairFields undefined (now (text .entry)) (lentOf (now (rows .entry)) (now (cells .entry)) []) (pairsAt (now (model .entry)) first) (drop (row + 3) (now (cells .entry))))) n (now (out .entry)) (now (out .exit)) r ⌝ }
+{
+    let mut at = first;
+    let mut cell = least_of(row, cells.len()) + 3;
+    let mut end = n;
+    loop {
+        let kind = model_records::kind_at(model, at);
+        if kind != 5 {
+            return Put::At(end);
+        }
+        let put = put_attribute_at(model, text, undefined, rows, cells, at, cell, out, end);
+        match put {
+            Put::At(k) => {
+                end = k;
+            }
+            Put::Full => {
+                return Put::Full;
+            }
+        }
+        cell += 2 * count_of(model[at + 5]).pairs;
+        at = model_records::next_at(model, at);
+    }
+}
+
+// The bytes of an object's line.
+fn put_object_bytes(
+    model: &[u8],
+    first: usize,
+    text: &[u8],
+    undefined: u8,
+    rows: &[u64],
+    cells: &[i64],
+    row: usize,
+    out: &mut [u8],
+    n: usize,
+) -> Put
+    requires { ⌜ AttributesHere (modelAt (now model)) (now model) first ⌝ }
+    requires { ⌜ n ≤ length (now out) ⌝ }
+    ensures { λ r. ⌜ Puts (lineBytes (OBJE ∷ identificationBytes (now (text .entry)) (now (cells .entry)) row ∷ pairFields undefined (now (text .entry)) (lentOf (now (rows .entry)) (now (cells .entry)) []) (pairsAt (now (model .entry)) first) (drop (row + 3) (now (cells .entry))))) n (now (out .entry)) (now (out .exit)) r ⌝ }
+{
+    match put_bytes(out, n, b"OBJE ") {
+        Put::At(k) => match fields::put_identification(text, cells, row, out, k) {
+            Put::At(e) => put_pairs(model, first, text, undefined, rows, cells, row, out, e),
+            Put::Full => Put::Full,
+        },
+        Put::Full => Put::Full,
+    }
+}
+
+// The line of an object.
+pub fn put_object_line(
+    model: &[u8],
+    first: usize,
+    text: &[u8],
+    undefined: u8,
+    mark: u8,
+    width: usize,
+    rows: &[u64],
+    cells: &[i64],
+    row: usize,
+    out: &mut [u8],
+    n: usize,
+) -> Put
+    requires { ⌜ AttributesHere (modelAt (now model)) (now model) first ⌝ }
+    requires { ⌜ (n ≤ length (now out)) × (16 ≤ width) × (width ≤ 65535) ⌝ }
+    ensures { λ r. ⌜ Puts (cutLine mark width (lineBytes (OBJE ∷ identificationBytes (now (text .entry)) (now (cells .entry)) row ∷ pairFields undefined (now (text .entry)) (lentOf (now (rows .entry)) (now (cells .entry)) []) (pairsAt (now (model .entry)) first) (drop (row + 3) (now (cells .entry)))))) n (now (out .entry)) (now (out .exit)) r ⌝ }
+{
+    match put_object_bytes(model, first, text, undefined, rows, cells, row, out, n) {
+        Put::At(k) => end_line(out, n, k, mark, width),
+        Put::Full => Put::Full,
+    }
+}
+
+// The code of a point's line: "0 STPT, 1 LIPT, 2 ARCP".
+fn put_code(kind: i64, out: &mut [u8], n: usize) -> Put
+    requires { ⌜ n ≤ length (now out) ⌝ }
+    ensures { λ r. ⌜ Puts (pointCode kind) n (now (out .entry)) (now (out .exit)) r ⌝ }
+{
+    let k = magnitude(kind);
+    if k == 0 {
+        return put_bytes(out, n, b"STPT");
+    }
+    if k == 1 {
+        return put_bytes(out, n, b"LIPT");
+    }
+    put_bytes(out, n, b"ARCP")
+}
+
+// The fields of the point at a place.
+fn put_point_fields(
+    points: &[i64],
+    components: Components,
+    at: usize,
+    out: &mut [u8],
+    n: usize,
+) -> Put
+    requires { ⌜ GoodComponents components ⌝ }
+    requires { ⌜ n ≤ length (now out) ⌝ }
+    ensures { λ r. ⌜ Puts (spaced (pointFields (componentsOf components) (drop 1 (drop at (now (points .entry)))))) n (now (out .entry)) (now (out .exit)) r ⌝ }
+{
+    let count = components.count;
+    let items = components.items;
+    let mut i = 0;
+    let mut end = n;
+    while i < count {
+        let component = items[i];
+        let v = fields::cell_behind(points, at, i + 1);
+        match fields::put_number_field(component.decimals, v, out, end) {
+            Put::At(k) => {
+                end = k;
+            }
+            Put::Full => {
+                return Put::Full;
+            }
+        }
+        i += 1;
+    }
+    Put::At(end)
+}
+
+// The bytes of a point's line.
+fn put_point_bytes(
+    points: &[i64],
+    components: Components,
+    at: usize,
+    out: &mut [u8],
+    n: usize,
+) -> Put
+    requires { ⌜ GoodComponents components ⌝ }
+    requires { ⌜ n ≤ length (now out) ⌝ }
+    ensures { λ r. ⌜ Puts (lineBytes (pointCode (getD (drop at (now (points .entry))) 0 (pos 0)) ∷ pointFields (componentsOf components) (drop 1 (drop at (now (points .entry)))))) n (now (out .entry)) (now (out .exit)) r ⌝ }
+{
+    let kind = fields::cell_behind(points, at, 0);
+    match put_code(kind, out, n) {
+        Put::At(k) => put_point_fields(points, components, at, out, k),
+        Put::Full => Put::Full,
+    }
+}
+
+// The line of a point.
+fn put_point(
+    points: &[i64],
+    components: Components,
+    at: usize,
+    mark: u8,
+    width: usize,
+    out: &mut [u8],
+    n: usize,
+) -> Put
+    requires { ⌜ GoodComponents components ⌝ }
+    requires { ⌜ (n ≤ length (now out)) × (16 ≤ width) × (width ≤ 65535) ⌝ }
+    ensures { λ r. ⌜ Puts (cutLine mark width (lineBytes (pointCode (getD (drop at (now (points .entry))) 0 (pos 0)) ∷ pointFields (componentsOf components) (drop 1 (drop at (now (points .entry))))))) n (now (out .entry)) (now (out .exit)) r ⌝ }
+{
+    match put_point_bytes(points, components, at, out, n) {
+        Put::At(k) => end_line(out, n, k, mark, width),
+        Put::Full => Put::Full,
+    }
+}
+
+// The lines of so many points, from this one on.
+fn put_points(
+    points: &[i64],
+    components: Components,
+    first: usize,
+    count: usize,
+    mark: u8,
+    width: usize,
+    out: &mut [u8],
+    n: usize,
+) -> Put
+    requires { ⌜ GoodComponents components ⌝ }
+    requires { ⌜ (n ≤ length (now out)) × (16 ≤ width) × (width ≤ 65535) ⌝ }
+    requires { ⌜ 4 * count ≤ length (now points) ⌝ }
+    ensures { λ r. ⌜ Puts (cutLines mark width (linesBytes (pointLines (componentsOf components) count (drop (4 * first) (now (points .entry)))))) n (now (out .entry)) (now (out .exit)) r ⌝ }
+{
+    let mut at = 4 * least_of(first, points.len());
+    let mut left = count;
+    let mut end = n;
+    while 0 < left {
+        match put_point(points, components, at, mark, width, out, end) {
+            Put::At(k) => {
+                end = k;
+            }
+            Put::Full => {
+                return Put::Full;
+            }
+        }
+        at += 4;
+        left -= 1;
+    }
+    Put::At(end)
+}
+
+// The line behind a line attribute's points.
+fn put_elin(mark: u8, width: usize, out: &mut [u8], n: usize) -> Put
+    requires { ⌜ (n ≤ length (now out)) × (16 ≤ width) × (width ≤ 65535) ⌝ }
+    ensures { λ r. ⌜ Puts (cutLines mark width (linesBytes ((ELIN ∷ []) ∷ []))) n (now (out .entry)) (now (out .exit)) r ⌝ }
+{
+    match put_bytes(out, n, b"ELIN") {
+        Put::At(k) => end_line(out, n, k, mark, width),
+        Put::Full => Put::Full,
+    }
+}
+
+// "Line: 1 plus its count of points", no more than there are.
+fn count_points(cells: &[i64], size: usize, cell: usize) -> usize
+    ensures { λ r. ⌜ r ≡ min (cellAt (now (cells .entry)) cell - 1) (size / 4) ⌝ }
+{
+    let a = fields::size_behind(cells, cell, 0);
+    if a == 0 {
+        return 0;
+    }
+    least_of(a - 1, size / 4)
+}
+
+// The lines of the line attribute whose pair is at this cell: its points, and ELIN.
+fn put_line(
+    cells: &[i64],
+    points: &[i64],
+    components: Components,
+    cell: usize,
+    mark: u8,
+    width: usize,
+    out: &mut [u8],
+    n: usize,
+) -> Put
+    requires { ⌜ GoodComponents components ⌝ }
+    requires { ⌜ (n ≤ length (now out)) × (16 ≤ width) × (width ≤ 65535) ⌝ }
+    ensures { λ r. ⌜ Puts (cutLines mark width (linesBytes (pointLines (componentsOf components) (min (cellAt (now (cells .entry)) cell - 1) (length (now (points .entry)) / 4)) (drop (4 * cellAt (now (cells .entry)) (cell + 1)) (now (points .entry))) ++ ((ELIN ∷ []) ∷ [])))) n (now (out .entry)) (now (out .exit)) r ⌝ }
+{
+    let count = count_points(cells, points.len(), cell);
+    let first = fields::size_behind(cells, cell, 1);
+    match put_points(points, components, first, count, mark, width, out, n) {
+        Put::At(k) => put_elin(mark, width, out, k),
+        Put::Full => Put::Full,
+    }
+}
+
+// The lines of the attribute whose record is at a byte: none where it is no line attribute.
+fn put_line_at(
+    model: &[u8],
+    mark: u8,
+    width: usize,
+    cells: &[i64],
+    points: &[i64],
+    at: usize,
+    cell: usize,
+    out: &mut [u8],
+    n: usize,
+) -> Put
+    requires { ⌜ AttributeHere (now model) at ⌝ }
+    requires { ⌜ (n ≤ length (now out)) × (16 ≤ width) × (width ≤ 65535) ⌝ }
+    ensures { λ r. ⌜ Puts (cutLines mark width (linesBytes (attributeLines (lentOf [] (now (cells .entry)) (now (points .entry))) (lineAttributes cell (pairsOfType (attributeOf at (payloadAt (now (model .entry)) at) .optional) (attributeOf at (payloadAt (now (model .entry)) at) .type)))))) n (now (out .entry)) (now (out .exit)) r ⌝ }
+{
+    let attribute = model_records::attribute_at(model, at);
+    if attribute.kind != 8 {
+        return Put::At(n);
+    }
+    let components = attribute.components;
+    put_line(cells, points, components, cell, mark, width, out, n)
+}
+
+// The lines of a row's line attributes.
+pub fn put_attribute_lines(
+    model: &[u8],
+    first: usize,
+    mark: u8,
+    width: usize,
+    cells: &[i64],
+    points: &[i64],
+    row: usize,
+    out: &mut [u8],
+    n: usize,
+) -> Put
+    requires { ⌜ AttributesHere (modelAt (now model)) (now model) first ⌝ }
+    requires { ⌜ (n ≤ length (now out)) × (16 ≤ width) × (width ≤ 65535) ⌝ }
+    ensures { λ r. ⌜ Puts (cutLines mark width (linesBytes (attributeLines (lentOf [] (now (cells .entry)) (now (points .entry))) (lineAttributes (row + 3) (pairsAt (now (model .entry)) first))))) n (now (out .entry)) (now (out .exit)) r ⌝ }
+{
+    let mut at = first;
+    let mut cell = least_of(row, cells.len()) + 3;
+    let mut end = n;
+    loop {
+        let kind = model_records::kind_at(model, at);
+        if kind != 5 {
+            return Put::At(end);
+        }
+        let put = put_line_at(model, mark, width, cells, points, at, cell, out, end);
+        match put {
+            Put::At(k) => {
+                end = k;
+            }
+            Put::Full => {
+                return Put::Full;
+            }
+        }
+        cell += 2 * count_of(model[at + 5]).pairs;
+        at = model_records::next_at(model, at);
+    }
+}
+
+// The lines of the object whose row begins at this cell; the attribute records of its table begin at the byte `first`.
+pub fn put_object(
+    model: &[u8],
+    first: usize,
+    text: &[u8],
+    undefined: u8,
+    mark: u8,
+    width: usize,
+    rows: &[u64],
+    cells: &[i64],
+    points: &[i64],
+    row: usize,
+    out: &mut [u8],
+    n: usize,
+) -> Put
+    requires { ⌜ AttributesHere (modelAt (now model)) (now model) first ⌝ }
+    requires { ⌜ undefined ≡ modelAt (now model) .undefined ⌝ }
+    requires { ⌜ (n ≤ length (now out)) × (16 ≤ width) × (width ≤ 65535) ⌝ }
+    ensures { λ r. ⌜ ((marks : List ℕ) → Puts (cutLines mark width (linesBytes (objectLines (modelAt (now (model .entry))) (now (text .entry)) (record { marks = marks; rows = now (rows .entry); cells = now (cells .entry); points = now (points .entry) }) (pairsAt (now (model .entry)) first) row))) n (now (out .entry)) (now (out .exit)) r) ⌝ }
+{
+    match put_object_line(
+        model,
+        first,
+        text,
+        undefined,
+        mark,
+        width,
+        rows,
+        cells,
+        row,
+        out,
+        n,
+    ) {
+        Put::At(k) => put_attribute_lines(model, first, mark, width, cells, points, row, out, k),
+        Put::Full => Put::Full,
+    }
+}
