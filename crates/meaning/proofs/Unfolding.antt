@@ -1,3 +1,3 @@
 pub mod Cuts
-mod Widths
+pub mod Widths
 pub mod TextLeft

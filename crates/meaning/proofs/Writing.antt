@@ -13,4 +13,4 @@ pub mod RoomsLeft
 pub mod EqualLines
 pub mod LongerText
 pub mod WrittenAgain
-mod ReadWritable
+pub mod ReadWritable
