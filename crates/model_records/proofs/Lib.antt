@@ -1,5 +1,5 @@
 pub mod Twos
-pub mod Components
+pub mod ComponentLaws
 pub mod Checked
 pub mod Types
 pub mod Standing

@@ -1,5 +1,5 @@
 -- `model_records::read_component` meets its contract. Assumes nothing.
-use Rattle.model_records.proofs.Components.{component-read}
+use Rattle.model_records.proofs.ComponentLaws.{component-read}
 use borrow.Author.Needs.{needs}
 use Rattle.model_records.proofs.numbers.read_component.Statement.{statement}
 use Rattle.model_records.proofs.numbers.read_component.Tie as tie

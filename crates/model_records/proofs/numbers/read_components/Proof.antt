@@ -1,7 +1,7 @@
 -- `model_records::read_components` meets its contract. Assumes nothing.
-use Rattle.model_records.proofs.Components.{items-length}
+use Rattle.model_records.proofs.ComponentLaws.{items-length}
 use Rattle.model_records.specs.ComponentsAre.{declaredOf}
-use Rattle.model_records.proofs.Components.{itemsOf, items as read}
+use Rattle.model_records.proofs.ComponentLaws.{itemsOf, items as read}
 use Rattle.meaning.specs.Model as meaning
 use Rattle.base.proofs.Fill.{to-end}
 use lib.ListN.{length-drop}
