@@ -3,3 +3,4 @@ pub mod ComponentLaws
 pub mod Checked
 pub mod Types
 pub mod Standing
+pub mod Noting

@@ -3,3 +3,4 @@ pub mod Records
 pub mod ComponentsAre
 pub mod Attributes
 pub mod Standing
+pub mod Places

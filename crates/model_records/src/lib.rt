@@ -12,6 +12,16 @@ ghost use Rattle.model_records.specs.Attributes.{numberOf, countOf, star
 ghost use Rattle.model_records.specs.Standing.{AttributeHere};
 
 pub mod numbers;
+pub mod places;
+
+// The kinds of records behind the transfer and the model.
+pub const TOPIC: usize = 3;
+
+pub const TABLE: usize = 4;
+
+pub const ATTRIBUTE: usize = 5;
+
+pub const END: usize = 6;
 
 // A component, and the components of an attribute, by value: a small array and its count.
 pub struct Component {
