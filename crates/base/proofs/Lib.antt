@@ -1,3 +1,4 @@
 pub mod Scan
 pub mod Fill
 pub mod Runs
+pub mod Signs

@@ -3,4 +3,5 @@ pub mod bools;
 pub mod compare;
 pub mod fields;
 pub mod kinds;
+pub mod numbers;
 pub mod rooms;

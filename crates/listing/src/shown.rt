@@ -3,6 +3,7 @@ ghost use mathlib.Core.Path.{_≡_};
 ghost use Prim.Native.Nat.{_*_, _<_};
 ghost use lib.ListN.{length};
 use crate::rooms;
+use base::numbers;
 use listing_lines::rows;
 use read_text::Answer;
 
@@ -66,9 +67,9 @@ pub fn show(answer: Answer, rows: &[u64], cells: &[i64], points: &[i64])
         Answer::Refused(number, first, second) => show_answer(number as usize, first, second, 0),
         Answer::Accepted(objects, count, drawn) => {
             show_answer(0, objects, count, drawn);
-            let o = rows::least_of(objects, rows.len());
-            let c = rows::least_of(count, cells.len());
-            let p = 4 * rows::least_of(drawn, points.len() / 4);
+            let o = numbers::least_of(objects, rows.len());
+            let c = numbers::least_of(count, cells.len());
+            let p = 4 * numbers::least_of(drawn, points.len() / 4);
             show_table(&rows[..o], &cells[..c], &points[..p]);
         }
     }

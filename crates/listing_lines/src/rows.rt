@@ -7,6 +7,7 @@ ghost use lib.ListN.{length, take, drop, getD};
 ghost use Rattle.meaning.specs.Bytes.{choose};
 ghost use Rattle.meaning.specs.Digits.{numberBytes};
 ghost use Rattle.meaning.specs.Listing.{printRow};
+use base::numbers;
 
 // A cell and the byte behind it, behind the first n bytes.
 fn put_cell(v: i64, behind: u8, out: &mut [u8], n: usize) -> usize
@@ -56,21 +57,14 @@ fn put_values(values: &[i64], out: &mut [u8]) -> usize
     n
 }
 
-pub fn least_of(a: usize, b: usize) -> usize
-    ensures least { λ r. ⌜ r ≡ choose (ltb a b) a b ⌝ }
-    ensures within { λ r. ⌜ (r ≤ a) × (r ≤ b) ⌝ }
-{
-    if a < b { a } else { b }
-}
-
 // A line of the cells from one to before another.
 pub fn put_part(cells: &[i64], from: usize, to: usize, out: &mut [u8]) -> usize
     requires { ⌜ 22 * length (now cells) < length (now out) ⌝ }
     ensures few { λ r. ⌜ r ≤ length (now (out .exit)) ⌝ }
     ensures bytes { λ r. ⌜ take r (now (out .exit)) ≡ printRow (take (to - from) (drop from (now (cells .entry)))) ⌝ }
 {
-    let end = least_of(to, cells.len());
-    let start = least_of(from, end);
+    let end = numbers::least_of(to, cells.len());
+    let start = numbers::least_of(from, end);
     put_row(&cells[start..end], out)
 }
 

@@ -11,12 +11,7 @@ ghost use Rattle.model_check.specs.Names.{nameOf, namesOf};
 use crate::rules;
 use base::bools;
 use base::compare;
-
-fn least_of(a: usize, b: usize) -> usize
-    ensures { λ r. ⌜ r ≡ min a b ⌝ }
-{
-    if a <= b { a } else { b }
-}
+use base::numbers;
 
 // Whether two names are equal: lengths first, then the last bytes, in which the names of a long list often differ.
 pub fn same_name(a: &[u8], b: &[u8]) -> bool
@@ -39,8 +34,8 @@ pub fn same_name(a: &[u8], b: &[u8]) -> bool
 fn is_word(model: &[u8], word: usize, name: &[u8]) -> bool
     ensures { λ r. ⌜ r ≡ same (nameOf (now (model .entry)) word) (now (name .entry)) ⌝ }
 {
-    let start = least_of(word / 65536, model.len());
-    let end = start + least_of(word % 65536, model.len() - start);
+    let start = numbers::least_of(word / 65536, model.len());
+    let end = start + numbers::least_of(word % 65536, model.len() - start);
     same_name(&model[start..end], name)
 }
 

@@ -4,3 +4,4 @@ pub mod Checked
 pub mod Types
 pub mod Standing
 pub mod Noting
+pub mod Counting

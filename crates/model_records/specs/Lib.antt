@@ -4,3 +4,4 @@ pub mod ComponentsAre
 pub mod Attributes
 pub mod Standing
 pub mod Places
+pub mod Counts

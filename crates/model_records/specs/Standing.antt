@@ -62,6 +62,12 @@ pub record AttributeNext (m : Model) (b : List ℕ) (at k t : ℕ) : Type 0 wher
   pub good : AttributeHere b at
   pub next : Standing m b (nextAt b at) k t
 
+-- attribute records of the good model m stand from this byte on, or none
+pub record AttributesHere (m : Model) (b : List ℕ) (at : ℕ) : Type 0 where
+  pub topics : ℕ
+  pub tables : ℕ
+  pub standing : Standing m b at topics tables
+
 -- the end record
 pub record EndHere (m : Model) (k t : ℕ) : Type 0 where
   pub topics : k ≡ length (m .topics)

@@ -11,6 +11,7 @@ ghost use Rattle.model_records.specs.ComponentsAre.{Held};
 ghost use Rattle.model_records.specs.Attributes.{numberOf, countOf, startOf, Sized, Decoded};
 ghost use Rattle.model_records.specs.Standing.{AttributeHere};
 
+pub mod counts;
 pub mod numbers;
 pub mod places;
 

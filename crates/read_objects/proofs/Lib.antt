@@ -3,5 +3,5 @@ pub mod Ends
 pub mod Sizes
 pub mod Cells
 pub mod Names
-pub mod Rows
+pub mod RowLaws
 pub mod Fields

@@ -19,6 +19,7 @@ ghost use Rattle.read_state.specs.Holds.{TableHolds};
 ghost use Rattle.read_objects.specs.Fields.{AttributesFrom};
 ghost use Rattle.read_objects.specs.Rows.{Fills, Behind, Adds};
 use crate::rows::RowOut;
+use base::numbers;
 use read_state::State;
 use read_state::Step;
 use read_state::TableHere;
@@ -28,12 +29,6 @@ pub struct Name {
     pub start: usize,
     pub size: usize,
     pub hash: u64,
-}
-
-fn least(a: usize, b: usize) -> usize
-    ensures { λ r. ⌜ r ≡ min a b ⌝ }
-{
-    if a < b { a } else { b }
 }
 
 // The fields behind the identification, as pairs behind the place of the row's first three cells, as far as there is room.
@@ -51,7 +46,7 @@ fn fill_row(
     requires { ⌜ used ≤ length (now cells) ⌝ }
     ensures { λ r. ⌜ Fills (pairCells undefined true 3 (pairsAt (now (model .entry)) at) (fieldsOf start (now (rest .entry)))) (2 * length (now (model .entry))) (used + 3) (now (cells .entry)) (now (cells .exit)) r ⌝ }
 {
-    let from = least(used + 3, cells.len());
+    let from = numbers::least_of(used + 3, cells.len());
     crate::rows::row_fields(model, at, rest, start, undefined, &mut cells[from..])
 }
 

@@ -17,7 +17,7 @@ use Rattle.model_records.specs.Records.{payloadAt, nextAt, pairsAt}
 use Rattle.model_records.specs.Standing.{AttributeHere, AttributeNext}
 use Rattle.model_records.specs.Attributes.{Sized}
 use Rattle.model_records.proofs.Types.{payload-room, payload-byte, sized, type-at, word-size}
-use Rattle.read_references.specs.Resolved.{fieldsOf, pairCount, Counted}
+use Rattle.model_records.specs.Counts.{fieldsOf, pairCount, Counted}
 
 -- ## The type
 
@@ -63,34 +63,7 @@ module _ (b : List ℕ) (at : ℕ) (h : AttributeHere b at) where
 
 -- ## Its fields and pairs
 
--- no more fields than pairs, and a pair at least
-few : (t : ℕ) (q : List ℕ) → Sized t q → (fieldsOf t ≤ pairCount t) × (1 ≤ pairCount t)
-unfolding fieldsOf pairCount choose
-few zero q s = (omega arith, omega arith)
-few (suc zero) q s = (omega arith, omega arith)
-few (suc (suc zero)) q s = (omega arith, omega arith)
-few (suc (suc (suc zero))) q s = (omega arith, omega arith)
-few (suc (suc (suc (suc zero)))) q s = (omega arith, omega arith)
-few (suc (suc (suc (suc (suc zero))))) q s = (omega arith, omega arith)
-few (suc (suc (suc (suc (suc (suc zero)))))) q s = (omega arith, omega arith)
-few (suc (suc (suc (suc (suc (suc (suc zero))))))) q s = (omega arith, omega arith)
-few (suc (suc (suc (suc (suc (suc (suc (suc zero)))))))) q s = (omega arith, omega arith)
-few (suc (suc (suc (suc (suc (suc (suc (suc (suc t))))))))) q s = absurd (omega (arith, s .most))
-
 module _ (o : Bool) (q : List ℕ) (ps : List Pair) where
-  count-type : (t : ℕ) → Sized t q → length (pairsOfType o (typeOf t q) ++ ps) ≡ pairCount t + length ps
-  unfolding pairsOfType componentPairs typeOf componentsOf pairCount choose
-  count-type zero s = absurd (omega (arith, s .least))
-  count-type (suc zero) s = omega arith
-  count-type (suc (suc zero)) s = omega arith
-  count-type (suc (suc (suc zero))) s = omega arith
-  count-type (suc (suc (suc (suc zero)))) s = omega arith
-  count-type (suc (suc (suc (suc (suc zero))))) s = omega arith
-  count-type (suc (suc (suc (suc (suc (suc zero)))))) s = omega arith
-  count-type (suc (suc (suc (suc (suc (suc (suc zero))))))) s = omega arith
-  count-type (suc (suc (suc (suc (suc (suc (suc (suc zero)))))))) s = omega arith
-  count-type (suc (suc (suc (suc (suc (suc (suc (suc (suc t))))))))) s = absurd (omega (arith, s .most))
-
   module _ (text : List ℕ) (os : List Object) (object field cell : ℕ) (cs : List ℤ) where
     moved : (f c : ℕ) → f ≡ field → c ≡ cell → resolvePairs text os object f c ps cs ≡ resolvePairs text os object field cell ps cs
     moved f c e g = ap₂ (λ (x y : ℕ). resolvePairs text os object x y ps cs) e g
@@ -116,15 +89,6 @@ module _ (o : Bool) (q : List ℕ) (ps : List Pair) where
 module _ (m : Model) (b : List ℕ) (at k t : ℕ) (a : AttributeNext m b at k t) (f p : ℕ) (c : Counted (byteAt b (at + 5)) f p) where
   counted : Counted (byteAt (payloadAt b at) 1) f p
   counted = rw (type-at b at (a .good)) at c
-
-  pub pairs-more : length (pairsAt b at) ≡ p + length (pairsAt b (nextAt b at))
-  unfolding attributeOf pairsOf
-  pairs-more = rw (a .attributes, counted .pairs) (count-type _ (drop 2 (payloadAt b at)) _ (byteAt (payloadAt b at) 1) (sized b at (a .good)))
-
-  pub field-most : (f ≤ p) × (1 ≤ p)
-  field-most =
-      let q = few (byteAt (payloadAt b at) 1) (drop 2 (payloadAt b at)) (sized b at (a .good)) in
-      (omega (arith, counted .fields, counted .pairs), omega (arith, counted .pairs))
 
   module _ (text : List ℕ) (os : List Object) (object field cell : ℕ) (cs : List ℤ) where
     pub attribute-turn : resolvePairs text os object field cell (pairsAt b at) cs

@@ -24,8 +24,10 @@ use Rattle.read_state.specs.Holds.{Laid}
 use Rattle.read_references.specs.Placed.{PlaceOf, Placed}
 use Rattle.read_references.specs.declared.Resolved as declared
 use Rattle.read_references.specs.declared.Resolved.the-variants.{All, Unresolved}
-use Rattle.read_references.specs.Resolved.{resolvedOf, PairHere, Going, fieldsOf, pairCount, Counted, InRow, RowHere}
-use Rattle.read_references.proofs.Attributes.{pairs-more, field-most, attribute-turn}
+use Rattle.read_references.specs.Resolved.{resolvedOf, PairHere, Going, InRow, RowHere}
+use Rattle.model_records.specs.Counts.{fieldsOf, pairCount, Counted}
+use Rattle.read_references.proofs.Attributes.{attribute-turn}
+use Rattle.model_records.proofs.Counting.{pairs-more, field-most}
 
 -- ## Answers
 

@@ -19,11 +19,6 @@ abbrev pub resolvedOf : Resolved → List ℤ → table.Resolved
 resolvedOf All cs = table.resolved cs
 resolvedOf (Unresolved object field) cs = table.unresolved object field
 
--- a stretch cut at the end of a text of so many bytes: it names the same bytes
-pub record Cut (size start len start′ len′ : ℕ) : Type 0 where
-  pub inside : start′ + len′ ≤ size
-  pub same : (text : List ℕ) → length text ≡ size → stretch text start′ len′ ≡ stretch text start len
-
 -- the pair at this cell is none of the first three cells of a row
 pub record PairHere (rows : List ℕ) (n cell : ℕ) (cells : List ℤ) : Type 0 where
   pub inside : cell + 1 < length cells
@@ -35,17 +30,6 @@ pub record Going (seed : ℕ) (text rows : List ℕ) (n : ℕ) (index : List ℕ
   pub held : Held seed text n (length cells₀) rows cells index
   pub size : length cells ≡ length cells₀
   pub objects : objectsOf text cells (take n rows) ≡ objectsOf text cells₀ (take n rows)
-
--- the fields and the pairs of an attribute of type number t, 1 to 8: a coordinate has both for each component, a line no field
-unfoldable pub fieldsOf : (t : ℕ) → ℕ
-fieldsOf t = choose (eqb t 2) 2 (choose (eqb t 3) 3 (choose (eqb t 8) 0 1))
-
-unfoldable pub pairCount : (t : ℕ) → ℕ
-pairCount t = choose (eqb t 2) 2 (choose (eqb t 3) 3 1)
-
-pub record Counted (t f p : ℕ) : Type 0 where
-  pub fields : f ≡ fieldsOf t
-  pub pairs : p ≡ pairCount t
 
 -- so many pairs from this cell on are of the row of object o: behind its first three cells, and before the later rows
 pub record InRow (rows : List ℕ) (n o cell pairs size : ℕ) : Type 0 where

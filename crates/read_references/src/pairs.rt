@@ -7,41 +7,10 @@ ghost use Rattle.meaning.specs.Model.{found};
 ghost use Rattle.meaning.specs.Reading.{objectsOf, cellAt};
 ghost use Rattle.meaning.specs.Table.{resolvePair};
 ghost use Rattle.table_index.specs.Holds.{Known};
-ghost use Rattle.read_references.specs.Resolved.{resolvedOf, Cut, PairHere};
+ghost use Rattle.read_references.specs.Resolved.{resolvedOf, PairHere};
+ghost use Rattle.table.specs.Stretches.{Cut};
 use crate::Resolved;
 use table_index::Found;
-
-// A part of the text.
-pub struct Part {
-    pub start: usize,
-    pub len: usize,
-}
-
-pub fn least_of(a: usize, b: usize) -> usize
-    ensures { λ r. ⌜ r ≡ min a b ⌝ }
-{
-    if a <= b { a } else { b }
-}
-
-// A stretch, cut at the end of a text of so many bytes.
-pub fn cut_stretch(size: usize, start: usize, len: usize) -> Part
-    ensures { λ r. ⌜ Cut size start len (r .start) (r .len) ⌝ }
-{
-    let from = least_of(start, size);
-    let left = least_of(len, size - from);
-    Part {
-        start: from,
-        len: left,
-    }
-}
-
-// The size of a cell.
-pub fn size_at(cells: &[i64], cell: usize) -> usize
-    requires { ⌜ cell < length (now cells) ⌝ }
-    ensures { λ r. ⌜ r ≡ cellAt (now (cells .entry)) cell ⌝ }
-{
-    value_write::magnitude(cells[cell]) as usize
-}
 
 // The number of the object, in the place of its identification's stretch.
 fn put_reference(cells: &mut [i64], cell: usize, o: usize)
@@ -71,12 +40,12 @@ pub fn resolve_pair(
     requires { ⌜ objects < 9223372036854775808 ⌝ }
     ensures { λ r. ⌜ resolvedOf r (now (cells .exit)) ≡ resolvePair (now (text .entry)) (objectsOf (now (text .entry)) (now (cells .entry)) (take objects (now (rows .entry)))) object field cell (found table) (now (cells .entry)) ⌝ }
 {
-    let a = size_at(cells, cell);
+    let a = table::cells::size_at(cells, cell);
     if a == 0 {
         return Resolved::All;
     }
-    let b = size_at(cells, cell + 1);
-    let part = cut_stretch(text.len(), b, a - 1);
+    let b = table::cells::size_at(cells, cell + 1);
+    let part = table::stretches::cut_stretch(text.len(), b, a - 1);
     let found = table_index::find_reference(
         text,
         rows,

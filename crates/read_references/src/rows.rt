@@ -10,39 +10,11 @@ ghost use Rattle.model_records.specs.Standing.{AttributeHere};
 ghost use Rattle.table_index.specs.Holds.{Known, Held};
 ghost use Rattle.read_state.specs.Holds.{Laid};
 ghost use Rattle.read_references.specs.Placed.{Placed};
-ghost use Rattle.read_references.specs.Resolved.{resolvedOf, Counted, PairHere, RowHere};
+ghost use Rattle.read_references.specs.Resolved.{resolvedOf, PairHere, RowHere};
+ghost use Rattle.model_records.specs.Counts.{Counted};
 use crate::Resolved;
 use crate::pairs;
-
-// How many fields and pairs an attribute has, by its type's number.
-pub struct Counts {
-    pub fields: usize,
-    pub pairs: usize,
-}
-
-// A coordinate has a field and a pair for each component, a line no field on its object's line.
-pub fn count_of(kind: u8) -> Counts
-    ensures { λ r. ⌜ Counted kind (r .fields) (r .pairs) ⌝ }
-{
-    match kind {
-        2 => Counts {
-            fields: 2,
-            pairs: 2,
-        },
-        3 => Counts {
-            fields: 3,
-            pairs: 3,
-        },
-        8 => Counts {
-            fields: 0,
-            pairs: 1,
-        },
-        _ => Counts {
-            fields: 1,
-            pairs: 1,
-        },
-    }
-}
+use model_records::counts;
 
 // The attribute of the record at a byte, where it is a reference: this object's pair at this cell.
 fn resolve_attribute(
@@ -123,7 +95,7 @@ fn resolve_row(
         if let Resolved::Unresolved(o, f) = done {
             return Resolved::Unresolved(o, f);
         }
-        let counts = count_of(model[at + 5]);
+        let counts = counts::count_of(model[at + 5]);
         field += counts.fields;
         cell += 2 * counts.pairs;
         at = model_records::next_at(model, at);
@@ -149,7 +121,7 @@ pub fn resolve_references(
 {
     let mut object = 0;
     while object < objects {
-        let table = pairs::size_at(cells, rows[object] as usize);
+        let table = table::cells::size_at(cells, rows[object] as usize);
         let done = resolve_row(
             model,
             text,

@@ -19,15 +19,6 @@ pub enum Found {
     Nothing,
 }
 
-// A cell that is not below zero.
-fn cell_at(cells: &[i64], cell: usize) -> usize
-    requires { ⌜ cell < length (now cells) ⌝ }
-    requires { ⌜ T (nonNeg (getD (now cells) cell (pos 0))) ⌝ }
-    ensures { λ r. ⌜ r ≡ cellAt (now (cells .entry)) cell ⌝ }
-{
-    cells[cell] as usize
-}
-
 // Whether an object has this identification.
 fn is_named(text: &[u8], rows: &[u64], cells: &[i64], object: usize, identification: &[u8]) -> bool
     requires { ⌜ object < length (now rows) ⌝ }
@@ -35,8 +26,8 @@ fn is_named(text: &[u8], rows: &[u64], cells: &[i64], object: usize, identificat
     ensures { λ r. ⌜ r ≡ isNamed (identificationOf (now (text .entry)) (now (rows .entry)) (now (cells .entry))) (now (identification .entry)) object ⌝ }
 {
     let row = rows[object] as usize;
-    let start = cell_at(cells, row + 1);
-    let end = start + cell_at(cells, row + 2);
+    let start = table::cells::size_at(cells, row + 1);
+    let end = start + table::cells::size_at(cells, row + 2);
     value_read::stretches::same_identification(&text[start..end], identification)
 }
 
@@ -233,7 +224,7 @@ fn find_in_table(rows: &[u64], cells: &[i64], at: usize, table: usize) -> Found
     }
     let o = at - 1;
     let row = rows[o] as usize;
-    if cell_at(cells, row) == table {
+    if table::cells::size_at(cells, row) == table {
         Found::At(o)
     } else {
         Found::Nothing

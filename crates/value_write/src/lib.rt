@@ -6,17 +6,7 @@ ghost use lib.ListN.{length};
 ghost use lib.Seq.{sets};
 ghost use Rattle.meaning.specs.Digits.{lastDigits, digitsOf, signOf, pointed, numberBytes, dateBytes};
 ghost use Rattle.value_write.specs.Written.{pointSize, valueBytes};
-
-// The value without its sign; -2^63 has one too.
-pub fn magnitude(v: i64) -> u64
-    ensures { λ r. ⌜ r ≡ natAbs v ⌝ }
-{
-    if v < 0 {
-        (0 - (v + 1)) as u64 + 1
-    } else {
-        v as u64
-    }
-}
+use base::numbers;
 
 // The count of the shortest digits, `least` at least.
 fn count_digits(n: u64, least: usize) -> usize
@@ -99,7 +89,7 @@ fn put_value(v: i64, least: usize, decimals: usize, out: &mut [u8]) -> usize
     ensures bytes { λ r. ⌜ now (out .exit) ≡ sets (now (out .entry)) 0 (valueBytes least decimals v) ⌝ }
 {
     let sign = put_sign(v, out);
-    let n = magnitude(v);
+    let n = numbers::magnitude(v);
     let size = count_digits(n, least);
     let end = sign + size + point_size(decimals);
     put_parts(n, decimals, &mut out[sign..end]);

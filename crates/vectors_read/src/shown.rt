@@ -13,7 +13,7 @@ fn print_cell(v: i64) {
     } else {
         io::write_all(1, b" ");
     }
-    io::print_decimal(1, value_write::magnitude(v));
+    io::print_decimal(1, base::numbers::magnitude(v));
 }
 
 // The first n cells.

@@ -13,7 +13,7 @@ ghost use Rattle.write_file.specs.Follows.{Fit};
 ghost use Rattle.write_file.specs.Walks.{contentIn, Counted};
 ghost use Rattle.write.specs.Answers.{answerOf, refusalOf, Fitting, Limited, Inside, settledOf};
 use crate::Answer;
-use read_references::pairs::least_of;
+use base::numbers::least_of;
 use write_file::file;
 use write_file::lines::Manner;
 use write_judge::judging;

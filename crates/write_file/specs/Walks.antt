@@ -15,7 +15,7 @@ use Rattle.read_state.specs.declared.Stand.{Stand}
 use Rattle.write_lines.specs.declared.Put.{Put}
 use Rattle.write_file.specs.declared.lines.Manner.{Manner}
 use Rattle.write_file.specs.declared.walk.Walked.{Walked}
-use Rattle.write_objects.specs.Given.{AttributesHere}
+use Rattle.model_records.specs.Standing.{AttributesHere}
 use Rattle.write_file.specs.Follows.{Follows, cutOf}
 
 -- the table whose lines are written

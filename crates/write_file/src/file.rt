@@ -21,6 +21,7 @@ use crate::walk::Walked;
 use base::bools;
 use read_frame::topics::pass_record;
 use read_state::Stand;
+use table::cells::size_at;
 use write_lines::Put;
 
 // Where the record is a table's: its topic, the last of so many.
@@ -69,7 +70,7 @@ fn behind_topic(tables: &[usize], rows: &[u64], cells: &[i64], p: usize, row: us
 {
     let mut i = row;
     while i < rows.len() {
-        let table = walk::table_of(cells, rows[i] as usize);
+        let table = size_at(cells, rows[i] as usize);
         if topic_of(tables, table) != p {
             return i;
         }

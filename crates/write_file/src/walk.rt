@@ -10,15 +10,15 @@ ghost use Rattle.meaning.specs.Reading.{cellAt};
 ghost use Rattle.meaning.specs.Writing.{objectLines, rowLines, tableLines};
 ghost use Rattle.model_records.specs.Records.{modelAt, kindAt, payloadAt, nextAt, pairsAt};
 ghost use Rattle.model_records.specs.Standing.{Standing};
-ghost use Rattle.write_objects.specs.Given.{AttributesHere};
+ghost use Rattle.model_records.specs.Standing.{AttributesHere};
 ghost use Rattle.write_file.specs.Follows.{Follows, Fit, cutOf};
 ghost use Rattle.write_file.specs.Walks.{contentIn, Counted, TableEnd, TableRecord, TableTurn};
 use crate::lines;
 use crate::lines::Manner;
 use base::bools;
 use read_frame::topics::pass_record;
-use read_references::pairs::size_at;
 use read_state::Stand;
+use table::cells::size_at;
 use write_lines::Put;
 use write_objects::objects;
 
@@ -28,17 +28,6 @@ pub struct Walked {
     pub row: usize,
 }
 
-// The number of the table that a row says.
-pub fn table_of(cells: &[i64], row: usize) -> usize
-    ensures { λ r. ⌜ r ≡ cellAt (now (cells .entry)) row ⌝ }
-{
-    if row < cells.len() {
-        size_at(cells, row)
-    } else {
-        0
-    }
-}
-
 // The number of the row behind the first rows of a table.
 fn behind_table(rows: &[u64], cells: &[i64], t: usize, row: usize) -> usize
     requires { ⌜ row ≤ length (now rows) ⌝ }
@@ -46,7 +35,7 @@ fn behind_table(rows: &[u64], cells: &[i64], t: usize, row: usize) -> usize
 {
     let mut i = row;
     while i < rows.len() {
-        if table_of(cells, rows[i] as usize) != t {
+        if size_at(cells, rows[i] as usize) != t {
             return i;
         }
         i += 1;

@@ -28,9 +28,10 @@ use Rattle.table_index.specs.Index.{hashOf, insertOf}
 use Rattle.table_index.specs.Holds.{Known}
 use Rattle.table_index.proofs.More.{known-more}
 use Rattle.read_references.specs.Placed.{PlaceOf}
-use Rattle.read_references.specs.Resolved.{pairCount, fieldsOf}
-use Rattle.read_references.proofs.Attributes.{pairs-more}
-use Rattle.write_judge.specs.Meant.{contentFrom, AttributesHere}
+use Rattle.model_records.specs.Counts.{pairCount, fieldsOf}
+use Rattle.model_records.proofs.Counting.{pairs-more}
+use Rattle.write_judge.specs.Meant.{contentFrom}
+use Rattle.model_records.specs.Standing.{AttributesHere}
 use Rattle.write_judge.specs.Rows.{Judging, tableTests, nameTests}
 
 -- ## A cell and a number
@@ -43,35 +44,6 @@ least-pos (negsuc x) n h = absurd (false≢true h)
 pub below-is : (a : ℤ) (n : ℕ) → T (nonNeg a) → ltZ a (pos n) ≡ true → natAbs a < n
 below-is (pos x) n p h = ltb-true x n h
 below-is (negsuc x) n p h = absurd p
-
--- ## The pairs of a row
-
-module _ (m : Model) (b : List ℕ) (at k t : ℕ) (s : Standing m b at k t) where
-  pub pairs-none : (kindAt b at ≡ 5 → ⊥) → length (pairsAt b at) ≡ 0
-  unfolding pairsOf
-  pairs-none n = rw (no-attribute m b at k t s n)
-
-  module _ (e : kindAt b at ≡ 5) where
-    a : AttributeNext m b at k t
-    a = attribute-here m b at k t s e
-
-    pub pairs-room : at + 6 ≤ nextAt b at
-    pairs-room = parts-room b at (a .good)
-
-    pub pairs-next : AttributesHere m b (nextAt b at)
-    pairs-next = record { topics = k; tables = t; standing = a .next }
-
-    pub pairs-turn : (p : ℕ) → p ≡ pairCount (byteAt b (at + 5)) → length (pairsAt b at) ≡ p + length (pairsAt b (nextAt b at))
-    pairs-turn p h = pairs-more m b at k t a (fieldsOf (byteAt b (at + 5))) p (record { fields = refl; pairs = h })
-
-pub pairs-few : (t : ℕ) → pairCount t ≤ 3
-unfolding pairCount choose
-pairs-few t = go (eqb t 2) (eqb t 3)
-  where
-    go : (x y : Bool) → choose x 2 (choose y 3 1) ≤ 3
-    go true y = omega arith
-    go false true = omega arith
-    go false false = omega arith
 
 -- ## The table
 

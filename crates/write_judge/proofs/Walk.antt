@@ -25,7 +25,8 @@ use Rattle.model_records.specs.Records.{modelAt, kindAt, nextAt, attributesAt, 
 use Rattle.model_records.specs.Standing.{Standing, AttributeHere}
 use Rattle.model_records.specs.Attributes.{typeOf, Decoded}
 use Rattle.model_records.proofs.Standing.{attribute-here, no-attribute}
-use Rattle.write_judge.specs.Meant.{contentFrom, Counted, AttributesHere}
+use Rattle.write_judge.specs.Meant.{contentFrom, Counted}
+use Rattle.model_records.specs.Standing.{AttributesHere}
 use Rattle.write_judge.proofs.Signs.{alone}
 use Rattle.write_judge.proofs.Values.{type-coordinate, type-line}
 

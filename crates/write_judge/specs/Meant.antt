@@ -60,9 +60,3 @@ pub record Counted (a : Attribute) : Type 0 where
   pub two : a .kind ≡ 2 → a .components .count ≡ 2
   pub three : a .kind ≡ 3 → a .components .count ≡ 3
   pub line : a .kind ≡ 8 → (2 ≤ a .components .count) × (a .components .count ≤ 3)
-
--- attribute records of the good model m stand at this byte
-pub record AttributesHere (m : Model) (b : List ℕ) (at : ℕ) : Type 0 where
-  pub topics : ℕ
-  pub tables : ℕ
-  pub standing : Standing m b at topics tables

@@ -15,13 +15,6 @@ pub fn is_below(a: i64, n: usize) -> bool
     if a < 0 { true } else { (a as usize) < n }
 }
 
-// A cell's size, without its sign.
-pub fn size_of(a: i64) -> usize
-    ensures { λ r. ⌜ r ≡ natAbs a ⌝ }
-{
-    value_write::magnitude(a) as usize
-}
-
 // Is a cell this number?
 pub fn is_number(a: i64, n: usize) -> bool
     ensures { λ r. ⌜ r ≡ cellIs a n ⌝ }
@@ -29,7 +22,7 @@ pub fn is_number(a: i64, n: usize) -> bool
     if is_below(a, n) {
         false
     } else {
-        size_of(a) == n
+        table::cells::size_of(a) == n
     }
 }
 
@@ -52,7 +45,7 @@ pub fn judge_stretch(text: &[u8], undefined: u8, start: i64, size: usize) -> boo
     if is_below(start, 0) {
         return false;
     }
-    let from = size_of(start);
+    let from = table::cells::size_of(start);
     if text.len() < from {
         return false;
     }

@@ -13,7 +13,8 @@ ghost use Rattle.meaning.specs.Judge.{cellIs, judgeUndefined, judgeDate, judgeL
 ghost use Rattle.model_records.specs.Components.{componentOf, componentsOf};
 ghost use Rattle.model_records.specs.Records.{modelAt, pairsAt};
 ghost use Rattle.model_records.specs.Attributes.{typeOf};
-ghost use Rattle.write_judge.specs.Meant.{fineOf, contentFrom, judgeSecond, Counted, AttributesHere};
+ghost use Rattle.write_judge.specs.Meant.{fineOf, contentFrom, judgeSecond, Counted};
+ghost use Rattle.model_records.specs.Standing.{AttributesHere};
 use crate::cells;
 use crate::points;
 use base::bools;
@@ -44,7 +45,7 @@ fn judge_date(b: i64) -> bool
     if !cells::is_below(b, 100000000) {
         return false;
     }
-    let n = cells::size_of(b) as u64;
+    let n = table::cells::size_of(b) as u64;
     value_read::dates::is_day(n / 10000, n / 100 % 100, n % 100)
 }
 
@@ -64,7 +65,7 @@ fn judge_reference(rows: &[u64], cells: &[i64], target: usize, b: i64) -> bool
     if cells::is_below(b, 0) {
         return false;
     }
-    let n = cells::size_of(b);
+    let n = table::cells::size_of(b);
     if rows.len() <= n {
         return false;
     }
@@ -82,7 +83,7 @@ fn judge_text(text: &[u8], undefined: u8, longest: usize, a: i64, b: i64) -> boo
     if cells::is_below(a, 2) {
         return false;
     }
-    let size = cells::size_of(a) - 1;
+    let size = table::cells::size_of(a) - 1;
     if longest < size {
         return false;
     }
@@ -239,7 +240,7 @@ fn judge_drawn(
     if !cells::is_number(b, k) {
         return Fine::No;
     }
-    let n = cells::size_of(a) - 1;
+    let n = table::cells::size_of(a) - 1;
     if points.len() / 4 - k < n {
         return Fine::No;
     }

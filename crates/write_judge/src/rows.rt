@@ -13,8 +13,9 @@ ghost use Rattle.meaning.specs.Judge.{rowEnd, judgeRow, judgeRows};
 ghost use Rattle.model_records.specs.Records.{modelAt, pairsAt};
 ghost use Rattle.table_index.specs.Objects.{identificationOf, Row};
 ghost use Rattle.table_index.specs.Holds.{Known};
-ghost use Rattle.read_references.specs.Resolved.{pairCount};
-ghost use Rattle.write_judge.specs.Meant.{contentFrom, AttributesHere};
+ghost use Rattle.model_records.specs.Counts.{pairCount};
+ghost use Rattle.write_judge.specs.Meant.{contentFrom};
+ghost use Rattle.model_records.specs.Standing.{AttributesHere};
 ghost use Rattle.write_judge.specs.Rows.{Judging, AtRow, tableTests, nameTests, rowsFrom, Turned};
 use crate::cells;
 use crate::pairs;
@@ -31,34 +32,6 @@ pub struct Place {
 pub enum Judged {
     On(Place),
     No,
-}
-
-// How many pairs an attribute has, by its type's number.
-fn pairs_of(kind: u8) -> usize
-    ensures { λ r. ⌜ r ≡ pairCount kind ⌝ }
-{
-    match kind {
-        2 => 2,
-        3 => 3,
-        _ => 1,
-    }
-}
-
-// The count of pairs of a row, whose table's attribute records begin at the byte `first`.
-pub fn count_pairs(model: &[u8], first: usize) -> usize
-    requires { ⌜ AttributesHere (modelAt (now model)) (now model) first ⌝ }
-    ensures { λ r. ⌜ r ≡ length (pairsAt (now (model .entry)) first) ⌝ }
-{
-    let mut at = first;
-    let mut pairs = 0;
-    loop {
-        let kind = model_records::kind_at(model, at);
-        if kind != 5 {
-            return pairs;
-        }
-        pairs += pairs_of(model[at + 5]);
-        at = model_records::next_at(model, at);
-    }
 }
 
 // Is a cell below a number?
@@ -88,7 +61,7 @@ fn judge_table(
     if !is_below_at(cells, at, tables) {
         return false;
     }
-    marks[topics + read_references::pairs::size_at(cells, at)] != 0
+    marks[topics + table::cells::size_at(cells, at)] != 0
 }
 
 // The cell behind the row, where it is of a table that may come here and lies within the cells; else 0.
@@ -112,8 +85,8 @@ fn end_of_row(
     if !judge_table(cells, at, least, topics, tables, marks) {
         return 0;
     }
-    let table = read_references::pairs::size_at(cells, at);
-    let pairs = count_pairs(model, places[table]);
+    let table = table::cells::size_at(cells, at);
+    let pairs = model_records::counts::count_pairs(model, places[table]);
     if (cells.len() - at - 3) / 2 < pairs {
         return 0;
     }
@@ -128,7 +101,7 @@ fn judge_name(text: &[u8], undefined: u8, cells: &[i64], at: usize) -> bool
     if is_below_at(cells, at + 2, 1) {
         return false;
     }
-    let size = read_references::pairs::size_at(cells, at + 2);
+    let size = table::cells::size_at(cells, at + 2);
     cells::judge_stretch(text, undefined, cells[at + 1], size)
 }
 
@@ -147,8 +120,8 @@ fn add_name(
     ensures known { λ r. ⌜ (r ≡ true → Known seed (now (text .entry)) (now (rows .entry)) (now (cells .entry)) (now (index .exit)) (object + 1)) ⌝ }
 {
     let row = rows[object] as usize;
-    let start = read_references::pairs::size_at(cells, row + 1);
-    let end = start + read_references::pairs::size_at(cells, row + 2);
+    let start = table::cells::size_at(cells, row + 1);
+    let end = start + table::cells::size_at(cells, row + 2);
     let hash = table_index::hash(&text[start..end], seed);
     let used = table_index::is_used(
         text,
@@ -250,7 +223,7 @@ fn judge_object(
     if end == 0 {
         return Judged::No;
     }
-    let table = read_references::pairs::size_at(cells, at);
+    let table = table::cells::size_at(cells, at);
     match pairs::judge_pairs(
         model,
         places[table],

@@ -9,17 +9,12 @@ ghost use Rattle.write_lines.specs.Cuts.{cutBytes, withCuts, lastRoom, C
 ghost use Rattle.write_lines.specs.Puts.{Puts};
 use super::Put;
 use super::fields::put_byte;
+use base::numbers;
 
 // How often a line is cut, and behind how many of its bytes last.
 struct Cuts {
     count: usize,
     last: usize,
-}
-
-fn smaller(a: usize, b: usize) -> usize
-    ensures { λ r. ⌜ r ≡ min a b ⌝ }
-{
-    if a < b { a } else { b }
 }
 
 // What the last part of a line has room for: nothing where the line ends in the mark.
@@ -87,7 +82,7 @@ fn put_cuts(out: &mut [u8], start: usize, end: usize, mark: u8, width: usize, cu
     let mut to = end;
     while 0 < left {
         left -= 1;
-        let from = smaller(start + last, to);
+        let from = numbers::least_of(start + last, to);
         put_cut(out, from, to, 7 * left, mark);
         to = from;
         last -= width - 6;

@@ -25,7 +25,7 @@ use Rattle.model_records.specs.Components.{componentOf, componentsOf, listOf}
 use Rattle.model_records.specs.declared.Attribute.{Attribute}
 use Rattle.model_records.specs.Attributes.{typeOf, firstOf}
 use Rattle.read_fields.proofs.Attributes.{coordinate-type, line-type}
-use Rattle.read_references.specs.Resolved.{Cut}
+use Rattle.table.specs.Stretches.{Cut}
 use Rattle.write_objects.specs.Given.{lentOf, componentFields, GoodComponents, GoodAttribute}
 
 -- ## Cells outside the list

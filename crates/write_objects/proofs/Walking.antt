@@ -19,12 +19,12 @@ use Rattle.model_records.specs.Records.{kindAt, payloadAt, nextAt, pairsAt}
 use Rattle.model_records.specs.Standing.{Standing, AttributeHere, AttributeNext}
 use Rattle.model_records.proofs.Standing.{here, attribute-here, no-attribute}
 use Rattle.model_records.proofs.Types.{parts-room}
-use Rattle.read_references.specs.Resolved.{pairCount, Counted}
-use Rattle.read_references.proofs.Attributes.{pairs-more}
+use Rattle.model_records.specs.Counts.{pairCount, Counted}
+use Rattle.model_records.proofs.Counting.{pairs-more}
 use Rattle.write_lines.specs.declared.Put.{Put}
 use Rattle.write_lines.specs.declared.Put.the-variants.{At, Full}
 use Rattle.write_lines.specs.Puts.{Puts}
-use Rattle.write_objects.specs.Given.{AttributesHere}
+use Rattle.model_records.specs.Standing.{AttributesHere}
 use Rattle.write_objects.proofs.Left.{Left, left-start, left-end, left-on, left-stop}
 use Rattle.write_objects.proofs.Joined.{spaced-append, cut-lines-append, fields-append, attributes-append, attribute-lines-append}
 

@@ -38,9 +38,3 @@ pub record GoodAttribute (a : Attribute) : Type 0 where
   pub most : a .kind ≤ 8
   pub room : length (a .components .items) ≡ 3
   pub count : a .components .count ≤ 3
-
--- from this byte on stand the attribute records of a table
-pub record AttributesHere (m : Model) (b : List ℕ) (at : ℕ) : Type 0 where
-  pub topics : ℕ
-  pub tables : ℕ
-  pub standing : Standing m b at topics tables

@@ -19,23 +19,20 @@ mul-row c = search needs
 shared-slice-read-row : tie.Need-shared-slice-read-row
 shared-slice-read-row c = search needs
 
-cell-at-requires : tie.Need-cell-at-requires
-cell-at-requires c κs =
-    let s = c .before .before .before in
-    let l : 0 < s .args .at = omega (arith, c .before .if1 .left) in
-    (s .pre .1 .0 l, s .pre .1 .1 l)
+size-at-requires : tie.Need-size-at-requires
+size-at-requires c κs = search needs
 
 returns-2 : tie.Need-returns-2
 returns-2 c =
     let a = c .before .before .before .before .before .args in
-    in-table-hit (a .rows .now) (a .cells .now) (a .table) (a .at) (omega (arith, c .before .before .before .if1 .left)) (sym (c .before .cell-at .ensures) ∙ c .if2 .taken)
+    in-table-hit (a .rows .now) (a .cells .now) (a .table) (a .at) (omega (arith, c .before .before .before .if1 .left)) (sym (c .before .size-at .ensures) ∙ c .if2 .taken)
 
 returns-3 : tie.Need-returns-3
 returns-3 c =
     let a = c .before .before .before .before .before .args in
-    in-table-miss (a .rows .now) (a .cells .now) (a .table) (a .at) (omega (arith, c .before .before .before .if1 .left)) (λ e. c .if2 .left (c .before .cell-at .ensures ∙ e))
+    in-table-miss (a .rows .now) (a .cells .now) (a .table) (a .at) (omega (arith, c .before .before .before .if1 .left)) (λ e. c .if2 .left (c .before .size-at .ensures ∙ e))
 
 pub find-in-table-spec : {M : Type 1} → statement M
 find-in-table-spec =
     tie.close
-    (tie.spec returns sub-o mul-row shared-slice-read-row cell-at-requires returns-2 returns-3)
+    (tie.spec returns sub-o mul-row shared-slice-read-row size-at-requires returns-2 returns-3)

@@ -14,17 +14,17 @@ mul-row c = search needs
 shared-slice-read-row : tie.Need-shared-slice-read-row
 shared-slice-read-row c = search needs
 
-add-cell-at : tie.Need-add-cell-at
-add-cell-at c = search needs
+add-size-at : tie.Need-add-size-at
+add-size-at c = search needs
 
-cell-at-requires : tie.Need-cell-at-requires
-cell-at-requires c κs = search needs
+size-at-requires : tie.Need-size-at-requires
+size-at-requires c κs = search needs
 
-add-cell-at-2 : tie.Need-add-cell-at-2
-add-cell-at-2 c = search needs
+add-size-at-2 : tie.Need-add-size-at-2
+add-size-at-2 c = search needs
 
-cell-at-requires-2 : tie.Need-cell-at-requires-2
-cell-at-requires-2 c κs = search needs
+size-at-requires-2 : tie.Need-size-at-requires-2
+size-at-requires-2 c κs = search needs
 
 add-end : tie.Need-add-end
 add-end c = search needs
@@ -44,7 +44,7 @@ same-identification-requires c κs = search needs
 returns : tie.Need-returns
 returns c =
     let a = c .before .before .before .before .before .before .before .before .args in
-    c .same-identification .ensures ∙ ap (λ (s : List ℕ). sameIdentification s (a .identification .now)) (part-named (a .text .now) (a .rows .now) (a .cells .now) (a .object) _ _ (c .before .before .before .cell-at .ensures) (c .before .before .cell-at2 .ensures))
+    c .same-identification .ensures ∙ ap (λ (s : List ℕ). sameIdentification s (a .identification .now)) (part-named (a .text .now) (a .rows .now) (a .cells .now) (a .object) _ _ (c .before .before .before .size-at .ensures) (c .before .before .size-at2 .ensures))
 
 pub is-named-spec : {M : Type 1} → statement M
 is-named-spec =
@@ -52,10 +52,10 @@ is-named-spec =
     (tie.spec
     mul-row
     shared-slice-read-row
-    add-cell-at
-    cell-at-requires
-    add-cell-at-2
-    cell-at-requires-2
+    add-size-at
+    size-at-requires
+    add-size-at-2
+    size-at-requires-2
     add-end
     sub-same-identification
     part-same-identification-start

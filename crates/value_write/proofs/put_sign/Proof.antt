@@ -6,7 +6,7 @@ use borrow.Author.Needs.{needs}
 use lib.IntN.{pos}
 use Rattle.meaning.specs.Bytes.{choose}
 use Rattle.meaning.specs.Digits.{signOf}
-use Rattle.value_read.proofs.Signs.{plain}
+use Rattle.base.proofs.Signs.{plain}
 use Rattle.value_write.proofs.put_sign.Statement.{statement}
 use Rattle.value_write.proofs.put_sign.Tie as tie
 

@@ -11,7 +11,7 @@ use mir.Syntax.{w64}
 use mir.ValLaws.{toZ-ofZ}
 use Rattle.meaning.specs.Digits.{signOf}
 use Rattle.meaning.proofs.Values.Shortest.{sign-one}
-use Rattle.value_read.proofs.Signs.{abs-mag}
+use Rattle.base.proofs.Signs.{abs-mag}
 use Rattle.value_write.proofs.Stores.{point-most, value-put}
 use Rattle.value_write.proofs.put_value.Statement.{statement}
 use Rattle.value_write.proofs.put_value.Tie as tie

@@ -9,17 +9,17 @@ use borrow.Author.Needs.{needs}
 use Rattle.read_frame.proofs.names.same_name.Statement.{statement}
 use Rattle.read_frame.proofs.names.same_name.Tie as tie
 
-count-compared-requires : tie.Need-count-compared-requires
-count-compared-requires c κs = search needs
+least-of-requires : tie.Need-least-of-requires
+least-of-requires c κs = search needs
 
-count-compared-requires-2 : tie.Need-count-compared-requires-2
-count-compared-requires-2 c κs = search needs
+least-of-requires-2 : tie.Need-least-of-requires-2
+least-of-requires-2 c κs = search needs
 
 slice-aggregate-same-bytes : tie.Need-slice-aggregate-same-bytes
-slice-aggregate-same-bytes c = simp length-take (omega (arith, c .before .before .count-compared .ensures))
+slice-aggregate-same-bytes c = simp length-take (omega (arith, c .before .before .least-of .ensures))
 
 slice-aggregate-same-bytes-2 : tie.Need-slice-aggregate-same-bytes-2
-slice-aggregate-same-bytes-2 c = simp length-take (omega (arith, c .before .before .count-compared2 .ensures))
+slice-aggregate-same-bytes-2 c = simp length-take (omega (arith, c .before .before .least-of2 .ensures))
 
 same-bytes-requires : tie.Need-same-bytes-requires
 same-bytes-requires c κs = search needs
@@ -27,16 +27,16 @@ same-bytes-requires c κs = search needs
 returns : tie.Need-returns
 unfolding sameName
 returns c = let a = c .before .before .before .before .before .before .before .args in
-    let e = ap (λ (n : ℕ). take n (a .a .now)) (c .before .before .before .before .count-compared .ensures) ∙ first-bytes (a .a .now) in
-    let f = ap (λ (n : ℕ). take n (a .name .now)) (c .before .before .before .count-compared2 .ensures) ∙ first-bytes (a .name .now) in
+    let e = ap (λ (n : ℕ). take n (a .a .now)) (c .before .before .before .before .least-of .ensures) ∙ first-bytes (a .a .now) in
+    let f = ap (λ (n : ℕ). take n (a .name .now)) (c .before .before .before .least-of2 .ensures) ∙ first-bytes (a .name .now) in
     rw (e, f) at (c .same-bytes .ensures)
 
 pub same-name-spec : {M : Type 1} → statement M
 same-name-spec =
     tie.close
     (tie.spec
-    count-compared-requires
-    count-compared-requires-2
+    least-of-requires
+    least-of-requires-2
     slice-aggregate-same-bytes
     slice-aggregate-same-bytes-2
     same-bytes-requires

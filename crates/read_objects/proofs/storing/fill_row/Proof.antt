@@ -1,5 +1,5 @@
 -- `read_objects::fill_row` meets its contract. Assumes nothing.
-use Rattle.read_objects.proofs.Rows.{fills-lent}
+use Rattle.read_objects.proofs.RowLaws.{fills-lent}
 use borrow.Author.Needs.{needs}
 use Rattle.read_objects.proofs.storing.fill_row.Statement.{statement}
 use Rattle.read_objects.proofs.storing.fill_row.Tie as tie
@@ -7,8 +7,8 @@ use Rattle.read_objects.proofs.storing.fill_row.Tie as tie
 add-least : tie.Need-add-least
 add-least c = search needs
 
-least-requires : tie.Need-least-requires
-least-requires c κs = search needs
+least-of-requires : tie.Need-least-of-requires
+least-of-requires c κs = search needs
 
 mul-row-fields : tie.Need-mul-row-fields
 mul-row-fields c = search needs
@@ -29,14 +29,14 @@ same-length : tie.Need-same-length
 same-length c = search needs
 
 returns : tie.Need-returns
-returns c = let a = c .before .before .before .before .before .before .args in fills-lent _ _ (a .used) (c .before .before .before .least .result) (a .cells .now) (c .before .row-fields .last .1 .1 .1 .1 .1 .0) (c .before .row-fields .result) (c .before .before .before .least .ensures) (c .before .row-fields .ensures)
+returns c = let a = c .before .before .before .before .before .before .args in fills-lent _ _ (a .used) (c .before .before .before .least-of .result) (a .cells .now) (c .before .row-fields .last .1 .1 .1 .1 .1 .0) (c .before .row-fields .result) (c .before .before .before .least-of .ensures) (c .before .row-fields .ensures)
 
 pub fill-row-spec : {M : Type 1} → statement M
 fill-row-spec =
     tie.close
     (tie.spec
     add-least
-    least-requires
+    least-of-requires
     mul-row-fields
     sub-row-fields
     part-row-fields-start

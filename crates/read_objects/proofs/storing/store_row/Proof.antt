@@ -8,7 +8,7 @@ use Rattle.meaning.specs.Field.{fieldsOf}
 use Rattle.meaning.specs.Reading.{stretch}
 use Rattle.model_records.specs.Records.{pairsAt}
 use Rattle.read_objects.proofs.Sizes.{row-size}
-use Rattle.read_objects.proofs.Rows.{room-rows, room-cells, table-small, full-row, refused-row, fieldCells, fields-refused, lacks, joins}
+use Rattle.read_objects.proofs.RowLaws.{room-rows, room-cells, table-small, full-row, refused-row, fieldCells, fields-refused, lacks, joins}
 use borrow.Author.Needs.{needs}
 use Rattle.read_objects.proofs.storing.store_row.Statement.{statement}
 use Rattle.read_objects.proofs.storing.store_row.Tie as tie

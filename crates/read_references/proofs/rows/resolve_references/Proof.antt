@@ -28,10 +28,7 @@ shared-slice-read-size-at : tie.Need-shared-slice-read-size-at Inv-loop μ-loop
 shared-slice-read-size-at c = omega (arith, c .before .before .loop-test .taken, c .before .before .before .before .before .before .before .before .before .pre .0 .known .listed .in-rows)
 
 size-at-requires : tie.Need-size-at-requires Inv-loop μ-loop
-size-at-requires c κs = let s = c .before .before .before .before .before .before .before .before .before in
-    let b = s .args .model .now in
-    let p = s .args .places .now in
-    row-in (modelAt b) b p _ _ _ _ _ _ _ _ (c .before .before .before .loop .inv) (c .before .before .loop-test .taken) (s .pre .1 .0) (s .pre .1 .1 .0)
+size-at-requires c κs = search needs
 
 mul-resolve-row : tie.Need-mul-resolve-row Inv-loop μ-loop
 mul-resolve-row c = let s = c .before .before .before .before .before .before .before .before .before .before .before in

@@ -2,7 +2,7 @@
 use native.Mathlib.Omega.{arith}
 use borrow.Author.Needs.{needs}
 use mathlib.Core.Path.{sym}
-use Rattle.value_read.proofs.Signs.{begins-none, begins-first}
+use Rattle.base.proofs.Signs.{begins-none, begins-first}
 use Rattle.value_read.proofs.numbers.is_negative.Statement.{statement}
 use Rattle.value_read.proofs.numbers.is_negative.Tie as tie
 

@@ -1,7 +1,7 @@
 -- `value_read::numbers::is_within` meets its contract. Assumes nothing.
 use mathlib.Core.Bool.{true, false}
 use Rattle.meaning.specs.Value.{within}
-use Rattle.value_read.proofs.Signs.{plain}
+use Rattle.base.proofs.Signs.{plain}
 use Rattle.value_read.proofs.numbers.is_within.Statement.{statement}
 use Rattle.value_read.proofs.numbers.is_within.Tie as tie
 

@@ -2,7 +2,7 @@
 use native.Mathlib.Omega.{arith}
 use mathlib.Core.Logic.{inl, inr}
 use borrow.Author.Needs.{needs}
-use Rattle.value_read.proofs.Signs.{unsigned-none, unsigned-sign, unsigned-plain}
+use Rattle.base.proofs.Signs.{unsigned-none, unsigned-sign, unsigned-plain}
 use Rattle.value_read.proofs.numbers.sign_size.Statement.{statement}
 use Rattle.value_read.proofs.numbers.sign_size.Tie as tie
 

@@ -4,7 +4,7 @@ use borrow.Author.Needs.{needs}
 use mir.Syntax.{w64}
 use mir.ValLaws.{toZ-pos}
 use Rattle.meaning.specs.Bytes.{choose}
-use Rattle.value_read.proofs.Signs.{minus-fits, minus-is}
+use Rattle.base.proofs.Signs.{minus-fits, minus-is}
 use Rattle.value_read.proofs.numbers.with_sign.Statement.{statement}
 use Rattle.value_read.proofs.numbers.with_sign.Tie as tie
 

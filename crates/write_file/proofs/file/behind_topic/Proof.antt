@@ -19,21 +19,21 @@ abbrev μ-loop : tie.MeasureT-loop
 loop-holds : tie.Need-loop-holds Inv-loop μ-loop
 loop-holds c = topic-start _ _ _ _ _ (c .before .before .pre)
 
-mul-table-of : tie.Need-mul-table-of Inv-loop μ-loop
-mul-table-of c = omega arith
+mul-size-at : tie.Need-mul-size-at Inv-loop μ-loop
+mul-size-at c = omega arith
 
-shared-slice-read-table-of : tie.Need-shared-slice-read-table-of Inv-loop μ-loop
-shared-slice-read-table-of c = omega arith
+shared-slice-read-size-at : tie.Need-shared-slice-read-size-at Inv-loop μ-loop
+shared-slice-read-size-at c = omega arith
 
-table-of-requires : tie.Need-table-of-requires Inv-loop μ-loop
-table-of-requires c κs = search needs
+size-at-requires : tie.Need-size-at-requires Inv-loop μ-loop
+size-at-requires c κs = search needs
 
 topic-of-requires : tie.Need-topic-of-requires Inv-loop μ-loop
 topic-of-requires c κs = search needs
 
 returns : tie.Need-returns Inv-loop μ-loop
 returns c = let a = c .before .before .before .before .before .before .before .before .args in
-    let k = c .before .topic-of .ensures ∙ ap (λ (t : ℕ). getD (now (a .tables)) t 0) (c .before .before .table-of .ensures) in
+    let k = c .before .topic-of .ensures ∙ ap (λ (t : ℕ). getD (now (a .tables)) t 0) (c .before .before .size-at .ensures) in
     topic-stop _ _ _ _ _ _ (c .before .before .before .before .before .loop .inv) (c .before .before .before .before .loop-test .taken) (λ e. c .if1 .taken (k ∙ e))
 
 add-i : tie.Need-add-i Inv-loop μ-loop
@@ -44,7 +44,7 @@ loop-less c = omega arith
 
 loop-again : tie.Need-loop-again Inv-loop μ-loop
 loop-again c = let a = c .before .before .before .before .before .before .before .before .args in
-    let k = c .before .topic-of .ensures ∙ ap (λ (t : ℕ). getD (now (a .tables)) t 0) (c .before .before .table-of .ensures) in
+    let k = c .before .topic-of .ensures ∙ ap (λ (t : ℕ). getD (now (a .tables)) t 0) (c .before .before .size-at .ensures) in
     topic-on _ _ _ _ _ _ (c .before .before .before .before .before .loop .inv) (c .before .before .before .before .loop-test .taken) (sym k ∙ c .if1 .left)
 
 returns-2 : tie.Need-returns-2 Inv-loop μ-loop
@@ -57,9 +57,9 @@ behind-topic-spec =
     Inv-loop
     μ-loop
     loop-holds
-    mul-table-of
-    shared-slice-read-table-of
-    table-of-requires
+    mul-size-at
+    shared-slice-read-size-at
+    size-at-requires
     topic-of-requires
     returns
     add-i

@@ -18,17 +18,17 @@ abbrev μ-loop : tie.MeasureT-loop
 loop-holds : tie.Need-loop-holds Inv-loop μ-loop
 loop-holds c = run-start _ _ _ _ (c .before .pre)
 
-mul-table-of : tie.Need-mul-table-of Inv-loop μ-loop
-mul-table-of c = omega arith
+mul-size-at : tie.Need-mul-size-at Inv-loop μ-loop
+mul-size-at c = omega arith
 
-shared-slice-read-table-of : tie.Need-shared-slice-read-table-of Inv-loop μ-loop
-shared-slice-read-table-of c = omega arith
+shared-slice-read-size-at : tie.Need-shared-slice-read-size-at Inv-loop μ-loop
+shared-slice-read-size-at c = omega arith
 
-table-of-requires : tie.Need-table-of-requires Inv-loop μ-loop
-table-of-requires c κs = search needs
+size-at-requires : tie.Need-size-at-requires Inv-loop μ-loop
+size-at-requires c κs = search needs
 
 returns : tie.Need-returns Inv-loop μ-loop
-returns c = run-stop _ _ _ _ _ (c .before .before .before .before .loop .inv) (c .before .before .before .loop-test .taken) (λ e. c .if1 .taken (c .before .table-of .ensures ∙ e))
+returns c = run-stop _ _ _ _ _ (c .before .before .before .before .loop .inv) (c .before .before .before .loop-test .taken) (λ e. c .if1 .taken (c .before .size-at .ensures ∙ e))
 
 add-i : tie.Need-add-i Inv-loop μ-loop
 add-i c = omega arith
@@ -37,7 +37,7 @@ loop-less : tie.Need-loop-less Inv-loop μ-loop
 loop-less c = omega arith
 
 loop-again : tie.Need-loop-again Inv-loop μ-loop
-loop-again c = run-on _ _ _ _ _ (c .before .before .before .before .loop .inv) (c .before .before .before .loop-test .taken) (sym (c .before .table-of .ensures) ∙ c .if1 .left)
+loop-again c = run-on _ _ _ _ _ (c .before .before .before .before .loop .inv) (c .before .before .before .loop-test .taken) (sym (c .before .size-at .ensures) ∙ c .if1 .left)
 
 returns-2 : tie.Need-returns-2 Inv-loop μ-loop
 returns-2 c = run-end _ _ _ _ _ (c .before .loop .inv) (c .loop-test .left)
@@ -49,9 +49,9 @@ behind-table-spec =
     Inv-loop
     μ-loop
     loop-holds
-    mul-table-of
-    shared-slice-read-table-of
-    table-of-requires
+    mul-size-at
+    shared-slice-read-size-at
+    size-at-requires
     returns
     add-i
     loop-less

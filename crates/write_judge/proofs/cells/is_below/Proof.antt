@@ -4,7 +4,7 @@ use mathlib.Core.Bool.{true, false}
 use lib.IntN.{pos}
 use mir.Syntax.{w64}
 use mir.ValLaws.{toZ-ofZ}
-use Rattle.value_read.proofs.Signs.{plain, not-below, abs-mag}
+use Rattle.base.proofs.Signs.{plain, not-below, abs-mag}
 use Rattle.write_judge.proofs.Signs.{negative-below, size-below}
 use Rattle.write_judge.proofs.cells.is_below.Statement.{statement}
 use Rattle.write_judge.proofs.cells.is_below.Tie as tie

@@ -36,10 +36,7 @@ returns-2 c = let s = c .before .before .before .before .before .before .before 
     rows-bad (modelAt (a .model .now)) (a .text .now) (a .marks .now) (a .rows .now) (a .cells .now) (a .points .now) (a .object) (a .place) (s .pre .1 .1 .0) (c .before .before .before .judge-row .result) (c .before .before .before .judge-row .ensures .0) (c .if2 .taken)
 
 size-at-requires : tie.Need-size-at-requires
-size-at-requires c κs = let s = c .before .before .before .before .before .before .before .before .before .before .before .before .before in
-    let a = s .args in
-    let f = fine-row (modelAt (a .model .now)) (a .text .now) (a .marks .now) (a .rows .now) (a .cells .now) (a .points .now) (a .object) (a .place) (s .pre .1 .1 .0) (c .before .before .before .judge-row .result) (c .before .before .before .judge-row .ensures .0) (c .if2 .left) in
-    omega (arith, f .1)
+size-at-requires c κs = search needs
 
 mul-judge-pairs : tie.Need-mul-judge-pairs
 mul-judge-pairs c = let s = c .before .before .before .before .before .before .before .before .before .before .before .before .before .before in

@@ -20,17 +20,17 @@ loop-holds c = let b = c .before in (b .pre .0 .0, refl, b .pre .0 .1, b .pre .1
 sub-left : tie.Need-sub-left Inv-loop μ-loop
 sub-left c = omega arith
 
-add-smaller : tie.Need-add-smaller Inv-loop μ-loop
-add-smaller c = omega (arith, c .before .before .before .good, c .before .before .before .pre)
+add-least-of : tie.Need-add-least-of Inv-loop μ-loop
+add-least-of c = omega (arith, c .before .before .before .good, c .before .before .before .pre)
 
-smaller-requires : tie.Need-smaller-requires Inv-loop μ-loop
-smaller-requires c κs = search needs
+least-of-requires : tie.Need-least-of-requires Inv-loop μ-loop
+least-of-requires c κs = search needs
 
 mul-put-cut : tie.Need-mul-put-cut Inv-loop μ-loop
 mul-put-cut c = omega (arith, c .before .before .before .before .before .good)
 
 put-cut-requires : tie.Need-put-cut-requires Inv-loop μ-loop
-put-cut-requires c κs = (omega (arith, c .before .smaller .ensures), omega arith)
+put-cut-requires c κs = (omega (arith, c .before .least-of .ensures), omega arith)
 
 sub-last : tie.Need-sub-last Inv-loop μ-loop
 sub-last c = omega (arith, c .before .before .before .before .before .before .before .before .pre)
@@ -48,7 +48,7 @@ loop-again c =
     let at = c .before .before .before .before .before .before in
     let a = at .before .before .args in
     let i = at .loop .inv in
-    let m = c .before .before .before .before .smaller in
+    let m = c .before .before .before .before .least-of in
     let step : ℕ = a .width - 6 in
     let made = cut-made (a .start) (at .loop .to) (at .loop .last) (m .result) (at .loop .out) (i .0) (omega arith) (m .ensures) (a .mark) step (at .loop .left) (omega arith) (omega arith) _ (c .before .before .put-cut .ensures) in
     (omega (arith, m .ensures), made .0 ∙ i .1, omega (arith, m .ensures), placed-before (at .loop .left) step (at .loop .last) (omega arith) (i .3) .1, omega arith, made .1 ∙ i .5)
@@ -71,8 +71,8 @@ put-cuts-spec =
     μ-loop
     loop-holds
     sub-left
-    add-smaller
-    smaller-requires
+    add-least-of
+    least-of-requires
     mul-put-cut
     put-cut-requires
     sub-last

@@ -7,7 +7,7 @@ use mir.Syntax.{w64}
 use mir.ValLaws.{toZ-ofZ}
 use lib.IntN.{pos}
 use Rattle.write_lines.proofs.Puts.{nothing}
-use Rattle.value_read.proofs.Signs.{plain}
+use Rattle.base.proofs.Signs.{plain}
 use Rattle.write_objects.proofs.Left.{renamed}
 use Rattle.write_objects.proofs.Typed.{stretch-before, stretch-cut}
 use borrow.Author.Needs.{needs}

@@ -1,9 +1,9 @@
--- `read_references::count_of` meets its contract. Assumes nothing.
+-- `model_records::count_of` meets its contract. Assumes nothing.
 use borrow.Author.Tests.{ne-eqb}
 use Rattle.meaning.specs.Bytes.{choose}
-use Rattle.read_references.specs.Resolved.{fieldsOf, pairCount}
-use Rattle.read_references.proofs.rows.count_of.Statement.{statement}
-use Rattle.read_references.proofs.rows.count_of.Tie as tie
+use Rattle.model_records.specs.Counts.{fieldsOf, pairCount}
+use Rattle.model_records.proofs.counts.count_of.Statement.{statement}
+use Rattle.model_records.proofs.counts.count_of.Tie as tie
 
 returns : tie.Need-returns
 unfolding fieldsOf pairCount choose

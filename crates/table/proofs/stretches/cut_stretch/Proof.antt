@@ -1,8 +1,8 @@
--- `read_references::cut_stretch` meets its contract. Assumes nothing.
+-- `table::cut_stretch` meets its contract. Assumes nothing.
 use borrow.Author.Needs.{needs}
-use Rattle.read_references.proofs.Stretches.{cut-at}
-use Rattle.read_references.proofs.pairs.cut_stretch.Statement.{statement}
-use Rattle.read_references.proofs.pairs.cut_stretch.Tie as tie
+use Rattle.table.proofs.Cutting.{cut-at}
+use Rattle.table.proofs.stretches.cut_stretch.Statement.{statement}
+use Rattle.table.proofs.stretches.cut_stretch.Tie as tie
 
 least-of-requires : tie.Need-least-of-requires
 least-of-requires c κs = search needs

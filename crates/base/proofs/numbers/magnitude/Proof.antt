@@ -1,13 +1,13 @@
--- `value_write::written::magnitude` meets its contract. Assumes nothing.
+-- `base::magnitude` meets its contract. Assumes nothing.
 use mathlib.Core.Bool.{false}
 use native.Mathlib.Omega.{arith}
 use borrow.Author.Needs.{needs}
 use lib.IntN.{pos}
 use mir.Syntax.{w64}
 use mir.ValLaws.{toZ-ofZ}
-use Rattle.value_read.proofs.Signs.{plain, up-fits, flip-fits, flipped, flip-cast, flip-add, flip-is, not-below, abs-mag}
-use Rattle.value_write.proofs.magnitude.Statement.{statement}
-use Rattle.value_write.proofs.magnitude.Tie as tie
+use Rattle.base.proofs.Signs.{plain, up-fits, flip-fits, flipped, flip-cast, flip-add, flip-is, not-below, abs-mag}
+use Rattle.base.proofs.numbers.magnitude.Statement.{statement}
+use Rattle.base.proofs.numbers.magnitude.Tie as tie
 
 add-result : tie.Need-add-result
 add-result c = up-fits _ (c .before .fits .v) (c .if1 .taken)

@@ -9,7 +9,7 @@ use lib.Seq.{take-nil, take-all}
 use lib.Dec.{leb}
 use borrow.Author.Tests.{leb-true, leb-false}
 use Rattle.meaning.specs.Reading.{stretch}
-use Rattle.read_references.specs.Resolved.{Cut}
+use Rattle.table.specs.Stretches.{Cut}
 
 -- a part that ends at the list's end at the latest
 part : (k s n : ℕ) (b : List ℕ) → n ≡ length b → take (min k (n - s)) (drop s b) ≡ take k (drop s b)

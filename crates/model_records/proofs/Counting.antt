@@ -1,0 +1,91 @@
+-- How many pairs an attribute has, and those of the attribute records from a byte on. Assumes nothing.
+use Prim.Native.Nat.{ℕ, zero, suc, _+_, _≤_}
+use native.Mathlib.Omega.{arith}
+use mathlib.Core.Path.{_≡_, refl}
+use mathlib.Core.Bool.{Bool, true, false}
+use mathlib.Core.List.{List, _++_}
+use lib.Dec.{eqb}
+use lib.ListN.{length, drop}
+use Rattle.meaning.specs.Bytes.{choose, byteAt}
+use Rattle.meaning.specs.Model.{Model, typeOf, componentsOf, attributeOf}
+use Rattle.meaning.specs.Row.{Pair, componentPairs, pairsOfType, pairsOf}
+use Rattle.model_records.specs.Records.{kindAt, payloadAt, nextAt, pairsAt}
+use Rattle.model_records.specs.Standing.{Standing, AttributeNext, AttributesHere}
+use Rattle.model_records.specs.Attributes.{Sized}
+use Rattle.model_records.specs.Counts.{fieldsOf, pairCount, Counted}
+use Rattle.model_records.proofs.Standing.{attribute-here, no-attribute}
+use Rattle.model_records.proofs.Types.{sized, type-at, parts-room}
+
+-- ## By the number of its type
+
+-- no more fields than pairs, and a pair at least
+few : (t : ℕ) (q : List ℕ) → Sized t q → (fieldsOf t ≤ pairCount t) × (1 ≤ pairCount t)
+unfolding fieldsOf pairCount choose
+few zero q s = (omega arith, omega arith)
+few (suc zero) q s = (omega arith, omega arith)
+few (suc (suc zero)) q s = (omega arith, omega arith)
+few (suc (suc (suc zero))) q s = (omega arith, omega arith)
+few (suc (suc (suc (suc zero)))) q s = (omega arith, omega arith)
+few (suc (suc (suc (suc (suc zero))))) q s = (omega arith, omega arith)
+few (suc (suc (suc (suc (suc (suc zero)))))) q s = (omega arith, omega arith)
+few (suc (suc (suc (suc (suc (suc (suc zero))))))) q s = (omega arith, omega arith)
+few (suc (suc (suc (suc (suc (suc (suc (suc zero)))))))) q s = (omega arith, omega arith)
+few (suc (suc (suc (suc (suc (suc (suc (suc (suc t))))))))) q s = absurd (omega (arith, s .most))
+
+module _ (o : Bool) (q : List ℕ) (ps : List Pair) where
+  count-type : (t : ℕ) → Sized t q → length (pairsOfType o (typeOf t q) ++ ps) ≡ pairCount t + length ps
+  unfolding pairsOfType componentPairs typeOf componentsOf pairCount choose
+  count-type zero s = absurd (omega (arith, s .least))
+  count-type (suc zero) s = omega arith
+  count-type (suc (suc zero)) s = omega arith
+  count-type (suc (suc (suc zero))) s = omega arith
+  count-type (suc (suc (suc (suc zero)))) s = omega arith
+  count-type (suc (suc (suc (suc (suc zero))))) s = omega arith
+  count-type (suc (suc (suc (suc (suc (suc zero)))))) s = omega arith
+  count-type (suc (suc (suc (suc (suc (suc (suc zero))))))) s = omega arith
+  count-type (suc (suc (suc (suc (suc (suc (suc (suc zero)))))))) s = omega arith
+  count-type (suc (suc (suc (suc (suc (suc (suc (suc (suc t))))))))) s = absurd (omega (arith, s .most))
+
+-- ## Its record
+
+module _ (m : Model) (b : List ℕ) (at k t : ℕ) (a : AttributeNext m b at k t) (f p : ℕ) (c : Counted (byteAt b (at + 5)) f p) where
+  counted : Counted (byteAt (payloadAt b at) 1) f p
+  counted = rw (type-at b at (a .good)) at c
+
+  pub pairs-more : length (pairsAt b at) ≡ p + length (pairsAt b (nextAt b at))
+  unfolding attributeOf pairsOf
+  pairs-more = rw (a .attributes, counted .pairs) (count-type _ (drop 2 (payloadAt b at)) _ (byteAt (payloadAt b at) 1) (sized b at (a .good)))
+
+  pub field-most : (f ≤ p) × (1 ≤ p)
+  field-most =
+      let q = few (byteAt (payloadAt b at) 1) (drop 2 (payloadAt b at)) (sized b at (a .good)) in
+      (omega (arith, counted .fields, counted .pairs), omega (arith, counted .pairs))
+
+-- ## The records from a byte on
+
+module _ (m : Model) (b : List ℕ) (at k t : ℕ) (s : Standing m b at k t) where
+  pub pairs-none : (kindAt b at ≡ 5 → ⊥) → length (pairsAt b at) ≡ 0
+  unfolding pairsOf
+  pairs-none n = rw (no-attribute m b at k t s n)
+
+  module _ (e : kindAt b at ≡ 5) where
+    a : AttributeNext m b at k t
+    a = attribute-here m b at k t s e
+
+    pub pairs-room : at + 6 ≤ nextAt b at
+    pairs-room = parts-room b at (a .good)
+
+    pub pairs-next : AttributesHere m b (nextAt b at)
+    pairs-next = record { topics = k; tables = t; standing = a .next }
+
+    pub pairs-turn : (p : ℕ) → p ≡ pairCount (byteAt b (at + 5)) → length (pairsAt b at) ≡ p + length (pairsAt b (nextAt b at))
+    pairs-turn p h = pairs-more m b at k t a (fieldsOf (byteAt b (at + 5))) p (record { fields = refl; pairs = h })
+
+pub pairs-few : (t : ℕ) → pairCount t ≤ 3
+unfolding pairCount choose
+pairs-few t = go (eqb t 2) (eqb t 3)
+  where
+    go : (x y : Bool) → choose x 2 (choose y 3 1) ≤ 3
+    go true y = omega arith
+    go false true = omega arith
+    go false false = omega arith
