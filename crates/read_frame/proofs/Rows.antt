@@ -30,7 +30,7 @@ use Rattle.read_state.specs.Holds.{TablesHold, TableHolds}
 use Rattle.read_frame.specs.declared.codes.Head.{Head}
 use Rattle.read_frame.specs.Heads.{HeadOf}
 use Rattle.read_frame.specs.Moves.{endIn, aloneIn, MovedHolds}
-use Rattle.read_frame.specs.Walks.{Passed, InTopic, foundAt, TableSkipped, TableNext, FoundTable, tableIn, topicEndIn}
+use Rattle.read_frame.specs.Finds.{Passed, InTopic, foundAt, TableSkipped, TableNext, FoundTable, tableIn, topicEndIn}
 use Rattle.read_frame.proofs.Moves.{marked-refuse, holds-refuse, behind-more, behind-at, some-field, alone-moved, alone-holds, has-code, has-not}
 use Rattle.read_frame.proofs.Finds.{table-hit, table-pass, table-start, table-none, owed-more, owed-start, owed-end}
 

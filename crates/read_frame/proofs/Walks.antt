@@ -26,7 +26,7 @@ use Rattle.read_state.specs.Meaning.{dueOf, markedBy, movedOf, markedOf}
 use Rattle.read_frame.specs.declared.codes.Head.{Head}
 use Rattle.read_frame.specs.Heads.{HeadOf}
 use Rattle.read_frame.specs.Moves.{endIn, namedIn, MovedHolds}
-use Rattle.read_frame.specs.Walks.{Passed, TopicAt, topicIn}
+use Rattle.read_frame.specs.Finds.{Passed, TopicAt, topicIn}
 use Rattle.read_frame.proofs.Moves.{marked-refuse, holds-refuse, behind-more, behind-at, some-field, named-moved, has-code, has-not}
 use Rattle.read_frame.proofs.Finds.{topic-hit, topic-pass, topic-none, topic-start}
 

@@ -1,4 +1,4 @@
 pub mod Codes
 pub mod Heads
 pub mod Moves
-pub mod Walks
+pub mod Finds

@@ -12,8 +12,8 @@ ghost use Rattle.read_frame.specs.Moves.{MovedHolds};
 use crate::codes;
 use crate::lines;
 use read_state::Due;
+use read_state::FrameDue;
 use read_state::Moved;
-use read_state::Stand;
 
 // "MTID with the transfer name"; 8: "MOTR in place of MTID".
 pub fn transfer_line(model: &[u8], l: &[u8]) -> Moved
@@ -26,8 +26,12 @@ pub fn transfer_line(model: &[u8], l: &[u8]) -> Moved
     let code = head.code;
     let second = model_records::next_at(model, 0);
     match code {
-        3 => lines::named_line(&l[behind..], &model[7..second], Due::ModelName),
-        4 => Moved::No(8, 1),
+        codes::MTID => lines::named_line(
+            &l[behind..],
+            &model[7..second],
+            Due::Frame(FrameDue::ModelName),
+        ),
+        codes::MOTR => Moved::No(8, 1),
         _ => Moved::No(7, 1),
     }
 }
@@ -40,19 +44,14 @@ pub fn model_line(model: &[u8], l: &[u8]) -> Moved
 {
     let head = codes::head_of(l);
     let behind = head.behind;
-    if head.code != 5 {
+    if head.code != codes::MODL {
         return Moved::No(7, 1);
     }
     let second = model_records::next_at(model, 0);
     let first = model_records::next_at(model, second);
-    let stand = Stand {
-        topics: 0,
-        tables: 0,
-        at: first,
-    };
     lines::named_line(
         &l[behind..],
         &model[second + 4..first],
-        Due::TopicFrom(stand),
+        Due::Frame(FrameDue::Topic(0)),
     )
 }

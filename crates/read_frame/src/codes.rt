@@ -6,28 +6,63 @@ use base::fields;
 use base::fields::Next;
 use model_records::numbers;
 
+// The codes of lines by their numbers, in the order of specs/Codes.antt; 0 is no code.
+pub const NO_CODE: u8 = 0;
+
+pub const SCNT: u8 = 1;
+
+pub const SLASHES: u8 = 2;
+
+pub const MTID: u8 = 3;
+
+pub const MOTR: u8 = 4;
+
+pub const MODL: u8 = 5;
+
+pub const TOPI: u8 = 6;
+
+pub const TABL: u8 = 7;
+
+pub const OBJE: u8 = 8;
+
+pub const STPT: u8 = 9;
+
+pub const LIPT: u8 = 10;
+
+pub const ARCP: u8 = 11;
+
+pub const ELIN: u8 = 12;
+
+pub const ETAB: u8 = 13;
+
+pub const ETOP: u8 = 14;
+
+pub const EMOD: u8 = 15;
+
+pub const ENDE: u8 = 16;
+
 // The number of the code that is these four bytes: 1 to 16, or 0.
 fn number_word(w: u32) -> u8
     ensures { λ r. ⌜ r ≡ wordIn 1 codes w ⌝ }
 {
     match w {
-        0x544e4353 => 1, // SCNT
-        0x2f2f2f2f => 2, // ////
-        0x4449544d => 3, // MTID
-        0x52544f4d => 4, // MOTR
-        0x4c444f4d => 5, // MODL
-        0x49504f54 => 6, // TOPI
-        0x4c424154 => 7, // TABL
-        0x454a424f => 8, // OBJE
-        0x54505453 => 9, // STPT
-        0x5450494c => 10, // LIPT
-        0x50435241 => 11, // ARCP
-        0x4e494c45 => 12, // ELIN
-        0x42415445 => 13, // ETAB
-        0x504f5445 => 14, // ETOP
-        0x444f4d45 => 15, // EMOD
-        0x45444e45 => 16, // ENDE
-        _ => 0,
+        0x544e4353 => SCNT,
+        0x2f2f2f2f => SLASHES,
+        0x4449544d => MTID,
+        0x52544f4d => MOTR,
+        0x4c444f4d => MODL,
+        0x49504f54 => TOPI,
+        0x4c424154 => TABL,
+        0x454a424f => OBJE,
+        0x54505453 => STPT,
+        0x5450494c => LIPT,
+        0x50435241 => ARCP,
+        0x4e494c45 => ELIN,
+        0x42415445 => ETAB,
+        0x504f5445 => ETOP,
+        0x444f4d45 => EMOD,
+        0x45444e45 => ENDE,
+        _ => NO_CODE,
     }
 }
 
@@ -36,7 +71,7 @@ pub fn read_code(field: &[u8]) -> u8
     ensures { λ r. ⌜ r ≡ codeNumber (now (field .entry)) ⌝ }
 {
     if field.len() != 4 {
-        return 0;
+        return NO_CODE;
     }
     number_word(numbers::u32_at(field, 0))
 }
@@ -58,7 +93,7 @@ pub fn head_of(l: &[u8]) -> Head
             Head { code, behind: end }
         }
         Next::Nothing => Head {
-            code: 0,
+            code: NO_CODE,
             behind: l.len(),
         },
     }

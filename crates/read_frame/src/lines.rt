@@ -16,6 +16,7 @@ use base::compare;
 use base::fields;
 use base::fields::Next;
 use read_state::Due;
+use read_state::FrameDue;
 use read_state::Moved;
 
 // Whether the rest of a line has no field.
@@ -76,7 +77,7 @@ pub fn opening_line(l: &[u8]) -> Moved
     ensures meant { λ r. ⌜ ((m : Model) (rooms : Rooms) (text b : List ℕ) (s : ℕ) (c : Content) → movedOf b r c ≡ openingLine m rooms text (fieldsOf s (now (l .entry))) c) ⌝ }
     ensures held { λ r. ⌜ ((m : Model) (b : List ℕ) → MovedHolds m b r) ⌝ }
 {
-    alone_line(l, 1, Due::Description)
+    alone_line(l, codes::SCNT, Due::Frame(FrameDue::Description))
 }
 
 // A description line, or ////.
@@ -85,9 +86,9 @@ pub fn description_line(l: &[u8]) -> Moved
     ensures held { λ r. ⌜ ((m : Model) (b : List ℕ) → MovedHolds m b r) ⌝ }
 {
     if compare::begins_with(l, b"////") {
-        alone_line(l, 2, Due::Transfer)
+        alone_line(l, codes::SLASHES, Due::Frame(FrameDue::Transfer))
     } else {
-        Moved::To(Due::Description)
+        Moved::To(Due::Frame(FrameDue::Description))
     }
 }
 
@@ -96,5 +97,5 @@ pub fn closing_line(l: &[u8]) -> Moved
     ensures meant { λ r. ⌜ ((m : Model) (rooms : Rooms) (text b : List ℕ) (s : ℕ) (c : Content) → movedOf b r c ≡ closingLine m rooms text (fieldsOf s (now (l .entry))) c) ⌝ }
     ensures held { λ r. ⌜ ((m : Model) (b : List ℕ) → MovedHolds m b r) ⌝ }
 {
-    alone_line(l, 16, Due::Nothing)
+    alone_line(l, codes::ENDE, Due::Frame(FrameDue::Nothing))
 }

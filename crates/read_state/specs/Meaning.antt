@@ -1,5 +1,5 @@
 -- What the state of reading means: each case of this crate's enums with its case of the meaning.
-use Prim.Native.Nat.{ℕ, _+_, _*_, _-_}
+use Prim.Native.Nat.{ℕ, _+_, _*_}
 use mathlib.Core.List.{List, [], _∷_}
 use lib.IntN.{ℤ}
 use lib.ListN.{length, take, drop}
@@ -14,9 +14,11 @@ use Rattle.read_state.specs.declared.LineCode.{LineCode}
 use Rattle.read_state.specs.declared.LineCode.the-variants.{Stpt, Lipt, Arcp, Elin, Other}
 use Rattle.read_state.specs.declared.Move.{Move}
 use Rattle.read_state.specs.declared.Move.the-variants.{Unexpected, UndefinedLine, Ended, Point}
-use Rattle.read_state.specs.declared.Underway.{Underway}
+use Rattle.read_state.specs.declared.OpenLine.{OpenLine}
 use Rattle.read_state.specs.declared.Due.{Due}
-use Rattle.read_state.specs.declared.Due.the-variants.{Opening, Description, Transfer, ModelName, TopicFrom, TableFrom, ObjectOf, LineOf, Closing, Nothing}
+use Rattle.read_state.specs.declared.Due.the-variants.{Frame, Object, Line}
+use Rattle.read_state.specs.declared.FrameDue.{FrameDue}
+use Rattle.read_state.specs.declared.FrameDue.the-variants as frame
 use Rattle.read_state.specs.declared.Moved.{Moved}
 use Rattle.read_state.specs.declared.Moved.the-variants.{To}
 use Rattle.read_state.specs.declared.State.{State}
@@ -51,36 +53,44 @@ abbrev pub linesAt : (model : List ℕ) (at cell : ℕ) → List LineAttribute
 linesAt model at cell = lineAttributes cell (pairsOf (attributesOf (recordsFrom 0 at (drop at model))))
 
 -- the first of these line attributes is under way
-unfoldable pub underwayOf : Underway → List LineAttribute → meaning.Due
-underwayOf u [] = meaning.objectOf (u .here .table)
-underwayOf u (a ∷ others) = meaning.lineOf (record { table = u .here .table; state = lineStateOf (u .state); first = u .first; attribute = a; others = others })
+unfoldable pub openLineOf : OpenLine → List LineAttribute → meaning.Due
+openLineOf u [] = meaning.objectOf (u .table)
+openLineOf u (a ∷ others) =
+    meaning.lineOf (record { table = u .table; state = lineStateOf (u .state); first = u .first; attribute = a; others = others })
+
+unfoldable pub frameDueOf : FrameDue → meaning.Due
+frameDueOf frame.Opening = meaning.opening
+frameDueOf frame.Description = meaning.description
+frameDueOf frame.Transfer = meaning.transfer
+frameDueOf frame.ModelName = meaning.modelName
+frameDueOf (frame.Topic from) = meaning.topicFrom from
+frameDueOf (frame.Table topic from) = meaning.tableFrom topic from
+frameDueOf frame.Closing = meaning.closing
+frameDueOf frame.Nothing = meaning.nothing
 
 unfoldable pub dueOf : (model : List ℕ) → Due → meaning.Due
-dueOf model Opening = meaning.opening
-dueOf model Description = meaning.description
-dueOf model Transfer = meaning.transfer
-dueOf model ModelName = meaning.modelName
-dueOf model (TopicFrom s) = meaning.topicFrom (s .topics)
-dueOf model (TableFrom from s) = meaning.tableFrom (s .topics - 1) from
-dueOf model (ObjectOf t) = meaning.objectOf (t .table)
-dueOf model (LineOf u) = underwayOf u (linesAt model (u .at) (u .cell))
-dueOf model Closing = meaning.closing
-dueOf model Nothing = meaning.nothing
+dueOf model (Frame due) = frameDueOf due
+dueOf model (Object table) = meaning.objectOf table
+dueOf model (Line u) = openLineOf u (linesAt model (u .at) (u .cell))
 
 -- ## What a line makes of the state
 
--- a line that begins a topic or a table adds its mark; there are so many topics
+-- a line that begins a topic adds its mark
+unfoldable pub topicMarkedBy : FrameDue → Content → Content
+topicMarkedBy frame.Opening c = c
+topicMarkedBy frame.Description c = c
+topicMarkedBy frame.Transfer c = c
+topicMarkedBy frame.ModelName c = c
+topicMarkedBy (frame.Topic from) c = c
+topicMarkedBy (frame.Table topic from) c = withMark topic c
+topicMarkedBy frame.Closing c = c
+topicMarkedBy frame.Nothing c = c
+
+-- so does a line that begins a table; there are so many topics
 unfoldable pub markedBy : (topics : ℕ) → Due → Content → Content
-markedBy topics Opening c = c
-markedBy topics Description c = c
-markedBy topics Transfer c = c
-markedBy topics ModelName c = c
-markedBy topics (TopicFrom s) c = c
-markedBy topics (TableFrom from s) c = withMark (s .topics - 1) c
-markedBy topics (ObjectOf t) c = withMark (topics + t .table) c
-markedBy topics (LineOf u) c = c
-markedBy topics Closing c = c
-markedBy topics Nothing c = c
+markedBy topics (Frame due) c = topicMarkedBy due c
+markedBy topics (Object table) c = withMark (topics + table) c
+markedBy topics (Line u) c = c
 
 -- behind a line that leaves the table as it is
 abbrev pub movedOf : (model : List ℕ) → Moved → Content → lines.Step

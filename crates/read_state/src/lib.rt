@@ -115,41 +115,33 @@ fn forbids_straight(state: LineState, forms: usize) -> bool
     }
 }
 
-// Where a topic begins among the model's records: topics and tables passed, and the byte of the next record.
-pub struct Stand {
-    pub topics: usize,
-    pub tables: usize,
-    pub at: usize,
-}
-
-// A table whose objects are read: its topic, its number, and the byte of its first attribute record.
-pub struct TableHere {
-    pub topic: usize,
+// A line attribute whose lines are read: its object's table, its line state, its first point, the byte of its record, and
+// the cell of its pair.
+pub struct OpenLine {
     pub table: usize,
-    pub at: usize,
-}
-
-// A line attribute under way: its object's table, its line state, its first point, the byte of its record, and the cell of its pair.
-pub struct Underway {
-    pub here: TableHere,
     pub state: LineState,
     pub first: usize,
     pub at: usize,
     pub cell: usize,
 }
 
-// What the next line has to be. A table may be the one `from` or a later one of the topic that was begun last.
-pub enum Due {
+// A line outside objects: a topic may be this one or a later one; a table is one of this topic, the second number or a later one.
+pub enum FrameDue {
     Opening,
     Description,
     Transfer,
     ModelName,
-    TopicFrom(Stand),
-    TableFrom(usize, Stand),
-    ObjectOf(TableHere),
-    LineOf(Underway),
+    Topic(usize),
+    Table(usize, usize),
     Closing,
     Nothing,
+}
+
+// What the next line has to be: a line outside objects, an object of this table or its end, or a line of a line attribute.
+pub enum Due {
+    Frame(FrameDue),
+    Object(usize),
+    Line(OpenLine),
 }
 
 // What is due behind a line that adds nothing to the rows, cells and points; or a refusal and its field.

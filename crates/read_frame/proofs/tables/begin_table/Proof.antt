@@ -1,6 +1,6 @@
 -- `read_frame::begin_table` meets its contract. Assumes nothing.
 use Rattle.read_frame.proofs.Rows.{table-no-name, table-missing, table-skipped, table-begun, table-holds}
-use Rattle.read_frame.specs.Walks.{FoundTable}
+use Rattle.read_frame.specs.Finds.{FoundTable}
 use Rattle.model_records.specs.Records.{modelAt}
 use Rattle.base.proofs.Fill.{to-end}
 use Rattle.base.specs.Fields.{NextField}

@@ -1,5 +1,5 @@
 -- `read_frame::found_table` meets its contract. Assumes nothing.
-use Rattle.read_frame.specs.Walks.{foundAt}
+use Rattle.read_frame.specs.Finds.{foundAt}
 use borrow.Author.Needs.{needs}
 use Rattle.read_frame.proofs.tables.found_table.Statement.{statement}
 use Rattle.read_frame.proofs.tables.found_table.Tie as tie

@@ -1,6 +1,6 @@
 -- `read_frame::begin_topic` meets its contract. Assumes nothing.
 use Rattle.read_frame.proofs.Walks.{topic-no-name, topic-missing, topic-begun, topic-holds}
-use Rattle.read_frame.specs.Walks.{FoundTopic}
+use Rattle.read_frame.specs.Finds.{FoundTopic}
 use Rattle.model_records.specs.Records.{modelAt}
 use Rattle.base.proofs.Fill.{to-end}
 use Rattle.base.specs.Fields.{NextField}
