@@ -5,7 +5,7 @@ ghost use Prim.Native.Nat.{_≤_};
 ghost use lib.ListN.{length, set, take};
 ghost use Rattle.meaning.specs.Answer.{codeForC, filled};
 ghost use Rattle.read_text.specs.Outcomes.{answerOf};
-ghost use Rattle.c_answers.specs.Numbers.{numbersIn, firstOf};
+ghost use Rattle.meaning.specs.Answer.{numbersIn, firstOf};
 use read_text::Answer;
 
 // A number in its place, where the room has it.

@@ -4,7 +4,7 @@ ghost use Prim.Native.Nat.{_≤_};
 ghost use lib.ListN.{length};
 ghost use Rattle.meaning.specs.Answer.{codeForC};
 ghost use Rattle.write.specs.Answers.{answerOf};
-ghost use Rattle.c_answers.specs.Numbers.{numbersIn, firstOf};
+ghost use Rattle.meaning.specs.Answer.{numbersIn, firstOf};
 use crate::numbers;
 use write::Answer;
 

@@ -1,4 +1,1 @@
 pub mod Codes
-pub mod LineCounts
-pub mod RowCounts
-pub mod Answers

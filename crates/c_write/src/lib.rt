@@ -4,7 +4,7 @@ ghost use lib.ListN.{length, replicate};
 ghost use Rattle.meaning.specs.Answer.{codeForC};
 ghost use Rattle.meaning.specs.Width as writes;
 ghost use Rattle.write_judge.specs.Tables.{lentOf};
-ghost use Rattle.c_answers.specs.Numbers.{numbersIn};
+ghost use Rattle.meaning.specs.Answer.{numbersIn};
 use c_answers::writing;
 
 // 0 and the number of bytes written, or a refusal's number and the byte of a bad model's record; `answer` gets the four numbers, as many as it has room for. The lines of the

@@ -10,3 +10,6 @@ pub mod StepsRead
 pub mod TablesRead
 pub mod LinesRead
 pub mod Claims
+pub mod RowCounts
+pub mod LineCounts
+pub mod SmallAnswers

@@ -14,3 +14,4 @@ pub mod EqualLines
 pub mod LongerText
 pub mod WrittenAgain
 pub mod ReadWritable
+pub mod SmallAnswers

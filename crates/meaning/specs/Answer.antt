@@ -3,7 +3,7 @@ use Prim.Native.Nat.{ℕ, _+_, _*_, _-_}
 use mathlib.Core.Bool.{Bool, true, false}
 use mathlib.Core.List.{List, [], _∷_, _++_}
 use lib.Dec.{ltb}
-use lib.ListN.{length, replicate}
+use lib.ListN.{length, replicate, take}
 use Rattle.meaning.specs.Bytes.{refuse}
 use Rattle.meaning.specs.Unfold.{Unfolded, lines, fault, unfoldFile, unfoldedText}
 use Rattle.meaning.specs.Model.{Model}
@@ -70,3 +70,12 @@ unfoldText model file room = refuse (tooLong file) (textRefused room 1 0) (textC
 unfoldable pub codeForC : Answer → ℕ
 codeForC (accepted first second third) = 256 * first
 codeForC (refusal number first second) = number + 256 * first
+
+-- "An answer is four numbers": as many of them as there is room for, and zeros behind
+unfoldable pub numbersIn : (room : ℕ) → Answer → List ℕ
+numbersIn room a = take room (filled 0 room (numbersOf a))
+
+-- the number behind the first one: the objects, or the first place number
+abbrev pub firstOf : Answer → ℕ
+firstOf (accepted first second third) = first
+firstOf (refusal number first second) = first

@@ -10,7 +10,7 @@ use contract.Lifetimes.{Lfts}
 use denote.Ref.{now}
 use denote.Triple.Clauses.{AtExit}
 use Rattle.meaning.specs.Answer as meaning
-use Rattle.read_step.specs.Steps.{roomsOf}
+use Rattle.meaning.specs.Reading.{roomsOf}
 use Rattle.read_text.specs.Outcomes.{answerOf}
 use Rattle.read.specs.Same.{Outcome, Allowed, OutcomesCoincide, SameTable, CallsCoincide}
 use Rattle.read_text.specs.declared.Answer.{Answer}

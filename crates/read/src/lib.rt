@@ -11,7 +11,7 @@ ghost use Rattle.meaning.specs.Lines.{readLines};
 ghost use Rattle.meaning.specs.Table as table;
 ghost use Rattle.model_records.specs.Records.{modelAt};
 ghost use Rattle.read_text.specs.Text.{linesOf};
-ghost use Rattle.read_step.specs.Steps.{roomsOf};
+ghost use Rattle.meaning.specs.Reading.{roomsOf};
 ghost use Rattle.read_text.specs.Outcomes.{answerOf, Fits, MarksRead, ReadInto};
 use model_check::check::Checked;
 use read_text::Answer;

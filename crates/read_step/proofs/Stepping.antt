@@ -34,7 +34,8 @@ use Rattle.read_frame.specs.declared.codes.Head.{Head}
 use Rattle.read_polylines.specs.Ways.{StepHolds, Does}
 use Rattle.read_polylines.proofs.Ways.{line-held}
 use Rattle.read_objects.specs.Rows.{Adds}
-use Rattle.read_step.specs.Steps.{marksBy, Small, SmallMoved, Framed, roomsOf, Steps, lineMeant}
+use Rattle.read_step.specs.Steps.{marksBy, Small, SmallMoved, Framed, Steps, lineMeant}
+use Rattle.meaning.specs.Reading.{roomsOf}
 
 -- ## The state behind a line that adds no row, cell or point
 

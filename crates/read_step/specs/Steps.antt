@@ -64,10 +64,6 @@ pub record Model (b : List ℕ) (undefined topics : ℕ) (marks : List ℕ) : Ty
   pub topicCount : topics ≡ length (modelAt b .topics)
   pub markCount : length marks ≡ topics + length (modelAt b .tables)
 
--- the rooms that these buffers lend
-abbrev pub roomsOf : (text marks rows : List ℕ) (cells points : List ℤ) → Rooms
-roomsOf text marks rows cells points = record { text = length text; marks = length marks; rows = length rows; cells = length cells; points = length points }
-
 -- a step means this, with the buffers before and behind it; and what holds stays
 pub record Steps (b text : List ℕ) (seed : ℕ) (s : State) (meant : Rooms → Content → lines.Step) (marks rows : List ℕ) (cells points : List ℤ) (index : List ℕ) (marks′ rows′ : List ℕ) (cells′ points′ : List ℤ) (index′ : List ℕ) (r : Step) : Type 0 where
   pub step : (rooms : Rooms) → rooms .rows ≡ length rows → rooms .cells ≡ length cells → rooms .points ≡ length points

@@ -2,8 +2,8 @@
 use mathlib.Core.Path.{ap, _∙_}
 use lib.ListN.{length}
 use Rattle.meaning.specs.Answer.{Answer, codeForC}
-use Rattle.c_answers.specs.Numbers.{numbersIn}
-use Rattle.c_read.proofs.Answers.{read-small}
+use Rattle.meaning.specs.Answer.{numbersIn}
+use Rattle.meaning.proofs.Reading.SmallAnswers.{read-small}
 use borrow.Author.Needs.{needs}
 use Rattle.c_read.proofs.vendorfinch_read.Statement.{statement}
 use Rattle.c_read.proofs.vendorfinch_read.Tie as tie

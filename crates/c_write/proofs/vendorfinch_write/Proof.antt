@@ -3,8 +3,8 @@ use Prim.Native.Nat.{_≤_}
 use mathlib.Core.Path.{sym, ap, subst, _∙_}
 use lib.ListN.{length}
 use Rattle.meaning.specs.Answer.{Answer, codeForC}
-use Rattle.c_answers.specs.Numbers.{numbersIn, firstOf}
-use Rattle.c_write.proofs.Writes.{write-small}
+use Rattle.meaning.specs.Answer.{numbersIn, firstOf}
+use Rattle.meaning.proofs.Writing.SmallAnswers.{write-small}
 use borrow.Author.Needs.{needs}
 use Rattle.c_write.proofs.vendorfinch_write.Statement.{statement}
 use Rattle.c_write.proofs.vendorfinch_write.Tie as tie

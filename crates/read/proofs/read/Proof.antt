@@ -4,7 +4,7 @@ use Prim.Native.Nat.{ℕ}
 use mathlib.Core.Path.{sym, ap, _∙_}
 use lib.ListN.{replicate}
 use Rattle.meaning.specs.Table as table
-use Rattle.read_step.specs.Steps.{roomsOf}
+use Rattle.meaning.specs.Reading.{roomsOf}
 use Rattle.read_text.proofs.Endings.{left}
 use Rattle.read.proofs.read.Statement.{statement}
 use Rattle.read.proofs.read.Tie as tie

@@ -10,7 +10,7 @@ use Rattle.meaning.specs.Answer.{textUnfolded}
 use Rattle.meaning.proofs.Model.Marks.{good-mark}
 use Rattle.model_records.specs.Records.{modelAt}
 use Rattle.unfold.specs.Answer.{answerOf, Within}
-use Rattle.read_step.specs.Steps.{roomsOf}
+use Rattle.meaning.specs.Reading.{roomsOf}
 use Rattle.read.proofs.Unfolding.{fault-read, full-read, stands, stands-in, text-read}
 use Rattle.read.proofs.read_good.Statement.{statement}
 use Rattle.read.proofs.read_good.Tie as tie

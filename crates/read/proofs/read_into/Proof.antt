@@ -6,7 +6,7 @@ use Rattle.meaning.specs.Table.{Result}
 use Rattle.model_records.specs.Records.{modelAt}
 use Rattle.model_check.specs.Walk.{checkedMeant}
 use Rattle.model_check.proofs.Found.{found-good, found-topics, found-bad}
-use Rattle.read_step.specs.Steps.{roomsOf}
+use Rattle.meaning.specs.Reading.{roomsOf}
 use Rattle.read_text.specs.Outcomes.{ReadInto}
 use Rattle.read.proofs.Files.{too-long, under-bad, under-good}
 use Rattle.read.proofs.read_into.Statement.{statement}

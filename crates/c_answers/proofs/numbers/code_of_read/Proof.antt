@@ -6,7 +6,7 @@ use Rattle.meaning.specs.Answer.{codeForC}
 use Rattle.read_text.specs.Outcomes.{answerOf}
 use Rattle.read_text.specs.declared.Answer.{Answer}
 use Rattle.read_text.specs.declared.Answer.the-variants.{Accepted}
-use Rattle.c_answers.specs.Numbers.{firstOf}
+use Rattle.meaning.specs.Answer.{firstOf}
 use borrow.Author.Needs.{needs}
 use Rattle.c_answers.proofs.numbers.code_of_read.Statement.{statement}
 use Rattle.c_answers.proofs.numbers.code_of_read.Tie as tie

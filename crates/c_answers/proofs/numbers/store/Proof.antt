@@ -4,7 +4,7 @@ use lib.ListN.{length}
 use Rattle.read_text.specs.Outcomes.{answerOf}
 use Rattle.read_text.specs.declared.Answer.{Answer}
 use Rattle.meaning.specs.Answer.{numbersOf}
-use Rattle.c_answers.specs.Numbers.{numbersIn}
+use Rattle.meaning.specs.Answer.{numbersIn}
 use borrow.Author.Needs.{needs}
 use Rattle.c_answers.proofs.numbers.store.Statement.{statement}
 use Rattle.c_answers.proofs.numbers.store.Tie as tie

@@ -5,7 +5,7 @@ use mathlib.Core.Path.{subst}
 use Rattle.meaning.specs.Answer.{codeForC}
 use Rattle.write.specs.Answers.{answerOf}
 use Rattle.write.specs.declared.Answer.{Answer}
-use Rattle.c_answers.specs.Numbers.{firstOf}
+use Rattle.meaning.specs.Answer.{firstOf}
 use borrow.Author.Needs.{needs}
 use Rattle.c_answers.proofs.writing.code_of_write.Statement.{statement}
 use Rattle.c_answers.proofs.writing.code_of_write.Tie as tie

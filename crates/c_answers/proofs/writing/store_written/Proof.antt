@@ -4,7 +4,7 @@ use lib.ListN.{length}
 use Rattle.write.specs.Answers.{answerOf}
 use Rattle.write.specs.declared.Answer.{Answer}
 use Rattle.meaning.specs.Answer.{numbersOf}
-use Rattle.c_answers.specs.Numbers.{numbersIn}
+use Rattle.meaning.specs.Answer.{numbersIn}
 use borrow.Author.Needs.{needs}
 use Rattle.c_answers.proofs.writing.store_written.Statement.{statement}
 use Rattle.c_answers.proofs.writing.store_written.Tie as tie

@@ -7,7 +7,7 @@ use Rattle.meaning.specs.Reading.{startOf}
 use Rattle.meaning.specs.Lines.{readLines}
 use Rattle.model_records.specs.Records.{modelAt}
 use Rattle.read_text.specs.Text.{linesOf}
-use Rattle.read_step.specs.Steps.{roomsOf}
+use Rattle.meaning.specs.Reading.{roomsOf}
 use Rattle.read_text.proofs.Referring.{stopped-read, ran-read, ran-stopped, all-read}
 use Rattle.read_text.proofs.tables.read_table.Statement.{statement}
 use Rattle.read_text.proofs.tables.read_table.Tie as tie

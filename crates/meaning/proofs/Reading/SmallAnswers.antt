@@ -4,17 +4,17 @@ use native.Mathlib.Omega.{arith}
 use mathlib.Core.List.{List}
 use lib.ListN.{length}
 use borrow.Author.Tests.{ltb-false}
 use Rattle.meaning.specs.Unfold.{Unfolded, lines, fault, unfoldedText}
 use Rattle.meaning.specs.Model.{Model}
 use Rattle.meaning.specs.Check.{Checked, good, bad, checkModel}
 use Rattle.meaning.specs.Reading.{Content, Rooms}
 use Rattle.meaning.specs.Lines.{Run, ran, stopped}
 use Rattle.meaning.specs.Table.{Resolved, resolved, unresolved, Result, refusedWith, acceptedWith, readResolved, readRun, readText, readUnfolded, readChecked, read}
 use Rattle.meaning.proofs.Model.Bounds.{BadBelow, bad-below}
 use Rattle.meaning.proofs.Tests.Refuse.{refuse-keeps}
-use Rattle.c_answers.specs.Numbers.{firstOf}
-use Rattle.c_read.proofs.LineCounts.{Bounded, file-bounded}
-use Rattle.c_read.proofs.RowCounts.{Ran, lines-few, Place, resolve-place}
+use Rattle.meaning.specs.Answer.{firstOf}
+use Rattle.meaning.proofs.Reading.LineCounts.{Bounded, file-bounded}
+use Rattle.meaning.proofs.Reading.RowCounts.{Ran, lines-few, Place, resolve-place}
 
 -- the number of objects, or the first place number, is small
 unfoldable pub Small : Result → Type 0

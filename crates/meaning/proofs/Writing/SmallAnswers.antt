@@ -5,13 +5,13 @@ use mathlib.Core.List.{List}
 use lib.Dec.{ltb}
 use lib.ListN.{length}
 use borrow.Author.Tests.{ltb-false}
 use Rattle.meaning.specs.Check.{Checked, good, bad, checkModel}
 use Rattle.meaning.specs.Answer.{accepted}
 use Rattle.meaning.specs.Writing.{Lent}
 use Rattle.meaning.specs.Width.{Written, writingRefused, writeBytes, writeChecked, write}
 use Rattle.meaning.proofs.Model.Bounds.{BadBelow, bad-below}
 use Rattle.meaning.proofs.Tests.Refuse.{refuse-keeps, neither}
-use Rattle.c_answers.specs.Numbers.{firstOf}
+use Rattle.meaning.specs.Answer.{firstOf}
 
 -- the number of bytes, or the record's byte, is small
 unfoldable Short : Written → Type 0
