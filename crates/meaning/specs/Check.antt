@@ -8,7 +8,9 @@ use lib.IntN.{ℤ, pos, negsuc}
 use lib.Signed.{ltZ}
 use lib.ListN.{length, drop}
 use Rattle.meaning.specs.Bytes.{choose, refuse, allOf, digit, letter, every, same, byteAt}
-use Rattle.meaning.specs.Model.{Records, finish, overrun, entry, recordsFrom, Component, AttributeType, Reference, Coordinate, Number, Text, Date, Enumeration, Line, Attribute, Table, Model, tableAt, typeOf, attributeOf, modelOf, Found, found, missing, targetOf}
+use Rattle.meaning.specs.Model.{Records, finish, overrun, entry, recordsFrom, Component, AttributeType, Reference}
+use Rattle.meaning.specs.Model.{Coordinate, Number, Text, Date, Enumeration, Line, Attribute, Table, Model}
+use Rattle.meaning.specs.Model.{tableAt, typeOf, attributeOf, modelOf, Found, found, missing, targetOf}
 
 -- ## Rules of a record
 
@@ -56,7 +58,8 @@ goodComponents (c ∷ cs) = goodComponent c && goodComponents cs
 unfoldable pub isDimension : ℕ → Bool
 isDimension n = eqb n 2 || eqb n 3
 
--- a text's longest length and an enumeration's count of leaves are "at least 1"; a line's forms are "1 straight, 2 arc, 3 both"
+-- a text's longest length and an enumeration's count of leaves are "at least 1"; a line's forms are "1 straight, 2 arc,
+-- 3 both"
 unfoldable pub goodType : AttributeType → Bool
 goodType (Reference t) = true
 goodType (Coordinate cs) = allOf (isDimension (length cs) ∷ goodComponents cs ∷ [])
@@ -77,7 +80,8 @@ isType t p = allOf
 
 -- ## Rules of a record behind others
 
--- the names seen so far: of the topics, of the tables of the last topic, of the attributes of the last table; and the count of all tables
+-- the names seen so far: of the topics, of the tables of the last topic, of the attributes of the last table; and the
+-- count of all tables
 pub record Seen : Type 0 where
   pub topics : List (List ℕ)
   pub tables : List (List ℕ)
@@ -146,9 +150,24 @@ keeps kind p seen =
 -- what is seen behind a record of this kind
 unfoldable pub see : ℕ → List ℕ → Seen → Seen
 see kind p seen =
-    choose (eqb kind 3) (record { topics = seen .topics ++ (p ∷ []); tables = []; attributes = []; tableCount = seen .tableCount })
-    (choose (eqb kind 4) (record { topics = seen .topics; tables = seen .tables ++ (drop 1 p ∷ []); attributes = []; tableCount = seen .tableCount + 1 })
-    (choose (eqb kind 5) (record { topics = seen .topics; tables = seen .tables; attributes = seen .attributes ++ (attributeOf 0 p .name ∷ []); tableCount = seen .tableCount })
+    choose (eqb kind 3) (record {
+      topics = seen .topics ++ (p ∷ []);
+      tables = [];
+      attributes = [];
+      tableCount = seen .tableCount;
+    })
+    (choose (eqb kind 4) (record {
+      topics = seen .topics;
+      tables = seen .tables ++ (drop 1 p ∷ []);
+      attributes = [];
+      tableCount = seen .tableCount + 1;
+    })
+    (choose (eqb kind 5) (record {
+      topics = seen .topics;
+      tables = seen .tables;
+      attributes = seen .attributes ++ (attributeOf 0 p .name ∷ []);
+      tableCount = seen .tableCount;
+    })
     seen))
 
 -- ## The check
@@ -162,8 +181,8 @@ pub data Checked : Type 0 where
 unfoldable pub followsTransfer : ℕ → Bool
 followsTransfer kind = eqb kind 2
 
--- "Order: transfer, model, topics each with at least one table, tables each with at least one attribute, end, nothing after"
--- may a record of this kind stand behind one of kind `before`, which is 0 for the first record?
+-- "Order: transfer, model, topics each with at least one table, tables each with at least one attribute, end, nothing
+-- after" may a record of this kind stand behind one of kind `before`, which is 0 for the first record?
 unfoldable pub follows : ℕ → ℕ → Bool
 follows before kind =
     eqb before 0 && eqb kind 1
@@ -173,7 +192,8 @@ follows before kind =
     || eqb before 4 && eqb kind 5
     || eqb before 5 && leb 3 kind && leb kind 6
 
--- "reference (u16 table number, counted from 0, same topic)": does a type refer to a table that is not there, or not in this topic?
+-- "reference (u16 table number, counted from 0, same topic)": does a type refer to a table that is not there, or not in
+-- this topic?
 unfoldable pub isOutside : List Table → (topic : ℕ) → Found → Bool
 isOutside ts topic missing = false
 isOutside ts topic (found t) = not (ltb t (length ts) && eqb (tableAt ts t .topic) topic)
@@ -181,14 +201,16 @@ isOutside ts topic (found t) = not (ltb t (length ts) && eqb (tableAt ts t .topi
 -- "References are judged last, in order": of one table's attributes, then of all tables
 unfoldable pub judgeAttributes : List Table → ℕ → List Attribute → Checked → Checked
 judgeAttributes ts topic [] rest = rest
-judgeAttributes ts topic (a ∷ attributes) rest = refuse (isOutside ts topic (targetOf (a .type))) (bad (a .at)) (judgeAttributes ts topic attributes rest)
+judgeAttributes ts topic (a ∷ attributes) rest =
+    refuse (isOutside ts topic (targetOf (a .type))) (bad (a .at)) (judgeAttributes ts topic attributes rest)
 
 unfoldable pub judgeReferences : List Table → List Table → Checked → Checked
 judgeReferences ts [] rest = rest
 judgeReferences ts (t ∷ others) rest = judgeAttributes ts (t .topic) (t .attributes) (judgeReferences ts others rest)
 
 -- "The first bad record is the first that overruns the model, has a kind not allowed there, or breaks a rule;
--- a missing record is at the model's end, bytes behind the end record are at the first of them"; the rest is judged last
+-- a missing record is at the model's end, bytes behind the end record are at the first of them"; the rest is judged
+-- last
 unfoldable pub checkRecords : (before : ℕ) → Seen → Records → Checked → Checked
 checkRecords before seen (finish at) rest = refuse (not (eqb before 6)) (bad at) rest
 checkRecords before seen (overrun at) rest = bad at
@@ -220,12 +242,14 @@ attributeNames (a ∷ others) = a .name ∷ attributeNames others
 -- the names of the tables of a topic
 unfoldable pub tableNames : (topic : ℕ) → List Table → List (List ℕ)
 tableNames topic [] = []
-tableNames topic (t ∷ others) = choose (eqb (t .topic) topic) (t .name ∷ tableNames topic others) (tableNames topic others)
+tableNames topic (t ∷ others) =
+    choose (eqb (t .topic) topic) (t .name ∷ tableNames topic others) (tableNames topic others)
 
 -- the types of a table's attributes are good, and refer to tables of its topic
 unfoldable pub goodTypes : List Table → (topic : ℕ) → List Attribute → Bool
 goodTypes ts topic [] = true
-goodTypes ts topic (a ∷ others) = allOf (goodType (a .type) ∷ not (isOutside ts topic (targetOf (a .type))) ∷ goodTypes ts topic others ∷ [])
+goodTypes ts topic (a ∷ others) =
+    allOf (goodType (a .type) ∷ not (isOutside ts topic (targetOf (a .type))) ∷ goodTypes ts topic others ∷ [])
 
 -- the tables `others` among all tables ts of so many topics
 unfoldable pub goodTables : (topics : ℕ) (ts others : List Table) → Bool

@@ -21,7 +21,8 @@ CutUnfolds = (mark : ℕ) → Mark mark → (ls : List (List ℕ)) (f : List ℕ
 
 -- (b) a file without a fault of unfolding is a cut of its lines, and their bytes are permitted
 abbrev pub UnfoldsCut : Type 0
-UnfoldsCut = (mark : ℕ) → Mark mark → (ls : List (List ℕ)) (f : List ℕ) → unfoldFile mark f ≡ lines ls → Cut mark ls f × Permitted ls
+UnfoldsCut = (mark : ℕ) → Mark mark → (ls : List (List ℕ)) (f : List ℕ) → unfoldFile mark f ≡ lines ls → Cut mark ls f
+    × Permitted ls
 
 -- f is a cut of ls, and of no other lines
 pub record OnlyCut (mark : ℕ) (f : List ℕ) : Type 0 where
@@ -31,7 +32,8 @@ pub record OnlyCut (mark : ℕ) (f : List ℕ) : Type 0 where
 
 -- (c) "every file without a fault of unfolding is a cut of exactly one list of lines"
 abbrev pub OneCut : Type 0
-OneCut = (mark : ℕ) → Mark mark → (f : List ℕ) → ((number line : ℕ) → unfoldFile mark f ≡ fault number line → ⊥) → OnlyCut mark f
+OneCut = (mark : ℕ) → Mark mark → (f : List ℕ) → ((number line : ℕ) → unfoldFile mark f ≡ fault number line → ⊥)
+    → OnlyCut mark f
 
 -- ## The model
 
@@ -45,28 +47,33 @@ GoodMark = (model : List ℕ) (m : Model) → checkModel model ≡ good m → Ma
 
 -- ## Demand 3
 
--- a cut within the size limit is read as its lines: the answer and every buffer are those that reading defines for the lines
+-- a cut within the size limit is read as its lines: the answer and every buffer are those that reading defines for the
+-- lines
 abbrev pub CutReadsAsLines : Type 0
 CutReadsAsLines =
-    (model : List ℕ) (m : Model) (ls : List (List ℕ)) (f : List ℕ) (rooms : Rooms) → checkModel model ≡ good m → length f ≤ 16777216 → Cut (m .mark) ls f
+    (model : List ℕ) (m : Model) (ls : List (List ℕ)) (f : List ℕ) (rooms : Rooms) → checkModel model ≡ good m
+    → length f ≤ 16777216 → Cut (m .mark) ls f
     → read model f rooms ≡ readText m rooms ls
 
 -- and so for the unfolding alone
 abbrev pub CutUnfoldsToText : Type 0
 CutUnfoldsToText =
-    (model : List ℕ) (m : Model) (ls : List (List ℕ)) (f : List ℕ) (room : ℕ) → checkModel model ≡ good m → length f ≤ 16777216 → Cut (m .mark) ls f
+    (model : List ℕ) (m : Model) (ls : List (List ℕ)) (f : List ℕ) (room : ℕ) → checkModel model ≡ good m
+    → length f ≤ 16777216 → Cut (m .mark) ls f
     → unfoldText model f room ≡ textUnfolded room (lines ls)
 
 -- "under a bad one both files get 2"
 abbrev pub BadModelReads : Type 0
-BadModelReads = (model : List ℕ) (at : ℕ) (f : List ℕ) (rooms : Rooms) → checkModel model ≡ bad at → length f ≤ 16777216 → read model f rooms ≡ refusedWith rooms 2 at 0
+BadModelReads = (model : List ℕ) (at : ℕ) (f : List ℕ) (rooms : Rooms) → checkModel model ≡ bad at → length f ≤ 16777216
+    → read model f rooms ≡ refusedWith rooms 2 at 0
 
 -- "A good model gives its mark": a cut under a checked model; under a bad one there is no mark, and nothing is asked
 abbrev pub CutUnder : Checked → List (List ℕ) → List ℕ → Type 0
 CutUnder (good m) ls f = Cut (m .mark) ls f
 CutUnder (bad at) ls f = Unit {0}
 
--- "Two cuts of the same logical lines of permitted bytes into physical lines get the same answer and the same content of every result buffer"
+-- "Two cuts of the same logical lines of permitted bytes into physical lines get the same answer and the same content
+-- of every result buffer"
 abbrev pub CutsReadAlike : Type 0
 CutsReadAlike =
     (model : List ℕ) (ls : List (List ℕ)) (f g : List ℕ) (rooms : Rooms) → length f ≤ 16777216 → length g ≤ 16777216
@@ -85,7 +92,8 @@ pub record Zeroed (rooms : Rooms) (r : Result) : Type 0 where
 -- "All result buffers are zeroed by every refusal"
 abbrev pub RefusalZeroes : Type 0
 RefusalZeroes =
-    (model file : List ℕ) (rooms : Rooms) (number first second : ℕ) → read model file rooms .answer ≡ refusal number first second
+    (model file : List ℕ) (rooms : Rooms) (number first second : ℕ)
+    → read model file rooms .answer ≡ refusal number first second
     → Zeroed rooms (read model file rooms)
 
 -- every buffer keeps its length
@@ -110,12 +118,15 @@ pub record UsedBy (rooms : Rooms) (objectCount cellCount pointCount : ℕ) (r : 
 
 abbrev pub CountsSayWhatIsUsed : Type 0
 CountsSayWhatIsUsed =
-    (model file : List ℕ) (rooms : Rooms) (objects count points : ℕ) → read model file rooms .answer ≡ accepted objects count points
+    (model file : List ℕ) (rooms : Rooms) (objects count points : ℕ)
+    → read model file rooms .answer ≡ accepted objects count points
     → UsedBy rooms objects count points (read model file rooms)
 
 -- the unfolding's text room, likewise
 abbrev pub UnfoldingRefusalZeroes : Type 0
-UnfoldingRefusalZeroes = (model file : List ℕ) (room number first second : ℕ) → unfoldText model file room .answer ≡ refusal number first second → unfoldText model file room .text ≡ replicate room 0
+UnfoldingRefusalZeroes = (model file : List ℕ) (room number first second : ℕ)
+    → unfoldText model file room .answer ≡ refusal number first second
+    → unfoldText model file room .text ≡ replicate room 0
 
 abbrev pub UnfoldingKeepsRoom : Type 0
 UnfoldingKeepsRoom = (model file : List ℕ) (room : ℕ) → length (unfoldText model file room .text) ≡ room

@@ -1,6 +1,8 @@
--- The judge of a lent table (01, refusal 19), by a walk over its marks, rows, pairs and points that reads no lines. "row list, cells, points and
--- marks must be exactly those of a reading": that it says the same as `isTable` is proved (WritingClaims, JudgedExactly).
--- Short names: m the model, c a table's content, cs its cells, u the undefined byte, ps the pairs that are left, k the points before, a b the cells of a pair.
+-- The judge of a lent table (01, refusal 19), by a walk over its marks, rows, pairs and points that reads no lines.
+-- "row list, cells, points and marks must be exactly those of a reading": that it says the same as `isTable` is proved
+-- (WritingClaims, JudgedExactly).
+-- Short names: m the model, c a table's content, cs its cells, u the undefined byte, ps the pairs that are left, k the
+-- points before, a b the cells of a pair.
 use Prim.Native.Nat.{ℕ, zero, suc, _+_, _*_, _-_, _/_, _%_, _^_}
 use mathlib.Core.Bool.{Bool, true, false, not, _&&_, _||_}
 use mathlib.Core.List.{List, [], _∷_, _++_}
@@ -9,10 +11,13 @@ use lib.IntN.{ℤ, pos, natAbs}
 use lib.Signed.{ltZ}
 use lib.ListN.{length, drop, getD}
 use Rattle.meaning.specs.Bytes.{choose, allOf, textByte, every, same}
-use Rattle.meaning.specs.Model.{Component, AttributeType, Reference, Coordinate, Number, Text, Date, Enumeration, Line, Found, found, missing, Table, Model, tableAt}
+use Rattle.meaning.specs.Model.{Component, AttributeType, Reference, Coordinate, Number, Text, Date, Enumeration}
+use Rattle.meaning.specs.Model.{Line, Found, found, missing, Table, Model, tableAt}
 use Rattle.meaning.specs.Value.{within, isDay}
 use Rattle.meaning.specs.Row.{Pair, OfAttribute, OfComponent, OfLine, pairsOf}
-use Rattle.meaning.specs.Reading.{LineState, unstarted, started, inArc, reached, LineCode, stpt, lipt, arcp, other, Move, unexpected, undefinedLine, ended, point, move, isForbidden, Content, Object, cellAt, isUsed}
+use Rattle.meaning.specs.Reading.{LineState, unstarted, started, inArc, reached, LineCode, stpt, lipt, arcp}
+use Rattle.meaning.specs.Reading.{other, Move, unexpected, undefinedLine, ended, point, move, isForbidden}
+use Rattle.meaning.specs.Reading.{Content, Object, cellAt, isUsed}
 use Rattle.meaning.specs.Writing.{Lent, countsFit, contentOf, stretchBytes, identificationBytes, isDelivered}
 
 -- ## Cells
@@ -107,13 +112,15 @@ judgeReference c target b =
     ∷ cellIs (getD (c .cells) row (pos 0)) target
     ∷ [])
 
--- the pair of an attribute whose first cell is not 0: "Number, date, enumeration: 1 and the value. Text: 1 plus length, start. Reference: 1 and
--- the number of the object". No pair is of a coordinate as a whole, and lines are judged by `judgeLine`
+-- the pair of an attribute whose first cell is not 0: "Number, date, enumeration: 1 and the value. Text: 1 plus length,
+-- start. Reference: 1 and the number of the object". No pair is of a coordinate as a whole, and lines are judged by
+-- `judgeLine`
 unfoldable pub judgeValue : (u : ℕ) (text : List ℕ) → Content → AttributeType → (a b : ℤ) → Bool
 judgeValue u text c (Reference target) a b = cellIs a 1 && judgeReference c target b
 judgeValue u text c (Coordinate ks) a b = false
 judgeValue u text c (Number x) a b = cellIs a 1 && within x b
-judgeValue u text c (Text longest) a b = allOf (not (ltZ a (pos 2)) ∷ leb (natAbs a - 1) longest ∷ judgeStretch u text b (natAbs a - 1) ∷ [])
+judgeValue u text c (Text longest) a b =
+    allOf (not (ltZ a (pos 2)) ∷ leb (natAbs a - 1) longest ∷ judgeStretch u text b (natAbs a - 1) ∷ [])
 judgeValue u text c Date a b = cellIs a 1 && judgeDate b
 judgeValue u text c (Enumeration leaves) a b = cellIs a 1 && judgeLeaf leaves b
 judgeValue u text c (Line forms ks) a b = false
@@ -138,7 +145,8 @@ fineIf test k = choose test (found k) missing
 
 -- one pair: the count of points before what follows, or missing where the pair is not fine
 unfoldable pub judgePair : (u : ℕ) (text : List ℕ) → Content → (before : Bool) (k : ℕ) → Pair → (a b : ℤ) → Found
-judgePair u text c before k (OfAttribute o type) a b = fineIf (choose (cellIs a 0) (judgeUndefined o b) (judgeValue u text c type a b)) k
+judgePair u text c before k (OfAttribute o type) a b =
+    fineIf (choose (cellIs a 0) (judgeUndefined o b) (judgeValue u text c type a b)) k
 judgePair u text c before k (OfComponent x) a b = fineIf (judgeComponent before x a b) k
 judgePair u text c before k (OfLine o forms ks) a b =
     choose (cellIs a 0) (fineIf (judgeUndefined o b) k) (fineIf (judgeLine c k forms ks a b) (k + (natAbs a - 1)))
@@ -166,7 +174,10 @@ judgePairs u text c before k (p ∷ ps) cs =
 -- the objects of a table, each with its table and the bytes of its identification
 unfoldable pub lentObjects : (text : List ℕ) → List ℤ → (rows : List ℕ) → List Object
 lentObjects text cs [] = []
-lentObjects text cs (row ∷ rows) = record { table = cellAt cs row; identification = identificationBytes text cs row } ∷ lentObjects text cs rows
+lentObjects text cs (row ∷ rows) = record {
+  table = cellAt cs row;
+  identification = identificationBytes text cs row;
+} ∷ lentObjects text cs rows
 
 -- the pairs of a row that starts at this cell, and the cell where the next one has to start
 abbrev pub pairsAt : Model → List ℤ → (at : ℕ) → List Pair
@@ -175,8 +186,9 @@ pairsAt m cs at = pairsOf (tableAt (m .tables) (cellAt cs at) .attributes)
 abbrev pub rowEnd : Model → List ℤ → (at : ℕ) → ℕ
 rowEnd m cs at = at + (3 + 2 * length (pairsAt m cs at))
 
--- "An object's row: table number, start and length of the identification in the unfolded text": the row that starts at this cell, behind these
--- rows. Its table is no earlier than the one before, and delivered; the row lies within the cells; "identifications are unique in the file"
+-- "An object's row: table number, start and length of the identification in the unfolded text": the row that starts at
+-- this cell, behind these rows. Its table is no earlier than the one before, and delivered; the row lies within the
+-- cells; "identifications are unique in the file"
 unfoldable pub judgeRow : Model → (text : List ℕ) → Content → (least at : ℕ) (before : List ℕ) → Bool
 judgeRow m text c least at before =
     let cs : List ℤ = c .cells in
@@ -190,8 +202,8 @@ judgeRow m text c least at before =
     ∷ not (isUsed (identificationBytes text cs at) (lentObjects text cs before))
     ∷ [])
 
--- "A row list holds each row's first cell": these rows, behind the rows before, from this cell and point on, to the last of each.
--- `least` is the least table that may come: "Topics and tables come in model order"
+-- "A row list holds each row's first cell": these rows, behind the rows before, from this cell and point on, to the
+-- last of each. `least` is the least table that may come: "Topics and tables come in model order"
 unfoldable pub judgeRows : Model → (text : List ℕ) → Content → (least at k : ℕ) (before rows : List ℕ) → Bool
 judgeRows m text c least at k before [] = allOf
     (eqb at (length (c .cells))
@@ -210,8 +222,8 @@ judgeRows m text c least at k before (row ∷ rows) = allOf
 unfoldable pub isMark : ℕ → Bool
 isMark b = leb b 1
 
--- "topics and optional tables may be left out": a table is delivered only in a delivered topic, and is optional where it is left out of one.
--- n counts the tables, which stand behind so many topics
+-- "topics and optional tables may be left out": a table is delivered only in a delivered topic, and is optional where
+-- it is left out of one. n counts the tables, which stand behind so many topics
 unfoldable pub judgeTables : (topics : ℕ) → Content → (n : ℕ) → List Table → Bool
 judgeTables topics c n [] = true
 judgeTables topics c n (table ∷ others) = allOf

@@ -1,5 +1,6 @@
 -- Reading (01, "Lines and fields" and "Refusal numbers"): the step over one logical line, and the lines in order.
--- Short names: m the model, c the table so far, s the state, l a line, fs its fields, p a topic's number, t a table's, i an identification's field.
+-- Short names: m the model, c the table so far, s the state, l a line, fs its fields, p a topic's number, t a table's,
+-- i an identification's field.
 use Prim.Native.Nat.{ℕ, _+_, _-_}
 use mathlib.Core.Bool.{Bool, true, false, not, _&&_, _||_}
 use mathlib.Core.List.{List, [], _∷_, _++_}
@@ -8,10 +9,15 @@ use lib.IntN.{ℤ, pos}
 use lib.ListN.{length, drop}
 use Rattle.meaning.specs.Bytes.{choose, refuse, same, prefix}
 use Rattle.meaning.specs.Model.{Found, found, missing, Attribute, Model, tableAt}
-use Rattle.meaning.specs.Field.{Field, fieldsOf, fieldAt, moreThan, hasCode, SCNT, slashes, MTID, MOTR, MODL, TOPI, TABL, OBJE, ETAB, ETOP, EMOD, ENDE}
+use Rattle.meaning.specs.Field.{Field, fieldsOf, fieldAt, moreThan, hasCode, SCNT, slashes, MTID, MOTR, MODL}
+use Rattle.meaning.specs.Field.{TOPI, TABL, OBJE, ETAB, ETOP, EMOD, ENDE}
 use Rattle.meaning.specs.Value.{isIdentification, isUndefined, isUndefinedTwice}
 use Rattle.meaning.specs.Row.{pairsOf, Cells, cells, refused, pairCells, componentValues, pointCells}
-use Rattle.meaning.specs.Reading.{lineCodeOf, Move, unexpected, undefinedLine, ended, point, move, isForbidden, lineAttributes, Underway, Due, opening, description, transfer, modelName, topicFrom, tableFrom, objectOf, lineOf, closing, nothing, isComplete, dueLines, withState, Content, State, behind, withMark, withRow, withPoint, pointCount, withLine, Rooms, findTopic, findTable, mandatoryBetween, objectsOf, isUsed}
+use Rattle.meaning.specs.Reading.{lineCodeOf, Move, unexpected, undefinedLine, ended, point, move, isForbidden}
+use Rattle.meaning.specs.Reading.{lineAttributes, Underway, Due, opening, description, transfer, modelName}
+use Rattle.meaning.specs.Reading.{topicFrom, tableFrom, objectOf, lineOf, closing, nothing, isComplete, dueLines}
+use Rattle.meaning.specs.Reading.{withState, Content, State, behind, withMark, withRow, withPoint, pointCount}
+use Rattle.meaning.specs.Reading.{withLine, Rooms, findTopic, findTable, mandatoryBetween, objectsOf, isUsed}
 
 -- ## What a line makes of the state
 
@@ -101,7 +107,9 @@ module _ (m : Model) (rooms : Rooms) (text : List ℕ) where
   storeRow t i c (refused number field) = no number field
   storeRow t i c (cells pairs) =
       let row : List ℤ = pos t ∷ pos (i .start) ∷ pos (length (i .bytes)) ∷ pairs in
-      let due : Due = dueLines t (pointCount c) (lineAttributes (length (c .cells) + 3) (pairsOf (tableAt (m .tables) t .attributes))) in
+      let due : Due =
+      dueLines t (pointCount c)
+      (lineAttributes (length (c .cells) + 3) (pairsOf (tableAt (m .tables) t .attributes))) in
       refuse (leb (rooms .rows) (length (c .rows)) || ltb (rooms .cells) (length (c .cells) + length row)) (no 16 0)
       (go due (withRow row c))
 

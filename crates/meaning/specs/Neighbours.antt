@@ -1,4 +1,5 @@
--- Cases that the sample's model does not try, computed: dates, two undefined bytes, long names, and a text's own last mark in writing.
+-- Cases that the sample's model does not try, computed: dates, two undefined bytes, long names, and a text's own last
+-- mark in writing.
 use Prim.Native.Nat.{ℕ}
 use Prim.Native.String.{String}
 use mathlib.Core.Path.{_≡_, refl}
@@ -15,7 +16,8 @@ use Rattle.meaning.specs.Listing.{listingRooms}
 use Rattle.meaning.specs.Compute.{computeListing, computeRead, computeWrite}
 use Rattle.meaning.specs.Sample.{recordBytes, sampleModel, with7}
 
--- ## A model of one table: a mandatory date D, an optional text X and a mandatory text Y of 4 bytes; its topic's name has 24 bytes
+-- ## A model of one table: a mandatory date D, an optional text X and a mandatory text Y of 4 bytes; its topic's name
+-- has 24 bytes
 
 unfoldable pub dateModel : List ℕ
 dateModel =
@@ -30,7 +32,8 @@ dateModel =
 
 -- a file with this topic's name, and this line 7
 abbrev pub dated : String → String → List ℕ
-dated topic line7 = bytesOf "SCNT\n////\nMTID T\nMODL M\nTOPI " ++ bytesOf topic ++ bytesOf "\nTABL A\n" ++ bytesOf line7 ++ bytesOf "\nETAB\nETOP\nEMOD\nENDE\n"
+dated topic line7 = bytesOf "SCNT\n////\nMTID T\nMODL M\nTOPI " ++ bytesOf topic ++ bytesOf "\nTABL A\n"
+    ++ bytesOf line7 ++ bytesOf "\nETAB\nETOP\nEMOD\nENDE\n"
 
 unfoldable pub printsDated : String → String → List ℕ
 unfolding computeListing dateModel
@@ -88,8 +91,13 @@ unfoldable pub writesAs : ℤ → ℕ → ℕ → Written
 unfolding computeWrite textModel
 writesAs size width room = computeWrite textModel (lent size) width room
 
--- "Taking a text's own last \ for nothing special when writing" would write `OBJE a b\`, which the next line had to continue
-pub own-mark : writesAs (pos 3) 16 76 ≡ record { answer = accepted 75 0 0; output = bytesOf "SCNT\n////\nMTID T\nMODL M\nTOPI N\nTABL A\nOBJE a b\\\\\nCONT \nETAB\nETOP\nEMOD\nENDE\n" ++ (0 ∷ []) }
+-- "Taking a text's own last \ for nothing special when writing" would write `OBJE a b\`, which the next line had to
+-- continue
+pub own-mark : writesAs (pos 3) 16 76 ≡ record {
+  answer = accepted 75 0 0;
+  output = bytesOf "SCNT\n////\nMTID T\nMODL M\nTOPI N\nTABL A\nOBJE a b\\\\\nCONT \nETAB\nETOP\nEMOD\nENDE\n"
+      ++ (0 ∷ []);
+}
 unfolding writesAs
 own-mark = refl
 
@@ -107,7 +115,8 @@ pub one-byte-short : writesAs (pos 3) 16 74 .answer ≡ refusal 21 0 0
 unfolding writesAs
 one-byte-short = refl
 
--- ## Reading: all that the sample leaves in the buffers, in just enough room and one byte, mark, row, cell and point cell more
+-- ## Reading: all that the sample leaves in the buffers, in just enough room and one byte, mark, row, cell and point
+-- cell more
 
 unfoldable pub readsSample : Rooms → Result
 unfolding computeRead sampleModel
@@ -123,7 +132,8 @@ pub whole-table : readsSample oneMore ≡ record {
   rows = 0 ∷ 9 ∷ 0 ∷ [];
   cells = pos 0 ∷ pos 51 ∷ pos 2 ∷ pos 4 ∷ pos 54 ∷ pos 1 ∷ pos 100 ∷ pos 1 ∷ pos 205
       ∷ pos 1 ∷ pos 91 ∷ pos 2 ∷ pos 1 ∷ pos 0 ∷ pos 0 ∷ pos 0 ∷ pos 4 ∷ pos 0 ∷ pos 0 ∷ [];
-  points = pos 0 ∷ pos 100 ∷ pos 205 ∷ pos 0 ∷ pos 2 ∷ pos 110 ∷ pos 210 ∷ pos 0 ∷ pos 1 ∷ pos 120 ∷ pos 205 ∷ pos 0 ∷ pos 0 ∷ [];
+  points = pos 0 ∷ pos 100 ∷ pos 205 ∷ pos 0 ∷ pos 2 ∷ pos 110 ∷ pos 210 ∷ pos 0 ∷ pos 1 ∷ pos 120 ∷ pos 205 ∷ pos 0
+      ∷ pos 0 ∷ [];
 }
 unfolding readsSample
 whole-table = refl

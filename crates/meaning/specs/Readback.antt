@@ -9,7 +9,8 @@ use lib.Signed.{ltZ}
 use lib.ListN.{length, drop, getD}
 use Rattle.meaning.specs.Bytes.{choose, allOf, same}
 use Rattle.meaning.specs.Unfold.{unfoldedText}
-use Rattle.meaning.specs.Model.{AttributeType, Reference, Coordinate, Number, Text, Date, Enumeration, Line, Model, tableAt}
+use Rattle.meaning.specs.Model.{AttributeType, Reference, Coordinate, Number, Text, Date, Enumeration, Line}
+use Rattle.meaning.specs.Model.{Model, tableAt}
 use Rattle.meaning.specs.Row.{Pair, OfAttribute, OfComponent, OfLine, pairsOf}
 use Rattle.meaning.specs.Reading.{Content, State, startOf, Rooms, cellAt}
 use Rattle.meaning.specs.Lines.{Run, ran, stopped, readLines}
@@ -33,7 +34,8 @@ hasStart (OfAttribute o type) a = isText type && not (eqb (natAbs a) 0)
 hasStart (OfComponent c) a = false
 hasStart (OfLine o forms cs) a = false
 
--- "ignores .. the starts of texts and identifications": 0 in their place. The pair 4 54 of a text is 4 0, the row 0 51 2 .. is 0 0 2 ..
+-- "ignores .. the starts of texts and identifications": 0 in their place. The pair 4 54 of a text is 4 0, the row 0 51
+-- 2 .. is 0 0 2 ..
 unfoldable pub pairsWithoutStarts : List Pair → List ℤ → List ℤ
 pairsWithoutStarts [] cs = []
 pairsWithoutStarts (p ∷ ps) cs =
@@ -57,7 +59,8 @@ pairTexts text (p ∷ ps) cs =
 unfoldable pub textsOf : Model → (text : List ℕ) → List ℤ → (rows : List ℕ) → List (List ℕ)
 textsOf m text cs [] = []
 textsOf m text cs (row ∷ rows) =
-    (identificationBytes text cs row ∷ pairTexts text (pairsOf (tableAt (m .tables) (cellAt cs row) .attributes)) (drop (row + 3) cs))
+    (identificationBytes text cs row
+    ∷ pairTexts text (pairsOf (tableAt (m .tables) (cellAt cs row) .attributes)) (drop (row + 3) cs))
     ++ textsOf m text cs rows
 
 -- ## The same table
@@ -74,8 +77,8 @@ sameTexts [] (b ∷ k) = false
 sameTexts (a ∷ l) [] = false
 sameTexts (a ∷ l) (b ∷ k) = allOf (same a b ∷ sameTexts l k ∷ [])
 
--- "row list, cells, points and marks must be exactly those of a reading", starts aside; texts and identifications compare by their bytes.
--- text and c are the table that was read, text′ and c′ the one that was lent
+-- "row list, cells, points and marks must be exactly those of a reading", starts aside; texts and identifications
+-- compare by their bytes. text and c are the table that was read, text′ and c′ the one that was lent
 unfoldable pub sameTable : Model → (text : List ℕ) → Content → (text′ : List ℕ) → Content → Bool
 sameTable m text c text′ c′ = allOf
     (same (c .marks) (c′ .marks)
@@ -90,7 +93,12 @@ sameTable m text c text′ c′ = allOf
 
 unfoldable pub isResolvedAs : Model → (text : List ℕ) → Content → (text′ : List ℕ) → Content → Resolved → Bool
 isResolvedAs m text c text′ c′ (unresolved object field) = false
-isResolvedAs m text c text′ c′ (resolved cs) = sameTable m text (record { marks = c .marks; rows = c .rows; cells = cs; points = c .points }) text′ c′
+isResolvedAs m text c text′ c′ (resolved cs) = sameTable m text (record {
+  marks = c .marks;
+  rows = c .rows;
+  cells = cs;
+  points = c .points;
+}) text′ c′
 
 unfoldable pub isRunAs : Model → (text text′ : List ℕ) → Content → Run → Bool
 isRunAs m text text′ c′ (stopped number line field) = false
@@ -99,7 +107,13 @@ isRunAs m text text′ c′ (ran s) = isResolvedAs m text (s .content) text′ c
 -- do these lines read as the table of this text and content? There is room for no more than it has
 unfoldable pub readsAs : Model → List (List ℕ) → (text : List ℕ) → Content → Bool
 readsAs m ls text c =
-    let rooms : Rooms = record { text = 0; marks = 0; rows = length (c .rows); cells = length (c .cells); points = length (c .points) } in
+    let rooms : Rooms = record {
+      text = 0;
+      marks = 0;
+      rows = length (c .rows);
+      cells = length (c .cells);
+      points = length (c .points);
+    } in
     isRunAs m (unfoldedText ls) text c (readLines m rooms (unfoldedText ls) (startOf m) ls)
 
 -- does a lent table fit its counts, and do its own lines read as it?

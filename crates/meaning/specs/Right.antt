@@ -1,6 +1,8 @@
--- What is right (01, "Lines and fields"; 000, 3.3): the lines that a file has to be, and what they deliver, as a grammar.
+-- What is right (01, "Lines and fields"; 000, 3.3): the lines that a file has to be, and what they deliver, as a
+-- grammar.
 -- It names no state, no step and no refusal. `RightClaims` says that reading accepts exactly these.
--- Short names: m the model, u the undefined byte, p a topic's number, t a table's, l a line, f a field, i an identification's field, os objects.
+-- Short names: m the model, u the undefined byte, p a topic's number, t a table's, l a line, f a field, i an
+-- identification's field, os objects.
 use Prim.Native.Nat.{ℕ, _+_, _*_, _≤_, _<_}
 use mathlib.Core.Path.{_≡_}
 use mathlib.Core.Bool.{Bool, true, false}
@@ -8,9 +10,12 @@ use mathlib.Core.List.{List, [], _∷_, _++_}
 use lib.IntN.{ℤ, pos}
 use lib.ListN.{length, getD, set, replicate}
 use Rattle.meaning.specs.Bytes.{every, textByte, prefix}
-use Rattle.meaning.specs.Model.{Component, AttributeType, Reference, Number, Text, Date, Enumeration, Found, found, missing, Model, tableAt}
-use Rattle.meaning.specs.Field.{Field, noField, fieldsOf, SCNT, slashes, MTID, MODL, TOPI, TABL, OBJE, STPT, LIPT, ARCP, ELIN, ETAB, ETOP, EMOD, ENDE}
-use Rattle.meaning.specs.Value.{pair, numberOf, dateOf, enumerationOf, isIdentification, isUndefined, isUndefinedTwice}
+use Rattle.meaning.specs.Model.{Component, AttributeType, Reference, Number, Text, Date, Enumeration, Found}
+use Rattle.meaning.specs.Model.{found, missing, Model, tableAt}
+use Rattle.meaning.specs.Field.{Field, noField, fieldsOf, SCNT, slashes, MTID, MODL, TOPI, TABL, OBJE, STPT, LIPT}
+use Rattle.meaning.specs.Field.{ARCP, ELIN, ETAB, ETOP, EMOD, ENDE}
+use Rattle.meaning.specs.Value.{pair, numberOf, dateOf, enumerationOf, isIdentification, isUndefined}
+use Rattle.meaning.specs.Value.{isUndefinedTwice}
 use Rattle.meaning.specs.Row.{Pair, OfAttribute, OfComponent, OfLine, pairsOf, pointCells}
 use Rattle.meaning.specs.Reading.{Content, sameName, Object}
 use Rattle.meaning.specs.Table.{findObject}
@@ -82,7 +87,8 @@ Alone code l = Coded code l []
 
 -- ## Fields
 
--- "A field that is the undefined byte alone is undefined. Two undefined bytes as a field: this and all remaining fields are undefined"
+-- "A field that is the undefined byte alone is undefined. Two undefined bytes as a field: this and all remaining fields
+-- are undefined"
 pub record Defined (u : ℕ) (f : Field) : Type 0 where
   pub one : isUndefined u f ≡ false
   pub two : isUndefinedTwice u f ≡ false
@@ -95,9 +101,12 @@ IsNumber c f v = numberOf c (f .bytes) ≡ pair (pos 1) v
 pub data Means : AttributeType → Field → Entry → Type 0 where
   number : {c : Component} {f : Field} {v : ℤ} → IsNumber c f v → Means (Number c) f (OfValue v)
   date : {f : Field} {v : ℤ} → dateOf (f .bytes) ≡ pair (pos 1) v → Means Date f (OfValue v)
-  enumeration : {leaves : ℕ} {f : Field} {v : ℤ} → enumerationOf leaves (f .bytes) ≡ pair (pos 1) v → Means (Enumeration leaves) f (OfValue v)
-  text : {longest : ℕ} {f : Field} → every textByte (f .bytes) ≡ true → length (f .bytes) ≤ longest → Means (Text longest) f (OfText f)
-  reference : {target : ℕ} {f : Field} → isIdentification (f .bytes) ≡ true → Means (Reference target) f (OfReference target f)
+  enumeration : {leaves : ℕ} {f : Field} {v : ℤ} → enumerationOf leaves (f .bytes) ≡ pair (pos 1) v
+      → Means (Enumeration leaves) f (OfValue v)
+  text : {longest : ℕ} {f : Field} → every textByte (f .bytes) ≡ true → length (f .bytes) ≤ longest
+      → Means (Text longest) f (OfText f)
+  reference : {target : ℕ} {f : Field} → isIdentification (f .bytes) ≡ true
+      → Means (Reference target) f (OfReference target f)
 
 -- "An identification is never one or two undefined bytes"
 pub record Identification (u : ℕ) (i : Field) : Type 0 where
@@ -109,7 +118,8 @@ pub record Identification (u : ℕ) (i : Field) : Type 0 where
 -- the fields of a point and their values: "Points are never undefined"
 pub data Values (u : ℕ) : List Component → List Field → List ℤ → Type 0 where
   none : Values u [] [] []
-  one : {c : Component} {cs : List Component} {f : Field} {fs : List Field} {v : ℤ} {vs : List ℤ} → Defined u f → IsNumber c f v → Values u cs fs vs → Values u (c ∷ cs) (f ∷ fs) (v ∷ vs)
+  one : {c : Component} {cs : List Component} {f : Field} {fs : List Field} {v : ℤ} {vs : List ℤ} → Defined u f
+      → IsNumber c f v → Values u cs fs vs → Values u (c ∷ cs) (f ∷ fs) (v ∷ vs)
 
 -- a line of this code, and a point's fields
 pub record PointLine (u : ℕ) (cs : List Component) (code : List ℕ) (l : Line) (vs : List ℤ) : Type 0 where
@@ -126,18 +136,21 @@ HasArcs forms = forms ≡ 1 → ⊥
 
 -- "LIPT or ARCP LIPT"
 pub data Segment (u forms : ℕ) (cs : List Component) : List Line → List Point → Type 0 where
-  straight : {l : Line} {vs : List ℤ} → HasStraights forms → PointLine u cs LIPT l vs → Segment u forms cs (l ∷ []) (record { kind = 1; values = vs } ∷ [])
+  straight : {l : Line} {vs : List ℤ} → HasStraights forms → PointLine u cs LIPT l vs
+      → Segment u forms cs (l ∷ []) (record { kind = 1; values = vs } ∷ [])
   arc : {a l : Line} {vs ws : List ℤ} → HasArcs forms → PointLine u cs ARCP a vs → PointLine u cs LIPT l ws
       → Segment u forms cs (a ∷ l ∷ []) (record { kind = 2; values = vs } ∷ record { kind = 1; values = ws } ∷ [])
 
 -- "one or more"
 pub data Segments (u forms : ℕ) (cs : List Component) : List Line → List Point → Type 0 where
   last : {ls : List Line} {ps : List Point} → Segment u forms cs ls ps → Segments u forms cs ls ps
-  more : {ls others : List Line} {ps qs : List Point} → Segment u forms cs ls ps → Segments u forms cs others qs → Segments u forms cs (ls ++ others) (ps ++ qs)
+  more : {ls others : List Line} {ps qs : List Point} → Segment u forms cs ls ps → Segments u forms cs others qs
+      → Segments u forms cs (ls ++ others) (ps ++ qs)
 
 -- the lines from STPT to ELIN, and the points of the line
 pub data Drawn (u forms : ℕ) (cs : List Component) : List Line → List Point → Type 0 where
-  drawn : {l e : Line} {ls : List Line} {vs : List ℤ} {ps : List Point} → PointLine u cs STPT l vs → Segments u forms cs ls ps → Alone ELIN e
+  drawn : {l e : Line} {ls : List Line} {vs : List ℤ} {ps : List Point} → PointLine u cs STPT l vs
+      → Segments u forms cs ls ps → Alone ELIN e
       → Drawn u forms cs (l ∷ (ls ++ (e ∷ []))) (record { kind = 0; values = vs } ∷ ps)
 
 -- ## An object: "OBJE: identification, then the fields of all attributes but lines. Line attributes follow in order"
@@ -152,64 +165,85 @@ pub data Entries (u : ℕ) : Before → List Pair → List Field → List Line �
   -- no field is missing and none is extra
   done : {b : Before} → Entries u b [] [] [] []
   -- an attribute's field, which is undefined only where the attribute is optional
-  defined : {b : Before} {o : Bool} {type : AttributeType} {ps : List Pair} {f : Field} {fs : List Field} {ls : List Line} {e : Entry} {es : List Entry}
-      → Defined u f → Means type f e → Entries u wasDefined ps fs ls es → Entries u b (OfAttribute o type ∷ ps) (f ∷ fs) ls (e ∷ es)
-  undefined : {b : Before} {type : AttributeType} {ps : List Pair} {f : Field} {fs : List Field} {ls : List Line} {es : List Entry}
-      → isUndefined u f ≡ true → Entries u wasUndefined ps fs ls es → Entries u b (OfAttribute true type ∷ ps) (f ∷ fs) ls (Undefined ∷ es)
+  defined : {b : Before} {o : Bool} {type : AttributeType} {ps : List Pair} {f : Field} {fs : List Field}
+      {ls : List Line} {e : Entry} {es : List Entry}
+      → Defined u f → Means type f e → Entries u wasDefined ps fs ls es
+      → Entries u b (OfAttribute o type ∷ ps) (f ∷ fs) ls (e ∷ es)
+  undefined : {b : Before} {type : AttributeType} {ps : List Pair} {f : Field} {fs : List Field} {ls : List Line}
+      {es : List Entry}
+      → isUndefined u f ≡ true → Entries u wasUndefined ps fs ls es
+      → Entries u b (OfAttribute true type ∷ ps) (f ∷ fs) ls (Undefined ∷ es)
   -- two undefined bytes are the last field, and all that they cover is optional
   cover : {b : Before} {type : AttributeType} {ps : List Pair} {f : Field} {ls : List Line} {es : List Entry}
-      → isUndefinedTwice u f ≡ true → Entries u covered ps [] ls es → Entries u b (OfAttribute true type ∷ ps) (f ∷ []) ls (Undefined ∷ es)
+      → isUndefinedTwice u f ≡ true → Entries u covered ps [] ls es
+      → Entries u b (OfAttribute true type ∷ ps) (f ∷ []) ls (Undefined ∷ es)
   under : {type : AttributeType} {ps : List Pair} {ls : List Line} {es : List Entry}
       → Entries u covered ps [] ls es → Entries u covered (OfAttribute true type ∷ ps) [] ls (Undefined ∷ es)
   -- a coordinate's further component is undefined exactly where the first one is
-  alsoDefined : {c : Component} {ps : List Pair} {f : Field} {fs : List Field} {ls : List Line} {v : ℤ} {es : List Entry}
-      → Defined u f → IsNumber c f v → Entries u wasDefined ps fs ls es → Entries u wasDefined (OfComponent c ∷ ps) (f ∷ fs) ls (OfValue v ∷ es)
+  alsoDefined : {c : Component} {ps : List Pair} {f : Field} {fs : List Field} {ls : List Line} {v : ℤ}
+      {es : List Entry}
+      → Defined u f → IsNumber c f v → Entries u wasDefined ps fs ls es
+      → Entries u wasDefined (OfComponent c ∷ ps) (f ∷ fs) ls (OfValue v ∷ es)
   alsoUndefined : {c : Component} {ps : List Pair} {f : Field} {fs : List Field} {ls : List Line} {es : List Entry}
-      → isUndefined u f ≡ true → Entries u wasUndefined ps fs ls es → Entries u wasUndefined (OfComponent c ∷ ps) (f ∷ fs) ls (Undefined ∷ es)
+      → isUndefined u f ≡ true → Entries u wasUndefined ps fs ls es
+      → Entries u wasUndefined (OfComponent c ∷ ps) (f ∷ fs) ls (Undefined ∷ es)
   alsoCover : {c : Component} {ps : List Pair} {f : Field} {ls : List Line} {es : List Entry}
-      → isUndefinedTwice u f ≡ true → Entries u covered ps [] ls es → Entries u wasUndefined (OfComponent c ∷ ps) (f ∷ []) ls (Undefined ∷ es)
+      → isUndefinedTwice u f ≡ true → Entries u covered ps [] ls es
+      → Entries u wasUndefined (OfComponent c ∷ ps) (f ∷ []) ls (Undefined ∷ es)
   alsoUnder : {c : Component} {ps : List Pair} {ls : List Line} {es : List Entry}
       → Entries u covered ps [] ls es → Entries u covered (OfComponent c ∷ ps) [] ls (Undefined ∷ es)
   -- a line attribute has no field, but lines: "ELIN alone is an undefined line", where it is optional
-  undrawn : {b : Before} {forms : ℕ} {cs : List Component} {ps : List Pair} {fs : List Field} {l : Line} {ls : List Line} {es : List Entry}
+  undrawn : {b : Before} {forms : ℕ} {cs : List Component} {ps : List Pair} {fs : List Field} {l : Line}
+      {ls : List Line} {es : List Entry}
       → Alone ELIN l → Entries u b ps fs ls es → Entries u b (OfLine true forms cs ∷ ps) fs (l ∷ ls) (Undefined ∷ es)
-  along : {b : Before} {o : Bool} {forms : ℕ} {cs : List Component} {ps : List Pair} {fs : List Field} {these ls : List Line} {points : List Point} {es : List Entry}
-      → Drawn u forms cs these points → Entries u b ps fs ls es → Entries u b (OfLine o forms cs ∷ ps) fs (these ++ ls) (OfPoints points ∷ es)
+  along : {b : Before} {o : Bool} {forms : ℕ} {cs : List Component} {ps : List Pair} {fs : List Field}
+      {these ls : List Line} {points : List Point} {es : List Entry}
+      → Drawn u forms cs these points → Entries u b ps fs ls es
+      → Entries u b (OfLine o forms cs ∷ ps) fs (these ++ ls) (OfPoints points ∷ es)
 
 -- an object of table t; before its first field nothing was undefined
 pub data ObjectLines (m : Model) (t : ℕ) : List Line → Delivered → Type 0 where
-  object : {l : Line} {ls : List Line} {i : Field} {fs : List Field} {es : List Entry} → Coded OBJE l (i ∷ fs) → Identification (m .undefined) i
-      → Entries (m .undefined) wasDefined (pairsOf (tableAt (m .tables) t .attributes)) fs ls es → ObjectLines m t (l ∷ ls) (record { table = t; identification = i; entries = es })
+  object : {l : Line} {ls : List Line} {i : Field} {fs : List Field} {es : List Entry} → Coded OBJE l (i ∷ fs)
+      → Identification (m .undefined) i
+      → Entries (m .undefined) wasDefined (pairsOf (tableAt (m .tables) t .attributes)) fs ls es
+      → ObjectLines m t (l ∷ ls) (record { table = t; identification = i; entries = es })
 
 -- any number of objects of table t
 pub data Objects (m : Model) (t : ℕ) : List Line → List Delivered → Type 0 where
   none : Objects m t [] []
-  more : {ls others : List Line} {o : Delivered} {os : List Delivered} → ObjectLines m t ls o → Objects m t others os → Objects m t (ls ++ others) (o ∷ os)
+  more : {ls others : List Line} {o : Delivered} {os : List Delivered} → ObjectLines m t ls o → Objects m t others os
+      → Objects m t (ls ++ others) (o ∷ os)
 
 -- ## Tables and topics: "Topics and tables come in model order; topics and optional tables may be left out"
--- (000, 3.3: TabellenD = 'TABL' Tabellen-Name NL { ObjektD } 'ETAB' NL, ThemaD = 'TOPI' Themen-Name NL { TabellenD } 'ETOP')
+-- (000, 3.3: TabellenD = 'TABL' Tabellen-Name NL { ObjektD } 'ETAB' NL, ThemaD = 'TOPI' Themen-Name NL { TabellenD }
+-- 'ETOP')
 
 -- no table of topic p is mandatory, from table `from` on and before table `to`
 abbrev pub AllOptional : Model → (p from to : ℕ) → Type 0
-AllOptional m p from to = (n : ℕ) → from ≤ n → n < to → tableAt (m .tables) n .topic ≡ p → tableAt (m .tables) n .optional ≡ true
+AllOptional m p from to = (n : ℕ) → from ≤ n → n < to → tableAt (m .tables) n .topic ≡ p
+    → tableAt (m .tables) n .optional ≡ true
 
 -- tables of topic p, from table `from` on; "Topic and table names compare by their first 24 bytes"
 pub data Tables (m : Model) (p : ℕ) : (from : ℕ) → List Line → List DeliveredTable → Type 0 where
   none : {from : ℕ} → AllOptional m p from (length (m .tables)) → Tables m p from [] []
   more : {from t : ℕ} {l e : Line} {f : Field} {ls others : List Line} {os : List Delivered} {ds : List DeliveredTable}
       → from ≤ t → t < length (m .tables) → tableAt (m .tables) t .topic ≡ p → AllOptional m p from t
-      → Coded TABL l (f ∷ []) → sameName (tableAt (m .tables) t .name) (f .bytes) ≡ true → Objects m t ls os → Alone ETAB e → Tables m p (t + 1) others ds
+      → Coded TABL l (f ∷ []) → sameName (tableAt (m .tables) t .name) (f .bytes) ≡ true → Objects m t ls os
+      → Alone ETAB e → Tables m p (t + 1) others ds
       → Tables m p from (l ∷ (ls ++ (e ∷ others))) (record { table = t; objects = os } ∷ ds)
 
 -- topics, from topic `from` on
 pub data Topics (m : Model) : (from : ℕ) → List Line → List DeliveredTopic → Type 0 where
   none : {from : ℕ} → Topics m from [] []
-  more : {from p : ℕ} {l e : Line} {f : Field} {ls others : List Line} {ts : List DeliveredTable} {ds : List DeliveredTopic}
-      → from ≤ p → p < length (m .topics) → Coded TOPI l (f ∷ []) → sameName (getD (m .topics) p []) (f .bytes) ≡ true → Tables m p 0 ls ts → Alone ETOP e
+  more : {from p : ℕ} {l e : Line} {f : Field} {ls others : List Line} {ts : List DeliveredTable}
+      {ds : List DeliveredTopic}
+      → from ≤ p → p < length (m .topics) → Coded TOPI l (f ∷ []) → sameName (getD (m .topics) p []) (f .bytes) ≡ true
+      → Tables m p 0 ls ts → Alone ETOP e
       → Topics m (p + 1) others ds → Topics m from (l ∷ (ls ++ (e ∷ others))) (record { topic = p; tables = ts } ∷ ds)
 
 -- ## The file
--- (000, 3.3: Beschreibung = { Beschreibungszeile } '////' NL, Transferfile = 'SCNT' NL Beschreibung 'MTID' Transfer-Name NL ModellD 'ENDE' NL,
+-- (000, 3.3: Beschreibung = { Beschreibungszeile } '////' NL, Transferfile = 'SCNT' NL Beschreibung 'MTID'
+-- Transfer-Name NL ModellD 'ENDE' NL,
 -- ModellD = 'MODL' Modell-Name NL { ThemaD } 'EMOD' NL)
 
 -- "description lines up to the first line beginning with ////, which must be that field alone"
@@ -217,9 +251,11 @@ pub data Description : List Line → Type 0 where
   last : {l : Line} → prefix slashes (l .bytes) ≡ true → Alone slashes l → Description (l ∷ [])
   more : {l : Line} {ls : List Line} → prefix slashes (l .bytes) ≡ false → Description ls → Description (l ∷ ls)
 
--- "SCNT; description lines ..; MTID with the transfer name; MODL with the model name; topics; EMOD; ENDE; nothing after"
+-- "SCNT; description lines ..; MTID with the transfer name; MODL with the model name; topics; EMOD; ENDE; nothing
+-- after"
 pub data File (m : Model) : List Line → List DeliveredTopic → Type 0 where
-  file : {scnt mtid modl emod ende : Line} {f g : Field} {ds ls : List Line} {ts : List DeliveredTopic} → Alone SCNT scnt → Description ds → Coded MTID mtid (f ∷ []) → f .bytes ≡ m .transfer
+  file : {scnt mtid modl emod ende : Line} {f g : Field} {ds ls : List Line} {ts : List DeliveredTopic}
+      → Alone SCNT scnt → Description ds → Coded MTID mtid (f ∷ []) → f .bytes ≡ m .transfer
       → Coded MODL modl (g ∷ []) → g .bytes ≡ m .name → Topics m 0 ls ts → Alone EMOD emod → Alone ENDE ende
       → File m (scnt ∷ (ds ++ (mtid ∷ modl ∷ (ls ++ (emod ∷ ende ∷ []))))) ts
 
@@ -277,14 +313,16 @@ unfoldable pub numberCell : Found → ℤ
 numberCell (found n) = pos n
 numberCell missing = pos 0
 
--- "Undefined is 0 0. Number, date, enumeration: 1 and the value. Text: 1 plus length, start. Reference: 1 and the number of the object.
+-- "Undefined is 0 0. Number, date, enumeration: 1 and the value. Text: 1 plus length, start. Reference: 1 and the
+-- number of the object.
 -- Line: 1 plus its count of points, its first point", where k points stand before
 unfoldable pub entryCells : List Object → (k : ℕ) → List Entry → List ℤ
 entryCells os k [] = []
 entryCells os k (Undefined ∷ es) = pos 0 ∷ pos 0 ∷ entryCells os k es
 entryCells os k (OfValue v ∷ es) = pos 1 ∷ v ∷ entryCells os k es
 entryCells os k (OfText f ∷ es) = pos (1 + length (f .bytes)) ∷ pos (f .start) ∷ entryCells os k es
-entryCells os k (OfReference target f ∷ es) = pos 1 ∷ numberCell (findObject target 0 (f .bytes) os) ∷ entryCells os k es
+entryCells os k (OfReference target f ∷ es) = pos 1 ∷ numberCell (findObject target 0 (f .bytes) os)
+    ∷ entryCells os k es
 entryCells os k (OfPoints ps ∷ es) = pos (1 + length ps) ∷ pos k ∷ entryCells os (k + length ps) es
 
 -- the points of an object's lines, and of all objects
@@ -304,11 +342,13 @@ unfoldable pub cellsOfPoints : List Point → List ℤ
 cellsOfPoints [] = []
 cellsOfPoints (p ∷ ps) = pointCells (p .kind) (p .values) ++ cellsOfPoints ps
 
--- "An object's row: table number, start and length of the identification in the unfolded text, then in model order one pair per attribute"
+-- "An object's row: table number, start and length of the identification in the unfolded text, then in model order one
+-- pair per attribute"
 unfoldable pub rowsCells : List Object → (k : ℕ) → List Delivered → List ℤ
 rowsCells names k [] = []
 rowsCells names k (o ∷ os) =
-    (pos (o .table) ∷ pos (o .identification .start) ∷ pos (length (o .identification .bytes)) ∷ entryCells names k (o .entries))
+    (pos (o .table) ∷ pos (o .identification .start) ∷ pos (length (o .identification .bytes))
+    ∷ entryCells names k (o .entries))
     ++ rowsCells names (k + length (entryPoints (o .entries))) os
 
 -- "A row list holds each row's first cell"

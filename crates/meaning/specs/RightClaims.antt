@@ -1,4 +1,5 @@
--- What is proved of `Right`: reading accepts exactly what is right, and gives the first refusal in the fixed order otherwise. Proved in proofs/RightClaims.antt.
+-- What is proved of `Right`: reading accepts exactly what is right, and gives the first refusal in the fixed order
+-- otherwise. Proved in proofs/RightClaims.antt.
 use Prim.Native.Nat.{ℕ, _+_, _≤_, _<_}
 use mathlib.Core.Path.{_≡_}
 use mathlib.Core.Bool.{true, false}
@@ -17,7 +18,8 @@ use Rattle.meaning.specs.Lines.{no, stepOf, ran, run}
 use Rattle.meaning.specs.Table.{findObject, Result, acceptedWith, refusedWith, readText, read}
 use Rattle.meaning.specs.Writing.{markCount}
 use Rattle.meaning.specs.WritingClaims.{Enough}
-use Rattle.meaning.specs.Right.{Entry, OfReference, Delivered, DeliveredTopic, objectsOfTopics, withStarts, File, Unique, Names, IsNamed, AllNamed, Right, namesOf, tableOf}
+use Rattle.meaning.specs.Right.{Entry, OfReference, Delivered, DeliveredTopic, objectsOfTopics, withStarts, File}
+use Rattle.meaning.specs.Right.{Unique, Names, IsNamed, AllNamed, Right, namesOf, tableOf}
 use Rattle.meaning.specs.Sample.{sampleModel, with7}
 use Rattle.meaning.specs.Neighbours.{oneMore}
 
@@ -30,7 +32,8 @@ acceptedAs m rooms ls ds = acceptedWith rooms (unfoldedText ls) (tableOf m ds) (
 -- lines that are right are accepted with their table, where there is room for it
 abbrev pub RightIsRead : Type 0
 RightIsRead =
-    (m : Model) (ls : List (List ℕ)) (ds : List DeliveredTopic) (rooms : Rooms) → GoodModel m → Right m ls ds → Enough m ls (tableOf m ds) rooms
+    (m : Model) (ls : List (List ℕ)) (ds : List DeliveredTopic) (rooms : Rooms) → GoodModel m → Right m ls ds
+    → Enough m ls (tableOf m ds) rooms
     → readText m rooms ls ≡ acceptedAs m rooms ls ds
 
 -- lines are right, and there is room for what they deliver
@@ -48,7 +51,8 @@ pub record IsAccepted (a : Answer) : Type 0 where
 
 -- lines that are accepted are right
 abbrev pub ReadIsRight : Type 0
-ReadIsRight = (m : Model) (ls : List (List ℕ)) (rooms : Rooms) → IsAccepted (readText m rooms ls .answer) → RightWithin m ls rooms
+ReadIsRight = (m : Model) (ls : List (List ℕ)) (rooms : Rooms) → IsAccepted (readText m rooms ls .answer)
+    → RightWithin m ls rooms
 
 -- a file is a cut of lines that are right
 pub record RightFile (m : Model) (file : List ℕ) (rooms : Rooms) : Type 0 where
@@ -56,26 +60,32 @@ pub record RightFile (m : Model) (file : List ℕ) (rooms : Rooms) : Type 0 wher
   pub cut : Cut (m .mark) of file
   pub within : RightWithin m of rooms
 
--- "With enough room, a file within the size limit under a good model is accepted exactly when its structure, values, identifications and references are right"
+-- "With enough room, a file within the size limit under a good model is accepted exactly when its structure, values,
+-- identifications and references are right"
 abbrev pub AcceptedExactlyWhenRight : Type 0
 AcceptedExactlyWhenRight =
-    (model file : List ℕ) (m : Model) (rooms : Rooms) → checkModel model ≡ good m → length file ≤ 16777216 → IsAccepted (read model file rooms .answer) ↔ RightFile m file rooms
+    (model file : List ℕ) (m : Model) (rooms : Rooms) → checkModel model ≡ good m → length file ≤ 16777216
+    → IsAccepted (read model file rooms .answer) ↔ RightFile m file rooms
 
 -- and the answer and every buffer are those of what its lines deliver
 abbrev pub AcceptedWithItsTable : Type 0
 AcceptedWithItsTable =
-    (model file : List ℕ) (m : Model) (rooms : Rooms) → checkModel model ≡ good m → length file ≤ 16777216 → (f : RightFile m file rooms)
+    (model file : List ℕ) (m : Model) (rooms : Rooms) → checkModel model ≡ good m → length file ≤ 16777216
+    → (f : RightFile m file rooms)
     → read model file rooms ≡ acceptedAs m rooms (f .of) (f .within .delivered)
 
 -- a refusal that is not for size or room means that the file is no cut of lines that are right
 abbrev pub RefusedMeansNotRight : Type 0
 RefusedMeansNotRight =
-    (model file : List ℕ) (m : Model) (rooms : Rooms) (number first second : ℕ) → checkModel model ≡ good m → read model file rooms .answer ≡ refusal number first second
-    → (number ≡ 1 → ⊥) → (number ≡ 6 → ⊥) → (number ≡ 16 → ⊥) → (ls : List (List ℕ)) (ds : List DeliveredTopic) → Cut (m .mark) ls file → Right m ls ds → ⊥
+    (model file : List ℕ) (m : Model) (rooms : Rooms) (number first second : ℕ) → checkModel model ≡ good m
+    → read model file rooms .answer ≡ refusal number first second
+    → (number ≡ 1 → ⊥) → (number ≡ 6 → ⊥) → (number ≡ 16 → ⊥) → (ls : List (List ℕ)) (ds : List DeliveredTopic)
+    → Cut (m .mark) ls file → Right m ls ds → ⊥
 
 -- the table's number of a reference is that of the object that it names
 abbrev pub ReferenceIsItsObject : Type 0
-ReferenceIsItsObject = (os : List Delivered) (target : ℕ) (i : List ℕ) → Unique os → (n : Names os target i) → findObject target 0 i (namesOf os) ≡ found (n .number)
+ReferenceIsItsObject = (os : List Delivered) (target : ℕ) (i : List ℕ) → Unique os → (n : Names os target i)
+    → findObject target 0 i (namesOf os) ≡ found (n .number)
 
 -- some file is right: the sample, with the room of `oneMore`
 pub record SampleRight : Type 0 where
@@ -93,13 +103,20 @@ fieldBehind field (OfLine o forms cs) = field
 
 -- of the entries from this field on, the one of field `at` is the first reference that names none of all objects
 pub data FirstOfEntries (all : List Delivered) : (field : ℕ) → List Pair → List Entry → (at : ℕ) → Type 0 where
-  here : {field target : ℕ} {f : Field} {p : Pair} {ps : List Pair} {es : List Entry} → (Names all target (f .bytes) → ⊥) → FirstOfEntries all field (p ∷ ps) (OfReference target f ∷ es) field
-  later : {field at : ℕ} {p : Pair} {ps : List Pair} {e : Entry} {es : List Entry} → IsNamed all e → FirstOfEntries all (fieldBehind field p) ps es at → FirstOfEntries all field (p ∷ ps) (e ∷ es) at
+  here : {field target : ℕ} {f : Field} {p : Pair} {ps : List Pair} {es : List Entry}
+      → (Names all target (f .bytes) → ⊥) → FirstOfEntries all field (p ∷ ps) (OfReference target f ∷ es) field
+  later : {field at : ℕ} {p : Pair} {ps : List Pair} {e : Entry} {es : List Entry} → IsNamed all e
+      → FirstOfEntries all (fieldBehind field p) ps es at → FirstOfEntries all field (p ∷ ps) (e ∷ es) at
 
--- of the objects from number n on, `object` is the first with such a reference, in `field`; an object's attributes begin at field 3
-pub data FirstOfObjects (m : Model) (all : List Delivered) : (n : ℕ) → List Delivered → (object field : ℕ) → Type 0 where
-  here : {n field : ℕ} {o : Delivered} {os : List Delivered} → FirstOfEntries all 3 (pairsOf (tableAt (m .tables) (o .table) .attributes)) (o .entries) field → FirstOfObjects m all n (o ∷ os) n field
-  later : {n object field : ℕ} {o : Delivered} {os : List Delivered} → AllNamed all (o .entries) → FirstOfObjects m all (n + 1) os object field → FirstOfObjects m all n (o ∷ os) object field
+-- of the objects from number n on, `object` is the first with such a reference, in `field`; an object's attributes
+-- begin at field 3
+pub data FirstOfObjects (m : Model) (all : List Delivered) : (n : ℕ) → List Delivered → (object field : ℕ)
+    → Type 0 where
+  here : {n field : ℕ} {o : Delivered} {os : List Delivered}
+      → FirstOfEntries all 3 (pairsOf (tableAt (m .tables) (o .table) .attributes)) (o .entries) field
+      → FirstOfObjects m all n (o ∷ os) n field
+  later : {n object field : ℕ} {o : Delivered} {os : List Delivered} → AllNamed all (o .entries)
+      → FirstOfObjects m all (n + 1) os object field → FirstOfObjects m all n (o ∷ os) object field
 
 -- ## The first refusal: "1, 2, unfolding, 6, the lines in order, then 17 by object and field"
 
@@ -126,22 +143,33 @@ Pass m rooms ls before s = run m rooms (unfoldedText ls) (startOf m) before ≡ 
 pub data First (model file : List ℕ) (rooms : Rooms) : (number first second : ℕ) → Type 0 where
   tooLarge : 16777216 < length file → First model file rooms 1 0 0
   badModel : {at : ℕ} → Short file → checkModel model ≡ bad at → First model file rooms 2 at 0
-  badUnfolding : {m : Model} {number line : ℕ} → Short file → checkModel model ≡ good m → unfoldFile (m .mark) file ≡ fault number line → First model file rooms number line 0
-  noRoom : {m : Model} {ls : List (List ℕ)} → Opened model file m ls → (HasRoom m ls rooms → ⊥) → First model file rooms 6 0 0
+  badUnfolding : {m : Model} {number line : ℕ} → Short file → checkModel model ≡ good m
+      → unfoldFile (m .mark) file ≡ fault number line → First model file rooms number line 0
+  noRoom : {m : Model} {ls : List (List ℕ)} → Opened model file m ls → (HasRoom m ls rooms → ⊥)
+      → First model file rooms 6 0 0
   -- all lines before the line l pass, and l does not
-  badLine : {m : Model} {s : State} {number field : ℕ} (before : List (List ℕ)) (l : List ℕ) (after : List (List ℕ)) → Opened model file m (before ++ (l ∷ after)) → HasRoom m (before ++ (l ∷ after)) rooms
-      → Pass m rooms (before ++ (l ∷ after)) before s → stepOf m rooms (unfoldedText (before ++ (l ∷ after))) l s ≡ no number field → First model file rooms number (1 + length before) field
+  badLine : {m : Model} {s : State} {number field : ℕ} (before : List (List ℕ)) (l : List ℕ) (after : List (List ℕ))
+      → Opened model file m (before ++ (l ∷ after)) → HasRoom m (before ++ (l ∷ after)) rooms
+      → Pass m rooms (before ++ (l ∷ after)) before s
+      → stepOf m rooms (unfoldedText (before ++ (l ∷ after))) l s ≡ no number field
+      → First model file rooms number (1 + length before) field
   -- all lines pass, and one is still due
-  lineMissing : {m : Model} {ls : List (List ℕ)} {s : State} → Opened model file m ls → HasRoom m ls rooms → Pass m rooms ls ls s → isComplete (s .due) ≡ false
+  lineMissing : {m : Model} {ls : List (List ℕ)} {s : State} → Opened model file m ls → HasRoom m ls rooms
+      → Pass m rooms ls ls s → isComplete (s .due) ≡ false
       → First model file rooms 7 (1 + length ls) 1
   -- all lines pass and none is due; of all that they deliver this is the first reference that names no object
-  objectMissing : {m : Model} {ls : List (List ℕ)} {s : State} {ds : List DeliveredTopic} {object field : ℕ} → Opened model file m ls → HasRoom m ls rooms → Pass m rooms ls ls s
-      → isComplete (s .due) ≡ true → File m (withStarts 0 ls) ds → Unique (objectsOfTopics ds) → FirstOfObjects m (objectsOfTopics ds) 0 (objectsOfTopics ds) object field → First model file rooms 17 object field
+  objectMissing : {m : Model} {ls : List (List ℕ)} {s : State} {ds : List DeliveredTopic} {object field : ℕ}
+      → Opened model file m ls → HasRoom m ls rooms → Pass m rooms ls ls s
+      → isComplete (s .due) ≡ true → File m (withStarts 0 ls) ds → Unique (objectsOfTopics ds)
+      → FirstOfObjects m (objectsOfTopics ds) 0 (objectsOfTopics ds) object field
+      → First model file rooms 17 object field
 
 -- "otherwise the first refusal in the fixed order is given": a refusal is the first one
 abbrev pub RefusalIsFirst : Type 0
-RefusalIsFirst = (model file : List ℕ) (rooms : Rooms) (number first second : ℕ) → read model file rooms .answer ≡ refusal number first second → First model file rooms number first second
+RefusalIsFirst = (model file : List ℕ) (rooms : Rooms) (number first second : ℕ)
+    → read model file rooms .answer ≡ refusal number first second → First model file rooms number first second
 
 -- and the first one is given
 abbrev pub FirstIsRefusal : Type 0
-FirstIsRefusal = (model file : List ℕ) (rooms : Rooms) (number first second : ℕ) → First model file rooms number first second → read model file rooms ≡ refusedWith rooms number first second
+FirstIsRefusal = (model file : List ℕ) (rooms : Rooms) (number first second : ℕ)
+    → First model file rooms number first second → read model file rooms ≡ refusedWith rooms number first second

@@ -1,5 +1,6 @@
 -- Unfolding (01, "Unfolding"): a file's bytes, its physical lines, and the logical lines that they are unfolded to.
-unfoldable pub use Rattle.meaning.specs.Bytes.{refuse, permitted, every, allPermitted, begins, ends, withoutLast, cont, prefix}
+unfoldable pub use
+    Rattle.meaning.specs.Bytes.{refuse, permitted, every, allPermitted, begins, ends, withoutLast, cont, prefix}
 use Prim.Native.Nat.{ℕ, _+_}
 use mathlib.Core.Bool.{Bool, true, false, not, _&&_}
 use mathlib.Core.List.{List, [], _∷_, _++_}
@@ -18,8 +19,9 @@ unfoldable pub add : ℕ → Physical → Physical
 add b (tail l) = tail (b ∷ l)
 add b (line l p) = line (b ∷ l) p
 
--- a byte before a file whose lines are p: an LF ends a line that is empty so far, a CR before an LF is left out, and any other byte stands in the
--- first line. From the back, `a` LF is first LF before nothing, an empty line; then `a` before that, the line `a`
+-- a byte before a file whose lines are p: an LF ends a line that is empty so far, a CR before an LF is left out, and
+-- any other byte stands in the first line. From the back, `a` LF is first LF before nothing, an empty line; then `a`
+-- before that, the line `a`
 unfoldable pub byte : Bool → Bool → ℕ → Physical → Physical
 byte true cr b p = line [] p
 byte false true b p = p
@@ -42,15 +44,16 @@ pub data Unfolded : Type 0 where
   lines : List (List ℕ) → Unfolded
   fault : ℕ → ℕ → Unfolded
 
--- a part of a line before what the rest of the file is unfolded to: of the same line where it is continued (there is one then), and a line of
--- its own where not
+-- a part of a line before what the rest of the file is unfolded to: of the same line where it is continued (there is
+-- one then), and a line of its own where not
 unfoldable pub put : Bool → List ℕ → Unfolded → Unfolded
 put continued p (fault k n) = fault k n
 put false p (lines ls) = lines (p ∷ ls)
 put true p (lines []) = lines (p ∷ [])
 put true p (lines (l ∷ ls)) = lines ((p ++ l) ∷ ls)
 
--- what is left of a physical line: without CONT and the space where it continues one, and without the mark where one continues it
+-- what is left of a physical line: without CONT and the space where it continues one, and without the mark where one
+-- continues it
 unfoldable pub dropIf : Bool → ℕ → List ℕ → List ℕ
 dropIf true k l = drop k l
 dropIf false k l = l
@@ -63,7 +66,8 @@ unfoldable pub next : Bool → ℕ → ℕ
 next true n = n
 next false n = n + 1
 
--- the physical lines p from logical line n on, whose first continues line n or not; where a line continues another and none is left, 3 was given before
+-- the physical lines p from logical line n on, whose first continues line n or not; where a line continues another and
+-- none is left, 3 was given before
 unfoldable pub unfoldLines : (mark n : ℕ) (continues : Bool) → Physical → Unfolded
 unfoldLines mark n true (tail []) = fault 3 n
 unfoldLines mark n false (tail []) = lines []

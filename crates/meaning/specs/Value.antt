@@ -7,7 +7,8 @@ use lib.IntN.{ℤ, pos, negsuc, negℤ}
 use lib.Signed.{ltZ}
 use lib.ListN.{length, take, drop}
 use Rattle.meaning.specs.Bytes.{choose, refuse, digit, textByte, every, same, begins, byteAt}
-use Rattle.meaning.specs.Model.{Component, AttributeType, Reference, Coordinate, Number, Text, Date, Enumeration, Line}
+use Rattle.meaning.specs.Model.{Component, AttributeType, Reference, Coordinate, Number, Text, Date, Enumeration}
+use Rattle.meaning.specs.Model.{Line}
 use Rattle.meaning.specs.Field.{Field}
 
 -- the two cells of a defined field, or its refusal: 13 wrong shape, 14 outside its domain

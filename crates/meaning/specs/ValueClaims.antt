@@ -1,4 +1,5 @@
--- What we claim of values and their bytes: each written value reads as itself, is told from every other, and is the shortest.
+-- What we claim of values and their bytes: each written value reads as itself, is told from every other, and is the
+-- shortest.
 -- One type for each claim; proofs/ValueClaims.antt proves them.
 use Prim.Native.Nat.{ℕ, _+_, _/_, _%_, _^_, _≤_, _<_}
 use mathlib.Core.Path.{_≡_}
@@ -16,21 +17,25 @@ use Rattle.meaning.specs.Digits.{numberBytes, dateBytes}
 
 -- The bytes of a number within a good component's bounds read as that number.
 abbrev pub NumberReads : Type 0
-NumberReads = (c : Component) (v : ℤ) → goodComponent c ≡ true → within c v ≡ true → numberOf c (numberBytes (c .decimals) v) ≡ pair (pos 1) v
+NumberReads = (c : Component) (v : ℤ) → goodComponent c ≡ true → within c v ≡ true
+    → numberOf c (numberBytes (c .decimals) v) ≡ pair (pos 1) v
 
 -- The bytes of a leaf's number read as that leaf.
 abbrev pub EnumerationReads : Type 0
-EnumerationReads = (leaves n : ℕ) → leaves < 65536 → n < leaves → enumerationOf leaves (numberBytes 0 (pos n)) ≡ pair (pos 1) (pos n)
+EnumerationReads = (leaves n : ℕ) → leaves < 65536 → n < leaves
+    → enumerationOf leaves (numberBytes 0 (pos n)) ≡ pair (pos 1) (pos n)
 
 -- The bytes of a day read as that day.
 abbrev pub DateReads : Type 0
-DateReads = (n : ℕ) → n < 10 ^ 8 → isDay (n / 10000) (n / 100 % 100) (n % 100) ≡ true → dateOf (dateBytes (pos n)) ≡ pair (pos 1) (pos n)
+DateReads = (n : ℕ) → n < 10 ^ 8 → isDay (n / 10000) (n / 100 % 100) (n % 100) ≡ true
+    → dateOf (dateBytes (pos n)) ≡ pair (pos 1) (pos n)
 
 -- ## Two values with the same bytes are equal
 
 -- Of numbers with the same decimals, and so of the numbers of leaves; a cell's value has 19 digits at most.
 abbrev pub NumberBytesDiffer : Type 0
-NumberBytesDiffer = (d : ℕ) (v w : ℤ) → d ≤ 9 → natAbs v < 10 ^ 19 → natAbs w < 10 ^ 19 → numberBytes d v ≡ numberBytes d w → v ≡ w
+NumberBytesDiffer = (d : ℕ) (v w : ℤ) → d ≤ 9 → natAbs v < 10 ^ 19 → natAbs w < 10 ^ 19
+    → numberBytes d v ≡ numberBytes d w → v ≡ w
 
 -- Of dates.
 abbrev pub DateBytesDiffer : Type 0
@@ -40,11 +45,13 @@ DateBytesDiffer = (v w : ℤ) → natAbs v < 10 ^ 19 → natAbs w < 10 ^ 19 → 
 
 -- No bytes that are shorter read as the number, whatever the component.
 abbrev pub NumberShortest : Type 0
-NumberShortest = (c : Component) (v : ℤ) (s : List ℕ) → numberOf c s ≡ pair (pos 1) v → length (numberBytes (c .decimals) v) ≤ length s
+NumberShortest = (c : Component) (v : ℤ) (s : List ℕ) → numberOf c s ≡ pair (pos 1) v
+    → length (numberBytes (c .decimals) v) ≤ length s
 
 -- No bytes that are shorter read as the leaf.
 abbrev pub EnumerationShortest : Type 0
-EnumerationShortest = (leaves n : ℕ) (s : List ℕ) → enumerationOf leaves s ≡ pair (pos 1) (pos n) → length (numberBytes 0 (pos n)) ≤ length s
+EnumerationShortest = (leaves n : ℕ) (s : List ℕ) → enumerationOf leaves s ≡ pair (pos 1) (pos n)
+    → length (numberBytes 0 (pos n)) ≤ length s
 
 -- No other bytes at all read as the day.
 abbrev pub DateOnly : Type 0

@@ -16,9 +16,11 @@ use Rattle.meaning.specs.Readback.{isTable}
 unfoldable pub goesWhole : (mark room : ℕ) → List ℕ → Bool
 goesWhole mark room rest = leb (length rest) room && not (ends mark rest)
 
--- "Else as many bytes as fit before a mark, then the mark": the rest of a line, of which `left` bytes more stand before the next mark.
--- Behind CONT and a space a line has room for width - 5 bytes: the whole rest, or width - 6 bytes of it and the mark. The first of these
--- is written together with CONT, so width - 7 are left behind it. At width 16 the 17 bytes `OBJE a bcdefghij` and `k` are cut to
+-- "Else as many bytes as fit before a mark, then the mark": the rest of a line, of which `left` bytes more stand before
+-- the next mark.
+-- Behind CONT and a space a line has room for width - 5 bytes: the whole rest, or width - 6 bytes of it and the mark.
+-- The first of these is written together with CONT, so width - 7 are left behind it. At width 16 the 17 bytes `OBJE a
+-- bcdefghij` and `k` are cut to
 --   `OBJE a bcdefghi\`   15 bytes and the mark
 --   `CONT jk`            the rest, which fits
 unfoldable pub cutRest : (mark width left : ℕ) → List ℕ → List ℕ

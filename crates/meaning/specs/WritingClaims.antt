@@ -1,4 +1,5 @@
--- What is proved of writing: unwritable exactly when no lines read as the table, the judge that says so, and the round trip. Proved in proofs/WritingClaims.antt.
+-- What is proved of writing: unwritable exactly when no lines read as the table, the judge that says so, and the round
+-- trip. Proved in proofs/WritingClaims.antt.
 use Prim.Native.Nat.{ℕ, _+_, _-_, _≤_}
 use mathlib.Core.Path.{_≡_}
 use mathlib.Core.Bool.{Bool, true, _&&_}
@@ -54,7 +55,8 @@ pub record Enough (m : Model) (ls : List (List ℕ)) (c : Content) (rooms : Room
 abbrev pub resolvedTable : Content → List ℤ → Content
 resolvedTable c cs = record { marks = c .marks; rows = c .rows; cells = cs; points = c .points }
 
--- a result is accepted, with a table that is the lent one: texts and identifications compare by their bytes, starts aside
+-- a result is accepted, with a table that is the lent one: texts and identifications compare by their bytes, starts
+-- aside
 pub record ReadBack (m : Model) (t : Lent) (rooms : Rooms) (r : Result) : Type 0 where
   pub text : List ℕ
   pub content : Content
@@ -65,8 +67,10 @@ pub record ReadBack (m : Model) (t : Lent) (rooms : Rooms) (r : Result) : Type 0
 -- "what it wrote reads as the same objects, values, points and references"
 abbrev pub RoundTrip : Type 0
 RoundTrip =
-    (model : List ℕ) (m : Model) (t : Lent) (width room n : ℕ) (rooms : Rooms) → checkModel model ≡ good m → write model t width room .answer ≡ accepted n 0 0
-    → Enough m (linesOf m (t .text) (contentOf m t)) (contentOf m t) rooms → ReadBack m t rooms (read model (take n (write model t width room .output)) rooms)
+    (model : List ℕ) (m : Model) (t : Lent) (width room n : ℕ) (rooms : Rooms) → checkModel model ≡ good m
+    → write model t width room .answer ≡ accepted n 0 0
+    → Enough m (linesOf m (t .text) (contentOf m t)) (contentOf m t) rooms
+    → ReadBack m t rooms (read model (take n (write model t width room .output)) rooms)
 
 -- and its counts are the lent ones
 abbrev pub RoundTripCounts : Type 0
@@ -76,27 +80,43 @@ RoundTripCounts =
 
 -- a table that was read, as it is lent to writing: the whole buffers, and its counts
 abbrev pub lentAgain : Result → (objects cells points : ℕ) → Lent
-lentAgain r o c p = record { text = r .text; marks = r .marks; rows = r .rows; cells = r .cells; points = r .points; objects = o; cellCount = c; pointCount = p }
+lentAgain r o c p = record {
+  text = r .text;
+  marks = r .marks;
+  rows = r .rows;
+  cells = r .cells;
+  points = r .points;
+  objects = o;
+  cellCount = c;
+  pointCount = p;
+}
 
 -- and written again it gives the same bytes, at that width or another
 abbrev pub WrittenAgain : Type 0
 WrittenAgain =
-    (model : List ℕ) (m : Model) (t : Lent) (width room n : ℕ) (rooms : Rooms) → checkModel model ≡ good m → write model t width room .answer ≡ accepted n 0 0
+    (model : List ℕ) (m : Model) (t : Lent) (width room n : ℕ) (rooms : Rooms) → checkModel model ≡ good m
+    → write model t width room .answer ≡ accepted n 0 0
     → Enough m (linesOf m (t .text) (contentOf m t)) (contentOf m t) rooms → (width′ room′ : ℕ)
-    → write model (lentAgain (read model (take n (write model t width room .output)) rooms) (t .objects) (t .cellCount) (t .pointCount)) width′ room′ ≡ write model t width′ room′
+    → write model
+    (lentAgain (read model (take n (write model t width room .output)) rooms) (t .objects) (t .cellCount)
+    (t .pointCount)) width′ room′ ≡ write model t width′ room′
 
 -- every table of a reading can be written: the answer is never 19
 abbrev pub ReadIsWritable : Type 0
 ReadIsWritable =
-    (model file : List ℕ) (m : Model) (rooms : Rooms) (objects cells points width room : ℕ) → checkModel model ≡ good m → read model file rooms .answer ≡ accepted objects cells points
-    → 16 ≤ width → width ≤ 65535 → write model (lentAgain (read model file rooms) objects cells points) width room .answer ≡ refusal 19 0 0 → ⊥
+    (model file : List ℕ) (m : Model) (rooms : Rooms) (objects cells points width room : ℕ) → checkModel model ≡ good m
+    → read model file rooms .answer ≡ accepted objects cells points
+    → 16 ≤ width → width ≤ 65535
+    → write model (lentAgain (read model file rooms) objects cells points) width room .answer ≡ refusal 19 0 0 → ⊥
 
 -- ## What writing leaves in its room
 
 -- "All result buffers are zeroed by every refusal"
 abbrev pub WritingRefusalZeroes : Type 0
 WritingRefusalZeroes =
-    (model : List ℕ) (t : Lent) (width room number first second : ℕ) → write model t width room .answer ≡ refusal number first second → write model t width room .output ≡ replicate room 0
+    (model : List ℕ) (t : Lent) (width room number first second : ℕ)
+    → write model t width room .answer ≡ refusal number first second
+    → write model t width room .output ≡ replicate room 0
 
 -- the room keeps its length, and behind the bytes written there are zeros
 pub record RoomUsed (room n : ℕ) (output : List ℕ) : Type 0 where
@@ -107,17 +127,20 @@ abbrev pub WritingKeepsRoom : Type 0
 WritingKeepsRoom = (model : List ℕ) (t : Lent) (width room : ℕ) → length (write model t width room .output) ≡ room
 
 abbrev pub WrittenZeroBehind : Type 0
-WrittenZeroBehind = (model : List ℕ) (t : Lent) (width room n : ℕ) → write model t width room .answer ≡ accepted n 0 0 → RoomUsed room n (write model t width room .output)
+WrittenZeroBehind = (model : List ℕ) (t : Lent) (width room n : ℕ) → write model t width room .answer ≡ accepted n 0 0
+    → RoomUsed room n (write model t width room .output)
 
 -- ## The width
 
 -- no physical line of these bytes is longer than the width, the first of which has so many bytes before them
 unfoldable pub fitsWidth : (width column : ℕ) → List ℕ → Bool
 fitsWidth width column [] = true
-fitsWidth width column (b ∷ s) = choose (eqb b 0x0a) (fitsWidth width 0 s) (ltb column width && fitsWidth width (column + 1) s)
+fitsWidth width column (b ∷ s) =
+    choose (eqb b 0x0a) (fitsWidth width 0 s) (ltb column width && fitsWidth width (column + 1) s)
 
 -- "the rest goes out whole if it fits the width": no line of what is written is longer
 abbrev pub WrittenFitsWidth : Type 0
 WrittenFitsWidth =
-    (model : List ℕ) (m : Model) (t : Lent) (width room n : ℕ) → checkModel model ≡ good m → write model t width room .answer ≡ accepted n 0 0
+    (model : List ℕ) (m : Model) (t : Lent) (width room n : ℕ) → checkModel model ≡ good m
+    → write model t width room .answer ≡ accepted n 0 0
     → fitsWidth width 0 (take n (write model t width room .output)) ≡ true
