@@ -11,7 +11,9 @@ use Rattle.base.specs.declared.fields.Next.the-variants.{Field, Nothing}
 pub record FirstField (rest : List ℕ) (at len : ℕ) : Type 0 where
   pub within : at + len ≤ length rest
   pub some : 0 < len
-  pub first : (s : ℕ) → fieldsOf s rest ≡ record { start = s + at; bytes = take len (drop at rest) } ∷ fieldsOf (s + at + len) (drop (at + len) rest)
+  pub first : (s : ℕ)
+      → fieldsOf s rest ≡ record { start = s + at; bytes = take len (drop at rest) }
+      ∷ fieldsOf (s + at + len) (drop (at + len) rest)
 
 abbrev pub NextField : List ℕ → Next → Type 0
 NextField rest (Field at len) = FirstField rest at len

@@ -34,7 +34,9 @@ fn skip_separators(rest: &[u8]) -> usize
 fn field_size(rest: &[u8]) -> usize
     requires { ⌜ goesOn (now rest) ≡ true ⌝ }
     ensures within { λ r. ⌜ (0 < r) × (r ≤ length (now (rest .entry))) ⌝ }
-    ensures field { λ r. ⌜ ((s : ℕ) → fieldsOf s (now (rest .entry)) ≡ record { start = s; bytes = take r (now (rest .entry)) } ∷ fieldsOf (s + r) (drop r (now (rest .entry)))) ⌝ }
+    ensures field { λ r. ⌜
+        ((s : ℕ) → fieldsOf s (now (rest .entry)) ≡ record { start = s; bytes = take r (now (rest .entry)) }
+        ∷ fieldsOf (s + r) (drop r (now (rest .entry)))) ⌝ }
 {
     let mut i = 1;
     while i < rest.len() {

@@ -7,8 +7,9 @@ ghost use Rattle.write_judge.specs.Tables.{lentOf};
 ghost use Rattle.meaning.specs.Answer.{numbersIn};
 use c_answers::writing;
 
-// 0 and the number of bytes written, or a refusal's number and the byte of a bad model's record; `answer` gets the four numbers, as many as it has room for. The lines of the
-// table stand in `out`, with zeros behind; a refusal leaves nothing but zeros. The index is only working room, and zero again.
+// 0 and the number of bytes written, or a refusal's number and the byte of a bad model's record; `answer` gets the four
+// numbers, as many as it has room for. The lines of the table stand in `out`, with zeros behind; a refusal leaves
+// nothing but zeros. The index is only working room, and zero again.
 #[no_mangle]
 pub extern "C" fn vendorfinch_write(
     model: &[u8],
@@ -26,10 +27,20 @@ pub extern "C" fn vendorfinch_write(
     seed: u64,
     answer: &mut [u64],
 ) -> u64
-    ensures code { λ r. ⌜ r ≡ codeForC (writes.write (now (model .entry)) (lentOf (now (text .entry)) (now (marks .entry)) (now (rows .entry)) (now (cells .entry)) (now (points .entry)) objects «cells_used» «points_used») width (length (now (out .entry))) .answer) ⌝ }
-    ensures output { λ _. ⌜ now (out .exit) ≡ writes.write (now (model .entry)) (lentOf (now (text .entry)) (now (marks .entry)) (now (rows .entry)) (now (cells .entry)) (now (points .entry)) objects «cells_used» «points_used») width (length (now (out .entry))) .output ⌝ }
+    ensures code { λ r. ⌜ r
+        ≡ codeForC (writes.write (now (model .entry))
+        (lentOf (now (text .entry)) (now (marks .entry)) (now (rows .entry)) (now (cells .entry)) (now (points .entry))
+        objects «cells_used» «points_used») width (length (now (out .entry))) .answer) ⌝ }
+    ensures output { λ _. ⌜ now (out .exit)
+        ≡ writes.write (now (model .entry))
+        (lentOf (now (text .entry)) (now (marks .entry)) (now (rows .entry)) (now (cells .entry)) (now (points .entry))
+        objects «cells_used» «points_used») width (length (now (out .entry))) .output ⌝ }
     ensures index { λ _. ⌜ now (index .exit) ≡ replicate (length (now (index .entry))) 0 ⌝ }
-    ensures answer { λ _. ⌜ now (answer .exit) ≡ numbersIn (length (now (answer .entry))) (writes.write (now (model .entry)) (lentOf (now (text .entry)) (now (marks .entry)) (now (rows .entry)) (now (cells .entry)) (now (points .entry)) objects «cells_used» «points_used») width (length (now (out .entry))) .answer) ⌝ }
+    ensures answer { λ _. ⌜ now (answer .exit)
+        ≡ numbersIn (length (now (answer .entry)))
+        (writes.write (now (model .entry))
+        (lentOf (now (text .entry)) (now (marks .entry)) (now (rows .entry)) (now (cells .entry)) (now (points .entry))
+        objects «cells_used» «points_used») width (length (now (out .entry))) .answer) ⌝ }
 {
     let written = write::write(
         model,

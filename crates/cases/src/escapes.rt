@@ -1,5 +1,5 @@
-// Bytes in a line: each stands for itself but `\n`, `\t`, `\\`, `\x` with two digits of base 16, and `\` with a count, `*` and a byte: that byte so
-// many times.
+// Bytes in a line: each stands for itself but `\n`, `\t`, `\\`, `\x` with two digits of base 16, and `\` with a count,
+// `*` and a byte: that byte so many times.
 ghost use Prim.Native.Nat.{_≤_, _<_};
 ghost use lib.ListN.{length};
 use crate::numbers;
@@ -75,7 +75,8 @@ fn byte_in(b: u8) -> u8 {
     }
 }
 
-// States: 0 outside an escape, 1 behind its first byte, 2 and 3 before its digits of base 16, 4 in its count, 5 before the byte that is counted.
+// States: 0 outside an escape, 1 behind its first byte, 2 and 3 before its digits of base 16, 4 in its count, 5 before
+// the byte that is counted.
 // How many bytes stand in the place of a byte in a state, and which.
 fn count_of(state: u8, held: usize, b: u8) -> usize {
     match state {

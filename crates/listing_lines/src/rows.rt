@@ -13,7 +13,8 @@ use base::numbers;
 fn put_cell(v: i64, behind: u8, out: &mut [u8], n: usize) -> usize
     requires { ⌜ n + 22 ≤ length (now out) ⌝ }
     ensures few { λ r. ⌜ r ≤ n + 22 ⌝ }
-    ensures bytes { λ r. ⌜ take r (now (out .exit)) ≡ take n (now (out .entry)) ++ (numberBytes 0 v ++ (behind ∷ [])) ⌝ }
+    ensures bytes { λ r. ⌜ take r (now (out .exit)) ≡ take n (now (out .entry))
+        ++ (numberBytes 0 v ++ (behind ∷ [])) ⌝ }
 {
     let size = value_write::put_enumeration(v, &mut out[n..]);
     let end = n + size;

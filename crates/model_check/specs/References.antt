@@ -22,16 +22,19 @@ unfoldable pub outsideMeant : Outside → Checked → Checked
 outsideMeant (At at) rest = bad at
 outsideMeant Nowhere rest = rest
 
--- the references of these records: those of the attributes that begin here, where they lie behind a table's record, and those of the tables
+-- the references of these records: those of the attributes that begin here, where they lie behind a table's record, and
+-- those of the tables
 unfoldable pub judgedFrom : List Table → (inside : Bool) → (topics : ℕ) → Records → Checked → Checked
-judgedFrom ts true topics rs rest = judgeAttributes ts (topics - 1) (attributesOf rs) (judgeReferences ts (tablesOf topics rs) rest)
+judgedFrom ts true topics rs rest =
+    judgeAttributes ts (topics - 1) (attributesOf rs) (judgeReferences ts (tablesOf topics rs) rest)
 judgedFrom ts false topics rs rest = judgeReferences ts (tablesOf topics rs) rest
 
 -- the record where the judging stands is an attribute that refers outside
 abbrev pub judges : List Table → List ℕ → Judge → Bool
 judges ts model j =
     let p : List ℕ = payloadAt model (j .at) in
-    eqb (u16At model (j .at + 2)) 5 && (j .inside && isOutside ts (j .topics - 1) (targetOf (typeOf (byteAt p 1) (drop 2 p))))
+    eqb (u16At model (j .at + 2)) 5
+    && (j .inside && isOutside ts (j .topics - 1) (targetOf (typeOf (byteAt p 1) (drop 2 p))))
 
 -- the judging behind a record of this kind, whose next record is at this byte
 unfoldable pub judgedOn : (kind next : ℕ) → Judge → Judge

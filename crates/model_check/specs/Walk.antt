@@ -43,10 +43,38 @@ passesAt model w topics tables attributes =
 -- the walker behind a record of this kind, whose next record is at this byte
 unfoldable pub advancedOn : (kind next : ℕ) → Walker → Walker
 advancedOn kind next w =
-    choose (eqb kind 3) (record { at = next; before = kind; topics = w .topics + 1; tables = 0; attributes = 0; count = w .count })
-    (choose (eqb kind 4) (record { at = next; before = kind; topics = w .topics; tables = w .tables + 1; attributes = 0; count = w .count + 1 })
-    (choose (eqb kind 5) (record { at = next; before = kind; topics = w .topics; tables = w .tables; attributes = w .attributes + 1; count = w .count })
-    (record { at = next; before = kind; topics = w .topics; tables = w .tables; attributes = w .attributes; count = w .count })))
+    choose (eqb kind 3) (record {
+      at = next;
+      before = kind;
+      topics = w .topics + 1;
+      tables = 0;
+      attributes = 0;
+      count = w .count;
+    })
+    (choose (eqb kind 4) (record {
+      at = next;
+      before = kind;
+      topics = w .topics;
+      tables = w .tables + 1;
+      attributes = 0;
+      count = w .count + 1;
+    })
+    (choose (eqb kind 5) (record {
+      at = next;
+      before = kind;
+      topics = w .topics;
+      tables = w .tables;
+      attributes = w .attributes + 1;
+      count = w .count;
+    })
+    (record {
+      at = next;
+      before = kind;
+      topics = w .topics;
+      tables = w .tables;
+      attributes = w .attributes;
+      count = w .count;
+    })))
 
 abbrev pub advanced : List ℕ → Walker → Walker
 advanced model w = advancedOn (u16At model (w .at + 2)) (nextAt model (w .at)) w
@@ -66,6 +94,8 @@ checkedRecords model =
 -- a walk to the model's end: all is judged but the end itself and the references
 pub record Walked (model : List ℕ) (w : Walker) (places : List ℕ) : Type 0 where
   pub room : w .count ≤ length places
-  pub checked : (rest : check.Checked) → check.checkRecords 0 check.nothingSeen (recordsAt model 0) rest ≡ refuse (not (eqb (w .before) 6)) (check.bad (w .at)) rest
+  pub checked : (rest : check.Checked)
+      → check.checkRecords 0 check.nothingSeen (recordsAt model 0) rest
+      ≡ refuse (not (eqb (w .before) 6)) (check.bad (w .at)) rest
   pub placed : topicNumbers (tablesOf 0 (recordsAt model 0)) ≡ take (w .count) places
   pub counted : w .topics ≡ length (topicsOf (recordsAt model 0))

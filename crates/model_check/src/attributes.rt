@@ -18,8 +18,8 @@ use model_records::Component;
 use model_records::Components;
 use model_records::numbers;
 
-// An attribute by value. Its number is a reference's table, a text's longest length, an enumeration's count of leaves or a line's forms;
-// its components are those of a coordinate, a number or a line.
+// An attribute by value. Its number is a reference's table, a text's longest length, an enumeration's count of leaves
+// or a line's forms; its components are those of a coordinate, a number or a line.
 pub struct Attribute {
     pub optional: bool,
     pub kind: u8,
@@ -213,7 +213,9 @@ pub fn is_type(p: &[u8]) -> bool
 // "5 attribute: optional (0 or 1), type, parameters, name of 1 to 24 bytes", "64 attributes in a table"
 pub fn keeps_attribute(model: &[u8], p: &[u8], seen: &[usize], count: usize) -> bool
     requires { ⌜ count ≤ length (now seen) ⌝ }
-    ensures { λ r. ⌜ r ≡ keepsAttribute (now (p .entry)) (attributesSeen (namesOf (now (model .entry)) (take count (now (seen .entry))))) ⌝ }
+    ensures { λ r. ⌜ r
+        ≡ keepsAttribute (now (p .entry))
+        (attributesSeen (namesOf (now (model .entry)) (take count (now (seen .entry))))) ⌝ }
 {
     let start = parameters_end(p);
     if p.len() <= start {

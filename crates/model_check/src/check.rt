@@ -7,7 +7,8 @@ ghost use Rattle.meaning.specs.Answer as meaning;
 ghost use Rattle.meaning.specs.Check.{keeps, keepsTopic, keepsTable, checkRecords, nothingSeen};
 ghost use Rattle.model_check.specs.Names.{namesOf};
 ghost use Rattle.model_check.specs.Records.{nextAt};
-ghost use Rattle.model_check.specs.Walk.{seenOf, passesAt, advanced, topicsSeen, tablesSeen, Walked, checkedRecords, checkedMeant};
+ghost use Rattle.model_check.specs.Walk.{seenOf, passesAt, advanced, topicsSeen, tablesSeen, Walked};
+ghost use Rattle.model_check.specs.Walk.{checkedRecords, checkedMeant};
 use crate::attributes;
 use crate::names;
 use crate::records;
@@ -23,8 +24,8 @@ pub enum Checked {
     Bad(usize),
 }
 
-// Where the check stands: the byte of a record, the kind of the one before it, how many topics, tables of the last topic and attributes of
-// the last table were seen, and how many tables in all.
+// Where the check stands: the byte of a record, the kind of the one before it, how many topics, tables of the last
+// topic and attributes of the last table were seen, and how many tables in all.
 pub struct Walker {
     pub at: usize,
     pub before: u16,
@@ -37,7 +38,8 @@ pub struct Walker {
 // "3 topic: name, 1 to 24 bytes", "At most 64 topics"
 fn keeps_topic(model: &[u8], p: &[u8], seen: &[usize], count: usize) -> bool
     requires { ⌜ count ≤ length (now seen) ⌝ }
-    ensures { λ r. ⌜ r ≡ keepsTopic (now (p .entry)) (topicsSeen (namesOf (now (model .entry)) (take count (now (seen .entry))))) ⌝ }
+    ensures { λ r. ⌜ r
+        ≡ keepsTopic (now (p .entry)) (topicsSeen (namesOf (now (model .entry)) (take count (now (seen .entry))))) ⌝ }
 {
     names::is_free(model, p, seen, count, count, 64)
 }
@@ -45,7 +47,9 @@ fn keeps_topic(model: &[u8], p: &[u8], seen: &[usize], count: usize) -> bool
 // "4 table: optional (0 or 1), name of 1 to 24 bytes", "512 tables"
 fn keeps_table(model: &[u8], p: &[u8], seen: &[usize], count: usize, all: usize) -> bool
     requires { ⌜ count ≤ length (now seen) ⌝ }
-    ensures { λ r. ⌜ r ≡ keepsTable (now (p .entry)) (tablesSeen (namesOf (now (model .entry)) (take count (now (seen .entry)))) all) ⌝ }
+    ensures { λ r. ⌜ r
+        ≡ keepsTable (now (p .entry))
+        (tablesSeen (namesOf (now (model .entry)) (take count (now (seen .entry)))) all) ⌝ }
 {
     if p.len() == 0 {
         return false;
@@ -67,7 +71,9 @@ fn keeps_rules(
     requires { ⌜ w .topics ≤ length (now topics) ⌝ }
     requires { ⌜ w .tables ≤ length (now tables) ⌝ }
     requires { ⌜ w .attributes ≤ length (now attributes) ⌝ }
-    ensures { λ r. ⌜ r ≡ keeps kind (now (p .entry)) (seenOf (now (model .entry)) w (now (topics .entry)) (now (tables .entry)) (now (attributes .entry))) ⌝ }
+    ensures { λ r. ⌜ r
+        ≡ keeps kind (now (p .entry))
+        (seenOf (now (model .entry)) w (now (topics .entry)) (now (tables .entry)) (now (attributes .entry))) ⌝ }
 {
     match kind {
         1 => rules::keeps_transfer(p),
@@ -84,7 +90,8 @@ fn passes(model: &[u8], w: Walker, topics: &[usize], tables: &[usize], attribute
     requires { ⌜ w .topics ≤ length (now topics) ⌝ }
     requires { ⌜ w .tables ≤ length (now tables) ⌝ }
     requires { ⌜ w .attributes ≤ length (now attributes) ⌝ }
-    ensures { λ r. ⌜ r ≡ passesAt (now (model .entry)) w (now (topics .entry)) (now (tables .entry)) (now (attributes .entry)) ⌝ }
+    ensures { λ r. ⌜ r
+        ≡ passesAt (now (model .entry)) w (now (topics .entry)) (now (tables .entry)) (now (attributes .entry)) ⌝ }
 {
     let at = w.at;
     if records::fits_at(model, at) {

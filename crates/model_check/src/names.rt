@@ -64,7 +64,9 @@ pub fn is_free(
     most: usize,
 ) -> bool
     requires { ⌜ count ≤ length (now seen) ⌝ }
-    ensures { λ r. ⌜ r ≡ allOf (isName 24 (now (name .entry)) ∷ ltb used most ∷ not (isAmong (now (name .entry)) (namesOf (now (model .entry)) (take count (now (seen .entry))))) ∷ []) ⌝ }
+    ensures { λ r. ⌜ r
+        ≡ allOf (isName 24 (now (name .entry)) ∷ ltb used most
+        ∷ not (isAmong (now (name .entry)) (namesOf (now (model .entry)) (take count (now (seen .entry))))) ∷ []) ⌝ }
 {
     let among = is_among(model, name, seen, count);
     let named = rules::is_name(name, 24);

@@ -55,7 +55,9 @@ pub fn name_start(p: &[u8], kind: u16) -> usize
 pub fn name_at(model: &[u8], at: usize) -> usize
     requires { ⌜ length (now model) ≤ 65536 ⌝ }
     requires { ⌜ nextAt (now model) at ≤ length (now model) ⌝ }
-    ensures { λ r. ⌜ nameOf (now (model .entry)) r ≡ drop (nameStart (u16At (now (model .entry)) (at + 2)) (payloadAt (now (model .entry)) at)) (payloadAt (now (model .entry)) at) ⌝ }
+    ensures { λ r. ⌜ nameOf (now (model .entry)) r
+        ≡ drop (nameStart (u16At (now (model .entry)) (at + 2)) (payloadAt (now (model .entry)) at))
+        (payloadAt (now (model .entry)) at) ⌝ }
 {
     let kind = kind_at(model, at);
     let start = at + 4;

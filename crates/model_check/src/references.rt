@@ -17,7 +17,8 @@ pub enum Outside {
     Nowhere,
 }
 
-// Where the judging stands: the byte of a record, the count of topics before it, and whether it lies behind a table's record.
+// Where the judging stands: the byte of a record, the count of topics before it, and whether it lies behind a table's
+// record.
 pub struct Judge {
     pub at: usize,
     pub topics: usize,
@@ -34,7 +35,8 @@ pub fn less_one(n: usize) -> usize
 // Whether a table is not there, or not in this topic.
 fn is_foreign(places: &[usize], tables: usize, t: usize, topic: usize) -> bool
     requires { ⌜ tables ≤ length (now places) ⌝ }
-    ensures { λ r. ⌜ ((ts : List Table) → topicNumbers ts ≡ take tables (now (places .entry)) → r ≡ isOutside ts topic (found t)) ⌝ }
+    ensures { λ r. ⌜
+        ((ts : List Table) → topicNumbers ts ≡ take tables (now (places .entry)) → r ≡ isOutside ts topic (found t)) ⌝ }
 {
     if tables <= t {
         return true;
@@ -45,7 +47,9 @@ fn is_foreign(places: &[usize], tables: usize, t: usize, topic: usize) -> bool
 // Whether a payload is that of a reference outside.
 fn refers_outside(p: &[u8], places: &[usize], tables: usize, topic: usize) -> bool
     requires { ⌜ tables ≤ length (now places) ⌝ }
-    ensures { λ r. ⌜ ((ts : List Table) → topicNumbers ts ≡ take tables (now (places .entry)) → r ≡ isOutside ts topic (targetOf (typeOf (byteAt (now (p .entry)) 1) (drop 2 (now (p .entry)))))) ⌝ }
+    ensures { λ r. ⌜
+        ((ts : List Table) → topicNumbers ts ≡ take tables (now (places .entry))
+        → r ≡ isOutside ts topic (targetOf (typeOf (byteAt (now (p .entry)) 1) (drop 2 (now (p .entry)))))) ⌝ }
 {
     if numbers::byte_at(p, 1) != 1 {
         return false;
@@ -59,7 +63,9 @@ fn refers_outside(p: &[u8], places: &[usize], tables: usize, topic: usize) -> bo
 fn is_bad(model: &[u8], j: Judge, places: &[usize], tables: usize) -> bool
     requires { ⌜ tables ≤ length (now places) ⌝ }
     requires { ⌜ nextAt (now model) (j .at) ≤ length (now model) ⌝ }
-    ensures { λ r. ⌜ ((ts : List Table) → topicNumbers ts ≡ take tables (now (places .entry)) → r ≡ judges ts (now (model .entry)) j) ⌝ }
+    ensures { λ r. ⌜
+        ((ts : List Table) → topicNumbers ts ≡ take tables (now (places .entry))
+        → r ≡ judges ts (now (model .entry)) j) ⌝ }
 {
     let at = j.at;
     if records::kind_at(model, at) != 5 {
@@ -104,7 +110,9 @@ fn go_on(model: &[u8], j: Judge) -> Judge
 // "References are judged last, in order"
 pub fn first_outside(model: &[u8], places: &[usize], tables: usize) -> Outside
     requires { ⌜ tables ≤ length (now places) ⌝ }
-    ensures { λ r. ⌜ ((ts : List Table) (rest : Checked) → topicNumbers ts ≡ take tables (now (places .entry)) → outsideMeant r rest ≡ judgeReferences ts (tablesOf 0 (recordsAt (now (model .entry)) 0)) rest) ⌝ }
+    ensures { λ r. ⌜
+        ((ts : List Table) (rest : Checked) → topicNumbers ts ≡ take tables (now (places .entry))
+        → outsideMeant r rest ≡ judgeReferences ts (tablesOf 0 (recordsAt (now (model .entry)) 0)) rest) ⌝ }
 {
     let mut j = Judge {
         at: 0,

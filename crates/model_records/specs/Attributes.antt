@@ -7,7 +7,8 @@ use lib.Dec.{eqb}
 use lib.IntN.{pos}
 use lib.ListN.{length, getD}
 use Rattle.meaning.specs.Bytes.{choose, byteAt, u16At}
-use Rattle.meaning.specs.Model.{AttributeType, Reference, Coordinate, Number, Text, Date, Enumeration, Line, attributeOf, dimensionOf, parametersSize}
+use Rattle.meaning.specs.Model.{AttributeType, Reference, Coordinate, Number, Text, Date, Enumeration, Line}
+use Rattle.meaning.specs.Model.{attributeOf, dimensionOf, parametersSize}
 use Rattle.meaning.specs.Check.{goodType, isDimension}
 use Rattle.model_records.specs.declared.Component.{Component}
 use Rattle.model_records.specs.Components.{componentOf, componentsOf}
@@ -18,7 +19,8 @@ use Rattle.model_records.specs.Records.{payloadAt}
 abbrev pub firstOf : List Component → Component
 firstOf cs = getD cs 0 (record { decimals = 0; least = pos 0; greatest = pos 0 })
 
--- kind is the type's number, 1 to 8; number is a reference's table, a text's longest length, an enumeration's leaves or a line's forms
+-- kind is the type's number, 1 to 8; number is a reference's table, a text's longest length, an enumeration's leaves or
+-- a line's forms
 unfoldable pub typeOf : Attribute → AttributeType
 typeOf a =
     choose (eqb (a .kind) 1) (Reference (a .number))

@@ -4,7 +4,8 @@ use mathlib.Core.Path.{_≡_}
 use lib.Dec.{eqb}
 use Rattle.meaning.specs.Bytes.{choose}
 
--- the fields and the pairs of an attribute of type number t, 1 to 8: a coordinate has both for each component, a line no field
+-- the fields and the pairs of an attribute of type number t, 1 to 8: a coordinate has both for each component, a line
+-- no field
 unfoldable pub fieldsOf : (t : ℕ) → ℕ
 fieldsOf t = choose (eqb t 2) 2 (choose (eqb t 3) 3 (choose (eqb t 8) 0 1))
 

@@ -51,7 +51,12 @@ pub record TopicHere (m : Model) (b : List ℕ) (at k t : ℕ) : Type 0 where
 pub record TableHere (m : Model) (b : List ℕ) (at k t : ℕ) : Type 0 where
   pub inside : t < length (m .tables)
   pub begun : 1 ≤ k
-  pub table : tableAt (m .tables) t ≡ record { topic = k - 1; optional = flagOf (payloadAt b at); name = drop 1 (payloadAt b at); attributes = attributesAt b (nextAt b at) }
+  pub table : tableAt (m .tables) t ≡ record {
+    topic = k - 1;
+    optional = flagOf (payloadAt b at);
+    name = drop 1 (payloadAt b at);
+    attributes = attributesAt b (nextAt b at);
+  }
   pub flag : at + 5 ≤ nextAt b at
   pub name : isName 24 (drop 1 (payloadAt b at)) ≡ true
   pub next : Standing m b (nextAt b at) k (t + 1)

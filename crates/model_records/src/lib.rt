@@ -36,8 +36,8 @@ pub struct Components {
     pub items: [Component; 3],
 }
 
-// An attribute: kind is its type's number, 1 to 8; number is a reference's table, a text's longest length, an enumeration's
-// leaves or a line's forms; a number has one component.
+// An attribute: kind is its type's number, 1 to 8; number is a reference's table, a text's longest length, an
+// enumeration's leaves or a line's forms; a number has one component.
 pub struct Attribute {
     pub optional: bool,
     pub kind: u8,

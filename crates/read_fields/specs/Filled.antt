@@ -1,5 +1,6 @@
 -- How a row is filled: what the fields that are left mean for it, and what a step leaves.
--- Short names as in the meaning: u the undefined byte, place the number of a field on its line, fs the fields from that place on, ps the pairs that are left.
+-- Short names as in the meaning: u the undefined byte, place the number of a field on its line, fs the fields from that
+-- place on, ps the pairs that are left.
 use Prim.Native.Nat.{ℕ, zero, suc, _+_, _≤_, _<_, _^_}
 use mathlib.Core.Bool.{Bool, true, false, not, _&&_, _||_}
 use mathlib.Core.Path.{_≡_}
@@ -50,8 +51,8 @@ typeAsked kind number c =
     (choose (eqb kind 7) (Enumeration number)
     (Line number [])))))
 
--- a field that is due, and the pairs behind it: an attribute's own field must be defined where the attribute is mandatory, a further component
--- must be defined where the first one is, and undefined where that one is
+-- a field that is due, and the pairs behind it: an attribute's own field must be defined where the attribute is
+-- mandatory, a further component must be defined where the first one is, and undefined where that one is
 unfoldable pub dueCells : (u : ℕ) (needed barred : Bool) (place : ℕ) → AttributeType → List Pair → List Field → Cells
 dueCells u needed barred place type ps [] = refused 11 place
 dueCells u needed barred place type ps (f ∷ fs) =
@@ -79,11 +80,18 @@ furtherAsked before c = record { needed = before; barred = not before; kind = 4;
 
 -- what an attribute's own field has to be, and a coordinate's first component
 abbrev pub ownAsked : Bool → ℕ → ℕ → declared.Component → Asked
-ownAsked optional kind number c = record { needed = not optional; barred = false; kind = kind; number = number; component = c }
+ownAsked optional kind number c = record {
+  needed = not optional;
+  barred = false;
+  kind = kind;
+  number = number;
+  component = c;
+}
 
 -- the pair of an attribute with one field of its own
 abbrev pub ownPairs : Attribute → List Pair
-ownPairs a = OfAttribute (a .optional) (typeAsked (a .kind) (a .number) (componentOf (firstOf (a .components .items)))) ∷ []
+ownPairs a = OfAttribute (a .optional) (typeAsked (a .kind) (a .number) (componentOf (firstOf (a .components .items))))
+    ∷ []
 
 -- an attribute has the components of its type
 pub record Counted (a : Attribute) : Type 0 where
@@ -103,7 +111,8 @@ pub record Ready (start : ℕ) (rest : List ℕ) (most : ℕ) (s : Filling) : Ty
   pub room : s .used + most < 2 ^ 64
 
 -- a row filled from s to t: whatever pairs follow, what it meant at s is the values stored and what it means at t
-pub record Steps (rest : List ℕ) (most : ℕ) (whole after : List Pair → Cells) (s t : Filling) (entry exit : List ℤ) : Type 0 where
+pub record Steps (rest : List ℕ) (most : ℕ) (whole after : List Pair → Cells) (s t : Filling) (entry exit : List ℤ)
+    : Type 0 where
   pub values : List ℤ
   pub meant : (ps : List Pair) → whole ps ≡ prefixed values (after ps)
   pub used : t .used ≡ s .used + length values
@@ -139,9 +148,13 @@ Puts v s entry exit (No k f) = (v ≡ wrong k) × (f ≡ s .place)
 
 -- what the rest of the row means where a field is due
 abbrev pub due : (u start : ℕ) → List ℕ → Asked → Filling → List Pair → Cells
-due u start rest asked s ps = dueCells u (asked .needed) (asked .barred) (s .place) (typeAsked (asked .kind) (asked .number) (componentOf (asked .component))) ps (left start rest s)
+due u start rest asked s ps =
+    dueCells u (asked .needed) (asked .barred) (s .place)
+    (typeAsked (asked .kind) (asked .number) (componentOf (asked .component))) ps (left start rest s)
 
-abbrev pub Fills : (u start : ℕ) (rest : List ℕ) (most : ℕ) (whole : List Pair → Cells) (s : Filling) (entry exit : List ℤ) → Filled → Type 0
+abbrev pub Fills : (u start : ℕ) (rest : List ℕ) (most : ℕ) (whole : List Pair → Cells) (s : Filling)
+    (entry exit : List ℤ) → Filled → Type 0
 Fills u start rest most whole s entry exit (On t) = Steps rest most whole (going u start rest t) s t entry exit
-Fills u start rest most whole s entry exit (Rest t count) = (t .used + (count + count) ≤ s .used + most) × Steps rest most whole (covering start rest t count) s t entry exit
+Fills u start rest most whole s entry exit (Rest t count) = (t .used + (count + count) ≤ s .used + most)
+    × Steps rest most whole (covering start rest t count) s t entry exit
 Fills u start rest most whole s entry exit (No k f) = (ps : List Pair) → whole ps ≡ refused k f

@@ -12,7 +12,8 @@ ghost use Rattle.meaning.specs.Row.{componentPairs, pairsOfType};
 ghost use Rattle.model_records.specs.Attributes.{typeOf};
 ghost use Rattle.model_records.specs.Components.{componentOf, componentsOf};
 ghost use Rattle.value_read.specs.Meant.{valueMeant, fieldOf};
-ghost use Rattle.read_fields.specs.Filled.{typeAsked, due, moved, filled, passed, furtherAsked, ownAsked, ownPairs, goingOver, Counted, Ready, Puts, Fills};
+ghost use Rattle.read_fields.specs.Filled.{typeAsked, due, moved, filled, passed, furtherAsked, ownAsked};
+ghost use Rattle.read_fields.specs.Filled.{ownPairs, goingOver, Counted, Ready, Puts, Fills};
 use crate::storing;
 use crate::taking;
 use crate::taking::Taken;
@@ -21,7 +22,8 @@ use model_records::Component;
 use model_records::Components;
 use value_read::Value;
 
-// How far a row is filled: the byte of the rest of the line, the place of the next field, the cells used, and whether the field before was defined.
+// How far a row is filled: the byte of the rest of the line, the place of the next field, the cells used, and whether
+// the field before was defined.
 pub struct Filling {
     pub at: usize,
     pub place: usize,
@@ -38,14 +40,16 @@ pub struct Asked {
     pub component: Component,
 }
 
-// The row goes on; two undefined bytes stood at the place, with so many pairs of the attribute left; or a refusal and its field.
+// The row goes on; two undefined bytes stood at the place, with so many pairs of the attribute left; or a refusal and
+// its field.
 pub enum Filled {
     On(Filling),
     Rest(Filling, usize),
     No(u8, usize),
 }
 
-// The value of a defined field, by the number of its type: coordinates come component by component, and lines have no field.
+// The value of a defined field, by the number of its type: coordinates come component by component, and lines have no
+// field.
 pub fn read_value(
     kind: u8,
     number: usize,
@@ -54,7 +58,8 @@ pub fn read_value(
     start: usize,
 ) -> Value
     requires { ⌜ start + (1 + length (now field)) < 2 ^ 63 ⌝ }
-    ensures { λ r. ⌜ valueMeant r ≡ valueOf (typeAsked kind number (componentOf component)) (fieldOf start (now (field .entry))) ⌝ }
+    ensures { λ r. ⌜ valueMeant r
+        ≡ valueOf (typeAsked kind number (componentOf component)) (fieldOf start (now (field .entry))) ⌝ }
 {
     match kind {
         1 => value_read::stretches::read_reference(field, start),
@@ -116,7 +121,9 @@ fn put_value(v: Value, cells: &mut [i64], s: Filling) -> Filled
 fn put_defined(asked: Asked, field: &[u8], start: usize, cells: &mut [i64], s: Filling) -> Filled
     requires { ⌜ start + (1 + length (now field)) < 2 ^ 63 ⌝ }
     requires { ⌜ (s .place + 1 < 2 ^ 64) × (s .used + 2 < 2 ^ 64) ⌝ }
-    ensures { λ r. ⌜ Puts (valueOf (typeAsked (asked .kind) (asked .number) (componentOf (asked .component))) (fieldOf start (now (field .entry)))) s (now (cells .entry)) (now (cells .exit)) r ⌝ }
+    ensures { λ r. ⌜
+        Puts (valueOf (typeAsked (asked .kind) (asked .number) (componentOf (asked .component)))
+        (fieldOf start (now (field .entry)))) s (now (cells .entry)) (now (cells .exit)) r ⌝ }
 {
     let component = asked.component;
     let v = read_value(asked.kind, asked.number, component, field, start);
@@ -133,7 +140,9 @@ pub fn put_field(
     s: Filling,
 ) -> Filled
     requires { ⌜ Ready start (now rest) 2 s ⌝ }
-    ensures { λ r. ⌜ Fills undefined start (now (rest .entry)) 2 (due undefined start (now (rest .entry)) asked s) s (now (cells .entry)) (now (cells .exit)) r ⌝ }
+    ensures { λ r. ⌜
+        Fills undefined start (now (rest .entry)) 2 (due undefined start (now (rest .entry)) asked s) s
+        (now (cells .entry)) (now (cells .exit)) r ⌝ }
 {
     let at = s.at;
     match taking::take_field(&rest[at..], undefined) {
@@ -200,7 +209,10 @@ fn put_further(
 ) -> Filled
     requires { ⌜ (components .count ≤ 3) × (length (components .items) ≡ 3) ⌝ }
     requires { ⌜ Ready start (now rest) 4 s ⌝ }
-    ensures { λ r. ⌜ Fills undefined start (now (rest .entry)) 4 (goingOver undefined start (now (rest .entry)) (componentPairs (drop 1 (componentsOf components))) s) s (now (cells .entry)) (now (cells .exit)) r ⌝ }
+    ensures { λ r. ⌜
+        Fills undefined start (now (rest .entry)) 4
+        (goingOver undefined start (now (rest .entry)) (componentPairs (drop 1 (componentsOf components))) s) s
+        (now (cells .entry)) (now (cells .exit)) r ⌝ }
 {
     let count = components.count;
     let items = components.items;
@@ -255,7 +267,10 @@ fn put_coordinate(
 ) -> Filled
     requires { ⌜ (1 ≤ components .count) × (components .count ≤ 3) × (length (components .items) ≡ 3) ⌝ }
     requires { ⌜ Ready start (now rest) 6 s ⌝ }
-    ensures { λ r. ⌜ Fills undefined start (now (rest .entry)) 6 (goingOver undefined start (now (rest .entry)) (pairsOfType optional (Coordinate (componentsOf components))) s) s (now (cells .entry)) (now (cells .exit)) r ⌝ }
+    ensures { λ r. ⌜
+        Fills undefined start (now (rest .entry)) 6
+        (goingOver undefined start (now (rest .entry)) (pairsOfType optional (Coordinate (componentsOf components))) s)
+        s (now (cells .entry)) (now (cells .exit)) r ⌝ }
 {
     let count = components.count;
     let items = components.items;
@@ -284,7 +299,9 @@ fn put_own(
 ) -> Filled
     requires { ⌜ length (a .components .items) ≡ 3 ⌝ }
     requires { ⌜ Ready start (now rest) 6 s ⌝ }
-    ensures { λ r. ⌜ Fills undefined start (now (rest .entry)) 2 (goingOver undefined start (now (rest .entry)) (ownPairs a) s) s (now (cells .entry)) (now (cells .exit)) r ⌝ }
+    ensures { λ r. ⌜
+        Fills undefined start (now (rest .entry)) 2 (goingOver undefined start (now (rest .entry)) (ownPairs a) s) s
+        (now (cells .entry)) (now (cells .exit)) r ⌝ }
 {
     let components = a.components;
     let items = components.items;
@@ -309,7 +326,10 @@ pub fn put_attribute(
 ) -> Filled
     requires { ⌜ Counted a ⌝ }
     requires { ⌜ Ready start (now rest) 6 s ⌝ }
-    ensures { λ r. ⌜ Fills undefined start (now (rest .entry)) 6 (goingOver undefined start (now (rest .entry)) (pairsOfType (a .optional) (typeOf a)) s) s (now (cells .entry)) (now (cells .exit)) r ⌝ }
+    ensures { λ r. ⌜
+        Fills undefined start (now (rest .entry)) 6
+        (goingOver undefined start (now (rest .entry)) (pairsOfType (a .optional) (typeOf a)) s) s (now (cells .entry))
+        (now (cells .exit)) r ⌝ }
 {
     let kind = a.kind;
     let components = a.components;

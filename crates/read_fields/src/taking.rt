@@ -2,7 +2,8 @@
 ghost use Rattle.read_fields.specs.Taken.{Takes};
 use base::fields::Next;
 
-// No field is left; or where the next one starts in the rest, and how long it is: a defined one, the undefined byte, or two of them.
+// No field is left; or where the next one starts in the rest, and how long it is: a defined one, the undefined byte, or
+// two of them.
 pub enum Taken {
     Missing,
     Defined(usize, usize),

@@ -14,7 +14,8 @@ abbrev pub foundOf : Found → model.Found
 foundOf (At o) = model.found o
 foundOf Nothing = model.missing
 
--- the first n objects can be looked for: their rows lie in the cells, their identifications differ, and the index has them
+-- the first n objects can be looked for: their rows lie in the cells, their identifications differ, and the index has
+-- them
 pub record Known (seed : ℕ) (text rows : List ℕ) (cells : List ℤ) (index : List ℕ) (n : ℕ) : Type 0 where
   pub listed : Listed text rows cells n
   pub unique : Unique (identificationOf text rows cells) n

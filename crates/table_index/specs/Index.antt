@@ -35,11 +35,15 @@ unfolding hashOf
 wordOf seed ids zero = 0
 wordOf seed ids (suc o) = suc o + 4294967296 * hashOf seed (ids o)
 
--- the first `links` words of the index are links, the others heads: a link leads to the last earlier object with the same
--- head, a head to the last object that has it
+-- the first `links` words of the index are links, the others heads: a link leads to the last earlier object with the
+-- same head, a head to the last object that has it
 pub record Chained (seed : ℕ) (ids : ℕ → List ℕ) (links : ℕ) (index : List ℕ) (n : ℕ) : Type 0 where
-  pub link : (o : ℕ) → o < n → getD index o 0 ≡ wordOf seed ids (lastOf (hasHead seed (length index - links) ids (headOf seed (length index - links) (ids o))) o)
-  pub head : (h : ℕ) → h < length index - links → getD index (links + h) 0 ≡ wordOf seed ids (lastOf (hasHead seed (length index - links) ids h) n)
+  pub link : (o : ℕ) → o < n
+      → getD index o 0
+      ≡ wordOf seed ids
+      (lastOf (hasHead seed (length index - links) ids (headOf seed (length index - links) (ids o))) o)
+  pub head : (h : ℕ) → h < length index - links
+      → getD index (links + h) 0 ≡ wordOf seed ids (lastOf (hasHead seed (length index - links) ids h) n)
 
 -- room for a link for each row, and a head
 abbrev pub usableOf : ℕ → ℕ → Bool
@@ -47,11 +51,13 @@ usableOf rows index = ltb rows index && ltb rows 4294967295
 
 -- the index has the first n objects, where it has room enough to be used
 abbrev pub Indexed : ℕ → (text rows : List ℕ) → List ℤ → (index : List ℕ) → ℕ → Type 0
-Indexed seed text rows cells index n = usableOf (length rows) (length index) ≡ true → Chained seed (identificationOf text rows cells) (length rows) index n
+Indexed seed text rows cells index n = usableOf (length rows) (length index) ≡ true
+    → Chained seed (identificationOf text rows cells) (length rows) index n
 
 -- the index with object o, whose identification has the hash h, in front of its chain
 abbrev pub chainOf : List ℕ → (p o h : ℕ) → List ℕ
 chainOf index p o h = set (set index o (getD index p 0)) p (o + 1 + 4294967296 * h)
 
 unfoldable pub insertOf : List ℕ → (rows o h : ℕ) → List ℕ
-insertOf index rows o h = choose (usableOf rows (length index)) (chainOf index (rows + h % (length index - rows)) o h) index
+insertOf index rows o h =
+    choose (usableOf rows (length index)) (chainOf index (rows + h % (length index - rows)) o h) index

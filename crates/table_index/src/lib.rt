@@ -1,5 +1,6 @@
 // Finding an identification among the objects read so far, over working room that the caller lends.
-// What is found depends on the objects alone: neither on the index's length nor on the seed. Too short an index only costs time.
+// What is found depends on the objects alone: neither on the index's length nor on the seed. Too short an index only
+// costs time.
 ghost use mathlib.Core.Path.{_≡_};
 ghost use mathlib.Core.Bool.{true, false};
 ghost use Prim.Native.Nat.{_+_, _*_, _-_, _/_, _%_, _≤_, _<_};
@@ -23,7 +24,9 @@ pub enum Found {
 fn is_named(text: &[u8], rows: &[u64], cells: &[i64], object: usize, identification: &[u8]) -> bool
     requires { ⌜ object < length (now rows) ⌝ }
     requires { ⌜ Row (now text) (now cells) (getD (now rows) object 0) ⌝ }
-    ensures { λ r. ⌜ r ≡ isNamed (identificationOf (now (text .entry)) (now (rows .entry)) (now (cells .entry))) (now (identification .entry)) object ⌝ }
+    ensures { λ r. ⌜ r
+        ≡ isNamed (identificationOf (now (text .entry)) (now (rows .entry)) (now (cells .entry)))
+        (now (identification .entry)) object ⌝ }
 {
     let row = rows[object] as usize;
     let start = table::cells::size_at(cells, row + 1);
@@ -42,8 +45,9 @@ fn mix(k: u64, h: u64, b: u8) -> u64
     x / 2147483648 + x % 2147483648
 }
 
-// The hash of an identification. With a seed that no one can guess, no file can be made to fill one chain. What is added to
-// the seed keeps a small one, as 0, from making a small factor, under which ordinary identifications would share their hashes.
+// The hash of an identification. With a seed that no one can guess, no file can be made to fill one chain. What is
+// added to the seed keeps a small one, as 0, from making a small factor, under which ordinary identifications would
+// share their hashes.
 pub fn hash(identification: &[u8], seed: u64) -> u64
     ensures { λ r. ⌜ r ≡ hashOf seed (now (identification .entry)) ⌝ }
     ensures { λ r. ⌜ r < 4294967296 ⌝ }
@@ -80,8 +84,12 @@ fn is_led(
 ) -> bool
     requires { ⌜ object < length (now rows) ⌝ }
     requires { ⌜ Row (now text) (now cells) (getD (now rows) object 0) ⌝ }
-    requires { ⌜ ((word / 4294967296 ≡ hash → ⊥) → isNamed (identificationOf (now text) (now rows) (now cells)) (now identification) object ≡ false) ⌝ }
-    ensures { λ r. ⌜ r ≡ isNamed (identificationOf (now (text .entry)) (now (rows .entry)) (now (cells .entry))) (now (identification .entry)) object ⌝ }
+    requires { ⌜
+        ((word / 4294967296 ≡ hash → ⊥)
+        → isNamed (identificationOf (now text) (now rows) (now cells)) (now identification) object ≡ false) ⌝ }
+    ensures { λ r. ⌜ r
+        ≡ isNamed (identificationOf (now (text .entry)) (now (rows .entry)) (now (cells .entry)))
+        (now (identification .entry)) object ⌝ }
 {
     if word / 4294967296 != hash {
         return false;
@@ -113,9 +121,12 @@ fn find_chained(
 ) -> usize
     requires { ⌜ Listed (now text) (now rows) (now cells) objects ⌝ }
     requires { ⌜ usableOf (length (now rows)) (length (now index)) ≡ true ⌝ }
-    requires { ⌜ Chained seed (identificationOf (now text) (now rows) (now cells)) (length (now rows)) (now index) objects ⌝ }
+    requires { ⌜
+        Chained seed (identificationOf (now text) (now rows) (now cells)) (length (now rows)) (now index) objects ⌝ }
     requires { ⌜ hash ≡ hashOf seed (now identification) ⌝ }
-    ensures { λ r. ⌜ r ≡ lastNamed (now (text .entry)) (now (rows .entry)) (now (cells .entry)) (now (identification .entry)) objects ⌝ }
+    ensures { λ r. ⌜ r
+        ≡ lastNamed (now (text .entry)) (now (rows .entry)) (now (cells .entry)) (now (identification .entry))
+        objects ⌝ }
 {
     let head = head_at(hash, rows.len(), index.len());
     let mut word = index[head];
@@ -139,7 +150,9 @@ fn find_scanned(
     identification: &[u8],
 ) -> usize
     requires { ⌜ Listed (now text) (now rows) (now cells) objects ⌝ }
-    ensures { λ r. ⌜ r ≡ lastNamed (now (text .entry)) (now (rows .entry)) (now (cells .entry)) (now (identification .entry)) objects ⌝ }
+    ensures { λ r. ⌜ r
+        ≡ lastNamed (now (text .entry)) (now (rows .entry)) (now (cells .entry)) (now (identification .entry))
+        objects ⌝ }
 {
     let mut at = objects;
     while 0 < at {
@@ -166,7 +179,9 @@ fn find_hashed(
     requires { ⌜ Listed (now text) (now rows) (now cells) objects ⌝ }
     requires { ⌜ Indexed seed (now text) (now rows) (now cells) (now index) objects ⌝ }
     requires { ⌜ hash ≡ hashOf seed (now identification) ⌝ }
-    ensures { λ r. ⌜ r ≡ lastNamed (now (text .entry)) (now (rows .entry)) (now (cells .entry)) (now (identification .entry)) objects ⌝ }
+    ensures { λ r. ⌜ r
+        ≡ lastNamed (now (text .entry)) (now (rows .entry)) (now (cells .entry)) (now (identification .entry))
+        objects ⌝ }
 {
     if is_usable(rows.len(), index.len()) {
         find_chained(
@@ -197,7 +212,9 @@ pub fn is_used(
 ) -> bool
     requires { ⌜ Known seed (now text) (now rows) (now cells) (now index) objects ⌝ }
     requires { ⌜ hash ≡ hashOf seed (now identification) ⌝ }
-    ensures { λ r. ⌜ r ≡ isUsed (now (identification .entry)) (objectsOf (now (text .entry)) (now (cells .entry)) (take objects (now (rows .entry)))) ⌝ }
+    ensures { λ r. ⌜ r
+        ≡ isUsed (now (identification .entry))
+        (objectsOf (now (text .entry)) (now (cells .entry)) (take objects (now (rows .entry)))) ⌝ }
 {
     let at = find_hashed(
         text,
@@ -245,7 +262,9 @@ pub fn find_reference(
 ) -> Found
     requires { ⌜ Known seed (now text) (now rows) (now cells) (now index) objects ⌝ }
     requires { ⌜ start + size ≤ length (now text) ⌝ }
-    ensures { λ r. ⌜ foundOf r ≡ findObject table 0 (stretch (now (text .entry)) start size) (objectsOf (now (text .entry)) (now (cells .entry)) (take objects (now (rows .entry)))) ⌝ }
+    ensures { λ r. ⌜ foundOf r
+        ≡ findObject table 0 (stretch (now (text .entry)) start size)
+        (objectsOf (now (text .entry)) (now (cells .entry)) (take objects (now (rows .entry)))) ⌝ }
 {
     let end = start + size;
     let h = hash(&text[start..end], seed);

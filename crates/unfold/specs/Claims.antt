@@ -7,4 +7,5 @@ use Rattle.unfold.specs.declared.Answer.{Answer}
 
 -- two outcomes that the contract allows for one call coincide: the answer, and the room's content
 abbrev pub OneOutcome : Type 0
-OneOutcome = (mark : ℕ) (file : List ℕ) (room : ℕ) (text other : List ℕ) (a b : Answer) → Ended mark file room text a → Ended mark file room other b → (a ≡ b) × (text ≡ other)
+OneOutcome = (mark : ℕ) (file : List ℕ) (room : ℕ) (text other : List ℕ) (a b : Answer) → Ended mark file room text a
+    → Ended mark file room other b → (a ≡ b) × (text ≡ other)

@@ -13,11 +13,14 @@ abbrev pub skip : Bool → ℕ
 skip true = 5
 skip false = 0
 
--- the first line's part of len bytes at start, continued or not; the lines from after on are unfolded as they would be alone
+-- the first line's part of len bytes at start, continued or not; the lines from after on are unfolded as they would be
+-- alone
 pub record Parted (m : ℕ) (continues continued : Bool) (f : List ℕ) (start len after : ℕ) : Type 0 where
   pub inside : start + len < after
   pub within : after ≤ length f
-  pub rest : (n : ℕ) → unfoldLines m n continues (physical f) ≡ put continued (take len (drop start f)) (unfoldLines m (next continued n) continued (physical (drop after f)))
+  pub rest : (n : ℕ)
+      → unfoldLines m n continues (physical f)
+      ≡ put continued (take len (drop start f)) (unfoldLines m (next continued n) continued (physical (drop after f)))
 
 pub record Refused (m : ℕ) (continues : Bool) (f : List ℕ) (number : ℕ) : Type 0 where
   pub least : 3 ≤ number

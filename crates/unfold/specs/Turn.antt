@@ -59,8 +59,13 @@ pub record Ready (m : ℕ) (f text : List ℕ) (s : State) : Type 0 where
   pub first : 1 ≤ s .line
   pub numbered : s .line ≤ s .at + 1
   pub shorter : s .used ≤ s .at
-  pub fits : s .used ≤ length text → flat false (unfoldFile m f) ≡ prepend (take (s .used) text) (flat (s .continues) (unfoldLines m (s .line) (s .continues) (physical (drop (s .at) f))))
-  pub full : length text < s .used → textUnfolded (length text) (unfoldFile m f) ≡ overfull (length text) (unfoldLines m (s .line) (s .continues) (physical (drop (s .at) f)))
+  pub fits : s .used ≤ length text
+      → flat false (unfoldFile m f)
+      ≡ prepend (take (s .used) text)
+      (flat (s .continues) (unfoldLines m (s .line) (s .continues) (physical (drop (s .at) f))))
+  pub full : length text < s .used
+      → textUnfolded (length text) (unfoldFile m f)
+      ≡ overfull (length text) (unfoldLines m (s .line) (s .continues) (physical (drop (s .at) f)))
 
 -- the answer, and the room's content
 pub record Ended (m : ℕ) (f : List ℕ) (room : ℕ) (exit : List ℕ) (answer : Answer) : Type 0 where

@@ -20,8 +20,8 @@ pub enum Answer {
     NoRoom,
 }
 
-// Before the physical line at `at`: its logical line, the length of the text so far (which goes on growing where the room is
-// full), and whether the line continues one.
+// Before the physical line at `at`: its logical line, the length of the text so far (which goes on growing where the
+// room is full), and whether the line continues one.
 struct State {
     at: usize,
     line: usize,
@@ -112,8 +112,10 @@ fn one_turn(file: &[u8], mark: u8, text: &mut [u8], s: State) -> Turn
 
 // Unfolds file with this mark into text: each logical line and one LF, then zeros. A refusal leaves nothing but zeros.
 pub fn unfold_with(file: &[u8], mark: u8, text: &mut [u8]) -> Answer
-    ensures answer { λ r. ⌜ answerOf r ≡ textUnfolded (length (now (text .entry))) (unfoldFile mark (now (file .entry))) .answer ⌝ }
-    ensures room { λ _. ⌜ now (text .exit) ≡ textUnfolded (length (now (text .entry))) (unfoldFile mark (now (file .entry))) .text ⌝ }
+    ensures answer { λ r. ⌜ answerOf r
+        ≡ textUnfolded (length (now (text .entry))) (unfoldFile mark (now (file .entry))) .answer ⌝ }
+    ensures room { λ _. ⌜ now (text .exit)
+        ≡ textUnfolded (length (now (text .entry))) (unfoldFile mark (now (file .entry))) .text ⌝ }
     ensures within { λ r. ⌜ Within (length (now (file .entry))) r ⌝ }
 {
     let mut s = State {

@@ -7,8 +7,8 @@ ghost use Rattle.unfold.specs.First.{leading, noLf, endLen, Shortened, F
 use base::compare;
 use base::kinds;
 
-// The first physical line: none is left; one with no LF; one with its content's length, and the next one's start, where each
-// byte of the content is permitted, and where one is not.
+// The first physical line: none is left; one with no LF; one with its content's length, and the next one's start, where
+// each byte of the content is permitted, and where one is not.
 pub(crate) enum First {
     Nothing,
     Open,

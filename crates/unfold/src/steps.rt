@@ -10,8 +10,8 @@ use crate::lines::First;
 use base::bools;
 use base::compare;
 
-// What a step finds: no line left; the number of a fault; a part of a line that is continued, or that ends one. A part is
-// len bytes from start, and the next physical line begins at after.
+// What a step finds: no line left; the number of a fault; a part of a line that is continued, or that ends one. A part
+// is len bytes from start, and the next physical line begins at after.
 pub(crate) enum Step {
     Done,
     Bad(u8),

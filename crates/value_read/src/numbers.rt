@@ -16,7 +16,8 @@ use model_records::Component;
 fn read_pointed(s: &[u8], decimals: usize) -> Found
     requires { ⌜ 0 < decimals ⌝ }
     requires { ⌜ decimals < 256 ⌝ }
-    ensures { λ r. ⌜ Reads (isNumber decimals (now (s .entry))) (digitsValue (numberDigits decimals (now (s .entry)))) r ⌝ }
+    ensures { λ r. ⌜
+        Reads (isNumber decimals (now (s .entry))) (digitsValue (numberDigits decimals (now (s .entry)))) r ⌝ }
 {
     if s.len() <= decimals + 1 {
         return Found::Others;
@@ -36,7 +37,8 @@ fn read_pointed(s: &[u8], decimals: usize) -> Found
 
 // A number without its sign: its value with all decimals.
 pub fn read_unsigned(s: &[u8], decimals: u8) -> Found
-    ensures { λ r. ⌜ Reads (isNumber decimals (now (s .entry))) (digitsValue (numberDigits decimals (now (s .entry)))) r ⌝ }
+    ensures { λ r. ⌜
+        Reads (isNumber decimals (now (s .entry))) (digitsValue (numberDigits decimals (now (s .entry)))) r ⌝ }
 {
     if decimals == 0 {
         digits::read_count(s)

@@ -2,7 +2,8 @@
 ghost use mathlib.Core.Path.{_≡_};
 ghost use Prim.Native.Nat.{ℕ, _+_, _<_, _^_};
 ghost use lib.ListN.{length};
-ghost use Rattle.meaning.specs.Value.{textOf, isIdentification, sameIdentification, referenceOf, isUndefined, isUndefinedTwice};
+ghost use Rattle.meaning.specs.Value.{textOf, isIdentification, sameIdentification, referenceOf, isUndefined};
+ghost use Rattle.meaning.specs.Value.{isUndefinedTwice};
 ghost use Rattle.meaning.specs.Value.{stretchOf};
 ghost use Rattle.value_read.specs.Meant.{valueMeant, fieldOf};
 use crate::Value;

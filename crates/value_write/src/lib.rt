@@ -58,7 +58,8 @@ fn put_pointed(n: u64, decimals: usize, out: &mut [u8])
 // Fills a part with the last digits of n, with a point where there are decimals.
 fn put_parts(n: u64, decimals: usize, out: &mut [u8])
     requires { ⌜ decimals < length (now out) ⌝ }
-    ensures { λ _. ⌜ now (out .exit) ≡ pointed decimals (lastDigits (length (now (out .entry)) - pointSize decimals) n) ⌝ }
+    ensures { λ _. ⌜ now (out .exit)
+        ≡ pointed decimals (lastDigits (length (now (out .entry)) - pointSize decimals) n) ⌝ }
 {
     if decimals == 0 {
         put_last(n, out);

@@ -1,5 +1,5 @@
-// Checks the models of standard input, lines of text of 1,048,576 bytes at most, each rule of a record by itself kept and broken, and prints what the check
-// answers. `stdout` is written from the rules and not from what this prints.
+// Checks the models of standard input, lines of text of 1,048,576 bytes at most, each rule of a record by itself kept
+// and broken, and prints what the check answers. `stdout` is written from the rules and not from what this prints.
 use cases::escapes;
 use cases::parts;
 use cases::prepared;

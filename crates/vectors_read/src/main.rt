@@ -1,7 +1,8 @@
-// Reads the files of standard input, of 1,048,576 bytes at most, and prints of each its name, the answer, and what the buffers hold: after a refusal how much is not
-// zero in text, marks, rows, cells, points and index; else how much is not zero behind rows, cells and points and in the index, and the table. `stdout` is written
-// from the rules and not from what this prints. `tests/cases/make.py` prepares the cases, each as a line of numbers, its bytes, and an LF. The numbers, in decimal
-// with one space between:
+// Reads the files of standard input, of 1,048,576 bytes at most, and prints of each its name, the answer, and what the
+// buffers hold: after a refusal how much is not zero in text, marks, rows, cells, points and index; else how much is
+// not zero behind rows, cells and points and in the index, and the table. `stdout` is written from the rules and not
+// from what this prints. `tests/cases/make.py` prepares the cases, each as a line of numbers, its bytes, and an LF. The
+// numbers, in decimal with one space between:
 //   0 to 3   where name, model and file begin in the bytes, and where the file ends
 //   4 to 9   how many bytes of text, marks, rows, cells, cells of points and words of the index are lent
 //   10       the seed

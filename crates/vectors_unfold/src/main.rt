@@ -1,5 +1,6 @@
-// Unfolds the cases of standard input, lines of text of 1,048,576 bytes at most, and prints of each its name, number, text bytes or line, the text, and how
-// many bytes of the room behind the text are not zero. `stdout` is written from the rules and not from what this prints.
+// Unfolds the cases of standard input, lines of text of 1,048,576 bytes at most, and prints of each its name, number,
+// text bytes or line, the text, and how many bytes of the room behind the text are not zero. `stdout` is written from
+// the rules and not from what this prints.
 use cases::escapes;
 use cases::numbers;
 use cases::parts;

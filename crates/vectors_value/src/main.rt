@@ -1,5 +1,5 @@
-// Runs the fields and values of standard input, lines of text of 1,048,576 bytes at most, at and beyond their bounds, and prints what each call answers.
-// `stdout` is written from the rules and not from what this prints.
+// Runs the fields and values of standard input, lines of text of 1,048,576 bytes at most, at and beyond their bounds,
+// and prints what each call answers. `stdout` is written from the rules and not from what this prints.
 use cases::numbers;
 use cases::parts;
 use cases::prepared;

@@ -1,6 +1,8 @@
-// Writes the tables of standard input, of 1,048,576 bytes at most, and prints of each its name, the answer, how many bytes of the output room are not zero and their
-// sum, how many words of the index are not zero, and where it is asked for the bytes that were written. `stdout` is written from the rules and not from what this
-// prints. `tests/cases/make.py` prepares the cases, each as a line of numbers, its bytes, and an LF. The numbers, in decimal with one space between:
+// Writes the tables of standard input, of 1,048,576 bytes at most, and prints of each its name, the answer, how many
+// bytes of the output room are not zero and their sum, how many words of the index are not zero, and where it is asked
+// for the bytes that were written. `stdout` is written from the rules and not from what this prints.
+// `tests/cases/make.py` prepares the cases, each as a line of numbers, its bytes, and an LF. The numbers, in decimal
+// with one space between:
 //   0 to 4   where name, model, text and marks begin in the bytes, and where the marks end
 //   5 to 8   where rows, cells and cells of points begin among these numbers, and where the last end
 //   9 to 12  how many objects, cells and points are used, and the width

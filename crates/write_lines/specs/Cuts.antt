@@ -10,10 +10,12 @@ use Rattle.meaning.specs.Width.{cutRest}
 abbrev pub cutBytes : (mark : ℕ) → List ℕ
 cutBytes mark = mark ∷ 0x0a ∷ cont
 
--- l, cut so many times, and what stands behind it: the last cut lies behind `last` bytes of l, each other `step` bytes before the next
+-- l, cut so many times, and what stands behind it: the last cut lies behind `last` bytes of l, each other `step` bytes
+-- before the next
 unfoldable pub withCuts : (mark step count last : ℕ) (l behind : List ℕ) → List ℕ
 withCuts mark step zero last l behind = l ++ behind
-withCuts mark step (suc count) last l behind = withCuts mark step count (last - step) (take last l) (cutBytes mark ++ (drop last l ++ behind))
+withCuts mark step (suc count) last l behind =
+    withCuts mark step count (last - step) (take last l) (cutBytes mark ++ (drop last l ++ behind))
 
 -- "the rest goes out whole if it fits the width .. and does not end in the mark": what the last part of l has room for
 unfoldable pub lastRoom : (mark room : ℕ) → List ℕ → ℕ

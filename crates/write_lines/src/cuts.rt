@@ -46,7 +46,8 @@ fn count_cuts(line: &[u8], mark: u8, width: usize) -> Cuts
 // Moves the bytes between two places to the right.
 fn shift(out: &mut [u8], from: usize, to: usize, by: usize)
     requires { ⌜ (from ≤ to) × (to + by ≤ length (now out)) ⌝ }
-    ensures { λ _. ⌜ now (out .exit) ≡ sets (now (out .entry)) (from + by) (take (to - from) (drop from (now (out .entry)))) ⌝ }
+    ensures { λ _. ⌜ now (out .exit)
+        ≡ sets (now (out .entry)) (from + by) (take (to - from) (drop from (now (out .entry)))) ⌝ }
 {
     let mut i = to;
     while from < i {
@@ -58,7 +59,8 @@ fn shift(out: &mut [u8], from: usize, to: usize, by: usize)
 // Moves the bytes between two places to the right, with a cut before them.
 fn put_cut(out: &mut [u8], from: usize, to: usize, gap: usize, mark: u8)
     requires { ⌜ (from ≤ to) × (to + (gap + 7) ≤ length (now out)) ⌝ }
-    ensures { λ _. ⌜ now (out .exit) ≡ sets (now (out .entry)) (from + gap) (cutBytes mark ++ take (to - from) (drop from (now (out .entry)))) ⌝ }
+    ensures { λ _. ⌜ now (out .exit)
+        ≡ sets (now (out .entry)) (from + gap) (cutBytes mark ++ take (to - from) (drop from (now (out .entry)))) ⌝ }
 {
     shift(out, from, to, gap + 7);
     let at = from + gap;
@@ -75,7 +77,9 @@ fn put_cut(out: &mut [u8], from: usize, to: usize, gap: usize, mark: u8)
 fn put_cuts(out: &mut [u8], start: usize, end: usize, mark: u8, width: usize, cuts: Cuts)
     requires { ⌜ (start ≤ end) × (end + 7 * cuts .count ≤ length (now out)) × (16 ≤ width) × (width ≤ 65535) ⌝ }
     requires { ⌜ (cuts .last ≡ 5 + cuts .count * (width - 6)) × (start + cuts .last < end + width) ⌝ }
-    ensures { λ _. ⌜ now (out .exit) ≡ take start (now (out .entry)) ++ withCuts mark (width - 6) (cuts .count) (cuts .last) (take (end - start) (drop start (now (out .entry)))) (drop (end + 7 * cuts .count) (now (out .entry))) ⌝ }
+    ensures { λ _. ⌜ now (out .exit) ≡ take start (now (out .entry))
+        ++ withCuts mark (width - 6) (cuts .count) (cuts .last) (take (end - start) (drop start (now (out .entry))))
+        (drop (end + 7 * cuts .count) (now (out .entry))) ⌝ }
 {
     let mut left = cuts.count;
     let mut last = cuts.last;
@@ -92,7 +96,9 @@ fn put_cuts(out: &mut [u8], start: usize, end: usize, mark: u8, width: usize, cu
 // Ends a line that does not go out whole.
 fn cut_line(out: &mut [u8], start: usize, n: usize, mark: u8, width: usize) -> Put
     requires { ⌜ (start ≤ n) × (n ≤ length (now out)) × (16 ≤ width) × (width ≤ 65535) ⌝ }
-    ensures { λ r. ⌜ Puts (cutRest mark width (width - 1) (take (n - start) (drop start (now (out .entry))))) start (now (out .entry)) (now (out .exit)) r ⌝ }
+    ensures { λ r. ⌜
+        Puts (cutRest mark width (width - 1) (take (n - start) (drop start (now (out .entry))))) start
+        (now (out .entry)) (now (out .exit)) r ⌝ }
 {
     let cuts = count_cuts(&out[start..n], mark, width);
     let end = n + 7 * cuts.count;
@@ -107,7 +113,9 @@ fn cut_line(out: &mut [u8], start: usize, n: usize, mark: u8, width: usize) -> P
 // Ends the line that stands in out from start to n: whole, or cut to the width.
 pub fn end_line(out: &mut [u8], start: usize, n: usize, mark: u8, width: usize) -> Put
     requires { ⌜ (start ≤ n) × (n ≤ length (now out)) × (16 ≤ width) × (width ≤ 65535) ⌝ }
-    ensures { λ r. ⌜ Puts (cutLine mark width (take (n - start) (drop start (now (out .entry))))) start (now (out .entry)) (now (out .exit)) r ⌝ }
+    ensures { λ r. ⌜
+        Puts (cutLine mark width (take (n - start) (drop start (now (out .entry))))) start (now (out .entry))
+        (now (out .exit)) r ⌝ }
 {
     if n - start <= last_room(&out[start..n], mark, width) {
         put_byte(out, n, b'\n')
