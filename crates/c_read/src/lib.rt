@@ -1,4 +1,4 @@
-// The functions exported to C but writing (`host_write`), each on slices, each answering one u64: the answer's first
+// The functions exported to C but writing (`c_write`), each on slices, each answering one u64: the answer's first
 // number plus 256 times its second.
 ghost use mathlib.Core.Path.{_≡_};
 ghost use Prim.Native.Nat.{_≤_};
@@ -49,10 +49,12 @@ pub extern "C" fn vendorfinch_check_model(model: &[u8]) -> u64
 // 0 and the number of text bytes, or reading's 1, 2, 3 to 6; the room holds the text and zeros, or nothing but zeros.
 #[no_mangle]
 pub extern "C" fn vendorfinch_unfold(model: &[u8], file: &[u8], text: &mut [u8]) -> u64
-    ensures code { λ r. ⌜ r
-        ≡ codeForC (unfoldText (now (model .entry)) (now (file .entry)) (length (now (text .entry))) .answer) ⌝ }
-    ensures room { λ _. ⌜ now (text .exit)
-        ≡ unfoldText (now (model .entry)) (now (file .entry)) (length (now (text .entry))) .text ⌝ }
+    ensures code { λ r. ⌜
+        (let result = unfoldText (now (model .entry)) (now (file .entry)) (length (now (text .entry))) in
+        r ≡ codeForC (result .answer)) ⌝ }
+    ensures room { λ _. ⌜
+        (let result = unfoldText (now (model .entry)) (now (file .entry)) (length (now (text .entry))) in
+        now (text .exit) ≡ result .text) ⌝ }
 {
     if 16777216 < file.len() {
         base::rooms::clear(text);
@@ -88,36 +90,29 @@ pub extern "C" fn vendorfinch_read(
     seed: u64,
     answer: &mut [u64],
 ) -> u64
-    ensures code { λ r. ⌜ r
-        ≡ codeForC (table.read (now (model .entry)) (now (file .entry))
-        (roomsOf (now (text .entry)) (now (marks .entry)) (now (rows .entry)) (now (cells .entry))
-        (now (points .entry))) .answer) ⌝ }
-    ensures text { λ _. ⌜ now (text .exit)
-        ≡ table.read (now (model .entry)) (now (file .entry))
-        (roomsOf (now (text .entry)) (now (marks .entry)) (now (rows .entry)) (now (cells .entry))
-        (now (points .entry))) .text ⌝ }
-    ensures marks { λ _. ⌜ now (marks .exit)
-        ≡ table.read (now (model .entry)) (now (file .entry))
-        (roomsOf (now (text .entry)) (now (marks .entry)) (now (rows .entry)) (now (cells .entry))
-        (now (points .entry))) .marks ⌝ }
-    ensures rows { λ _. ⌜ now (rows .exit)
-        ≡ table.read (now (model .entry)) (now (file .entry))
-        (roomsOf (now (text .entry)) (now (marks .entry)) (now (rows .entry)) (now (cells .entry))
-        (now (points .entry))) .rows ⌝ }
-    ensures cells { λ _. ⌜ now (cells .exit)
-        ≡ table.read (now (model .entry)) (now (file .entry))
-        (roomsOf (now (text .entry)) (now (marks .entry)) (now (rows .entry)) (now (cells .entry))
-        (now (points .entry))) .cells ⌝ }
-    ensures points { λ _. ⌜ now (points .exit)
-        ≡ table.read (now (model .entry)) (now (file .entry))
-        (roomsOf (now (text .entry)) (now (marks .entry)) (now (rows .entry)) (now (cells .entry))
-        (now (points .entry))) .points ⌝ }
+    ensures code { λ r. ⌜ (let rooms = roomsOf (now (text .entry)) (now (marks .entry)) (now (rows .entry))
+        (now (cells .entry)) (now (points .entry)) in
+        let result = table.read (now (model .entry)) (now (file .entry)) rooms in r ≡ codeForC (result .answer)) ⌝ }
+    ensures text { λ _. ⌜ (let rooms = roomsOf (now (text .entry)) (now (marks .entry)) (now (rows .entry))
+        (now (cells .entry)) (now (points .entry)) in
+        let result = table.read (now (model .entry)) (now (file .entry)) rooms in now (text .exit) ≡ result .text) ⌝ }
+    ensures marks { λ _. ⌜ (let rooms = roomsOf (now (text .entry)) (now (marks .entry)) (now (rows .entry))
+        (now (cells .entry)) (now (points .entry)) in
+        let result = table.read (now (model .entry)) (now (file .entry)) rooms in now (marks .exit) ≡ result .marks) ⌝ }
+    ensures rows { λ _. ⌜ (let rooms = roomsOf (now (text .entry)) (now (marks .entry)) (now (rows .entry))
+        (now (cells .entry)) (now (points .entry)) in
+        let result = table.read (now (model .entry)) (now (file .entry)) rooms in now (rows .exit) ≡ result .rows) ⌝ }
+    ensures cells { λ _. ⌜ (let rooms = roomsOf (now (text .entry)) (now (marks .entry)) (now (rows .entry))
+        (now (cells .entry)) (now (points .entry)) in
+        let result = table.read (now (model .entry)) (now (file .entry)) rooms in now (cells .exit) ≡ result .cells) ⌝ }
+    ensures points { λ _. ⌜ (let rooms = roomsOf (now (text .entry)) (now (marks .entry)) (now (rows .entry))
+        (now (cells .entry)) (now (points .entry)) in
+        let result = table.read (now (model .entry)) (now (file .entry)) rooms in now (points .exit) ≡ result .points) ⌝ }
     ensures index { λ _. ⌜ now (index .exit) ≡ replicate (length (now (index .entry))) 0 ⌝ }
-    ensures answer { λ _. ⌜ now (answer .exit)
-        ≡ numbersIn (length (now (answer .entry)))
-        (table.read (now (model .entry)) (now (file .entry))
-        (roomsOf (now (text .entry)) (now (marks .entry)) (now (rows .entry)) (now (cells .entry))
-        (now (points .entry))) .answer) ⌝ }
+    ensures answer { λ _. ⌜ (let rooms = roomsOf (now (text .entry)) (now (marks .entry)) (now (rows .entry))
+        (now (cells .entry)) (now (points .entry)) in
+        let result = table.read (now (model .entry)) (now (file .entry)) rooms in
+        now (answer .exit) ≡ numbersIn (length (now (answer .entry))) (result .answer)) ⌝ }
 {
     let read = read::read(model, file, text, marks, rows, cells, points, index, seed);
     numbers::store(read, answer);

@@ -27,20 +27,19 @@ pub extern "C" fn vendorfinch_write(
     seed: u64,
     answer: &mut [u64],
 ) -> u64
-    ensures code { λ r. ⌜ r
-        ≡ codeForC (writes.write (now (model .entry))
-        (lentOf (now (text .entry)) (now (marks .entry)) (now (rows .entry)) (now (cells .entry)) (now (points .entry))
-        objects «cells_used» «points_used») width (length (now (out .entry))) .answer) ⌝ }
-    ensures output { λ _. ⌜ now (out .exit)
-        ≡ writes.write (now (model .entry))
-        (lentOf (now (text .entry)) (now (marks .entry)) (now (rows .entry)) (now (cells .entry)) (now (points .entry))
-        objects «cells_used» «points_used») width (length (now (out .entry))) .output ⌝ }
+    ensures code { λ r. ⌜ (let table = lentOf (now (text .entry)) (now (marks .entry)) (now (rows .entry))
+        (now (cells .entry)) (now (points .entry)) objects «cells_used» «points_used» in
+        let result = writes.write (now (model .entry)) table width (length (now (out .entry))) in
+        r ≡ codeForC (result .answer)) ⌝ }
+    ensures output { λ _. ⌜ (let table = lentOf (now (text .entry)) (now (marks .entry)) (now (rows .entry))
+        (now (cells .entry)) (now (points .entry)) objects «cells_used» «points_used» in
+        let result = writes.write (now (model .entry)) table width (length (now (out .entry))) in
+        now (out .exit) ≡ result .output) ⌝ }
     ensures index { λ _. ⌜ now (index .exit) ≡ replicate (length (now (index .entry))) 0 ⌝ }
-    ensures answer { λ _. ⌜ now (answer .exit)
-        ≡ numbersIn (length (now (answer .entry)))
-        (writes.write (now (model .entry))
-        (lentOf (now (text .entry)) (now (marks .entry)) (now (rows .entry)) (now (cells .entry)) (now (points .entry))
-        objects «cells_used» «points_used») width (length (now (out .entry))) .answer) ⌝ }
+    ensures answer { λ _. ⌜ (let table = lentOf (now (text .entry)) (now (marks .entry)) (now (rows .entry))
+        (now (cells .entry)) (now (points .entry)) objects «cells_used» «points_used» in
+        let result = writes.write (now (model .entry)) table width (length (now (out .entry))) in
+        now (answer .exit) ≡ numbersIn (length (now (answer .entry))) (result .answer)) ⌝ }
 {
     let written = write::write(
         model,

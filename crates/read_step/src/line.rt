@@ -8,25 +8,38 @@ ghost use Rattle.meaning.specs.Field.{fieldsOf};
 ghost use Rattle.meaning.specs.Reading.{Content, Rooms, stretch};
 ghost use Rattle.meaning.specs.Lines.{lineDue, objectLine};
 ghost use Rattle.model_records.specs.Records.{modelAt};
-ghost use Rattle.read_state.specs.Meaning.{dueOf, movedOf, markedOf, contentOf, stepOf};
-ghost use Rattle.read_state.specs.declared.Due.the-variants.{ObjectOf};
-ghost use Rattle.read_state.specs.Holds.{DueHolds, TableHolds, Holds};
+ghost use Rattle.model_records.specs.Places.{Placed};
+ghost use Rattle.read_state.specs.Meaning.{frameDueOf, dueOf, movedOf, markedOf, contentOf, stepOf};
+ghost use Rattle.read_state.specs.Holds.{FrameHolds, Holds};
 ghost use Rattle.table_index.specs.Holds.{Held};
 ghost use Rattle.read_frame.specs.Moves.{MovedHolds};
 ghost use Rattle.read_polylines.specs.Ways.{StepHolds};
 ghost use Rattle.read_objects.specs.Rows.{Adds};
-ghost use Rattle.read_step.specs.Steps.{Framed, SmallMoved, Steps, lineMeant};
+ghost use Rattle.read_step.specs.Steps.{Prepared, Steps, lineMeant};
 use crate::marks;
+use model_records::places;
+use model_records::places::Shape;
+use read_frame::beginning;
+use read_frame::codes;
+use read_frame::lines;
+use read_frame::tables;
+use read_frame::topics;
+use read_objects::storing::OpenTable;
 use read_state::Due;
+use read_state::FrameDue;
 use read_state::Moved;
 use read_state::State;
 use read_state::Step;
-use read_state::TableHere;
 
 // A line that adds nothing to the table.
 fn plain_step(s: State, moved: Moved) -> Step
-    ensures { λ r. ⌜ ((b : List ℕ) (k : ℕ) (marks rows : List ℕ) (cells points : List ℤ) → stepOf b k r marks rows cells points ≡ movedOf b moved (contentOf k s marks rows cells points)) ⌝ }
-    ensures { λ r. ⌜ ((b text : List ℕ) (seed : ℕ) (marks rows : List ℕ) (cells points : List ℤ) (index : List ℕ) → MovedHolds (modelAt b) b moved → Holds (modelAt b) b text seed s marks rows cells points index → StepHolds (modelAt b) b text seed r marks rows cells points index) ⌝ }
+    ensures { λ r. ⌜
+        ((b : List ℕ) (k : ℕ) (marks rows : List ℕ) (cells points : List ℤ)
+        → stepOf b k r marks rows cells points ≡ movedOf b moved (contentOf k s marks rows cells points)) ⌝ }
+    ensures { λ r. ⌜
+        ((b text : List ℕ) (seed : ℕ) (marks rows : List ℕ) (cells points : List ℤ) (index : List ℕ)
+        → MovedHolds (modelAt b) b moved → Holds (modelAt b) b text seed s marks rows cells points index
+        → StepHolds (modelAt b) b text seed r marks rows cells points index) ⌝ }
 {
     match moved {
         Moved::To(due) => Step::Go(State {
@@ -41,9 +54,15 @@ fn plain_step(s: State, moved: Moved) -> Step
 
 // A line that may begin a topic or a table; there is a mark for each, and no more.
 fn marked_step(topics: usize, marks: &mut [u8], s: State, moved: Moved) -> Step
-    requires { ⌜ (topics < 2 ^ 32) × SmallMoved moved ⌝ }
-    ensures { λ r. ⌜ ((b rows : List ℕ) (cells points : List ℤ) → stepOf b (length (now (marks .entry))) r (now (marks .exit)) rows cells points ≡ markedOf b topics moved (contentOf (length (now (marks .entry))) s (now (marks .entry)) rows cells points)) ⌝ }
-    ensures { λ r. ⌜ ((b text : List ℕ) (seed : ℕ) (rows : List ℕ) (cells points : List ℤ) (index : List ℕ) → MovedHolds (modelAt b) b moved → Holds (modelAt b) b text seed s (now (marks .entry)) rows cells points index → StepHolds (modelAt b) b text seed r (now (marks .exit)) rows cells points index) ⌝ }
+    ensures { λ r. ⌜
+        ((b rows : List ℕ) (cells points : List ℤ)
+        → stepOf b (length (now (marks .entry))) r (now (marks .exit)) rows cells points
+        ≡ markedOf b topics moved
+        (contentOf (length (now (marks .entry))) s (now (marks .entry)) rows cells points)) ⌝ }
+    ensures { λ r. ⌜
+        ((b text : List ℕ) (seed : ℕ) (rows : List ℕ) (cells points : List ℤ) (index : List ℕ)
+        → MovedHolds (modelAt b) b moved → Holds (modelAt b) b text seed s (now (marks .entry)) rows cells points index
+        → StepHolds (modelAt b) b text seed r (now (marks .exit)) rows cells points index) ⌝ }
 {
     match moved {
         Moved::To(due) => {
@@ -59,88 +78,93 @@ fn marked_step(topics: usize, marks: &mut [u8], s: State, moved: Moved) -> Step
     }
 }
 
-// A line outside objects; of objects and their lines nothing is said.
+// A line outside objects.
 fn frame_line(
     model: &[u8],
+    places: &[usize],
+    shape: Shape,
     l: &[u8],
-    undefined: u8,
-    topics: usize,
     marks: &mut [u8],
+    due: FrameDue,
     s: State,
 ) -> Step
-    requires { ⌜ Rattle.read_step.specs.Steps.Model (now model) undefined topics (now marks) ⌝ }
-    requires { ⌜ (Framed (s .due) → DueHolds (modelAt (now model)) (now model) [] 0 0 0 (s .due)) ⌝ }
-    ensures { λ r. ⌜ (Framed (s .due) → (rooms : Rooms) (text : List ℕ) (start : ℕ) (rows : List ℕ) (cells points : List ℤ) → stepOf (now (model .entry)) (length (now (marks .entry))) r (now (marks .exit)) rows cells points ≡ lineDue (modelAt (now (model .entry))) rooms text (dueOf (now (model .entry)) (s .due)) (now (l .entry)) (fieldsOf start (now (l .entry))) (contentOf (length (now (marks .entry))) s (now (marks .entry)) rows cells points)) ⌝ }
-    ensures { λ r. ⌜ (Framed (s .due) → (text : List ℕ) (seed : ℕ) (rows : List ℕ) (cells points : List ℤ) (index : List ℕ) → Holds (modelAt (now (model .entry))) (now (model .entry)) text seed s (now (marks .entry)) rows cells points index → StepHolds (modelAt (now (model .entry))) (now (model .entry)) text seed r (now (marks .exit)) rows cells points index) ⌝ }
+    requires { ⌜ Prepared (now model) shape (now places) (now marks) ⌝ }
+    requires { ⌜ FrameHolds (modelAt (now model)) due ⌝ }
+    ensures step { λ r. ⌜ ((rooms : Rooms) (text : List ℕ) (start : ℕ) (rows : List ℕ) (cells points : List ℤ)
+        → let n = length (now (marks .entry)) in
+        stepOf (now (model .entry)) n r (now (marks .exit)) rows cells points
+        ≡ lineDue (modelAt (now (model .entry))) rooms text (frameDueOf due) (now (l .entry))
+        (fieldsOf start (now (l .entry))) (contentOf n s (now (marks .entry)) rows cells points)) ⌝ }
+    ensures holds { λ r. ⌜ ((text : List ℕ) (seed : ℕ) (rows : List ℕ) (cells points : List ℤ) (index : List ℕ)
+        → let b = now (model .entry) in Holds (modelAt b) b text seed s (now (marks .entry)) rows cells points index
+        → StepHolds (modelAt b) b text seed r (now (marks .exit)) rows cells points index) ⌝ }
 {
-    let due = s.due;
     match due {
-        Due::Opening => plain_step(s, read_frame::lines::opening_line(l)),
-        Due::Description => plain_step(s, read_frame::lines::description_line(l)),
-        Due::Transfer => plain_step(s, read_frame::beginning::transfer_line(model, l)),
-        Due::ModelName => plain_step(s, read_frame::beginning::model_line(model, l)),
-        Due::TopicFrom(stand) => {
-            marked_step(
-                topics,
-                marks,
-                s,
-                read_frame::topics::topic_line(model, l, stand),
-            )
-        }
-        Due::TableFrom(from, stand) => {
-            marked_step(
-                topics,
-                marks,
-                s,
-                read_frame::tables::table_line(model, l, from, stand),
-            )
-        }
-        Due::ObjectOf(_) => Step::No(7, 1),
-        Due::LineOf(_) => Step::No(7, 1),
-        Due::Closing => plain_step(s, read_frame::lines::closing_line(l)),
-        Due::Nothing => Step::No(7, 1),
+        FrameDue::Opening => plain_step(s, lines::opening_line(l)),
+        FrameDue::Description => plain_step(s, lines::description_line(l)),
+        FrameDue::Transfer => plain_step(s, beginning::transfer_line(model, l)),
+        FrameDue::ModelName => plain_step(s, beginning::model_line(model, l)),
+        FrameDue::Topic(from) => marked_step(
+            shape.topics,
+            marks,
+            s,
+            topics::topic_line(model, places, shape, l, from),
+        ),
+        FrameDue::Table(topic, from) => marked_step(
+            shape.topics,
+            marks,
+            s,
+            tables::table_line(model, places, shape, l, topic, from),
+        ),
+        FrameDue::Closing => plain_step(s, lines::closing_line(l)),
+        FrameDue::Nothing => Step::No(7, 1),
     }
 }
 
 // OBJE of this table, or what may follow its objects.
 fn object_line(
     model: &[u8],
+    places: &[usize],
+    shape: Shape,
     text: &[u8],
     at: usize,
     end: usize,
-    undefined: u8,
     rows: &mut [u64],
     cells: &mut [i64],
     index: &mut [u64],
     seed: u64,
-    here: TableHere,
+    table: usize,
     s: State,
 ) -> Step
-    requires { ⌜ TableHolds (modelAt (now model)) (now model) here ⌝ }
+    requires { ⌜ Placed (now model) shape (now places) ⌝ }
+    requires { ⌜ table < shape .tables ⌝ }
     requires { ⌜ (at ≤ end) × (end ≤ length (now text)) × (length (now text) < 2 ^ 62) ⌝ }
-    requires { ⌜ (length (now model) ≤ 65536) × (undefined ≡ modelAt (now model) .undefined) ⌝ }
     requires { ⌜ Held seed (now text) (s .rows) (s .cells) (now rows) (now cells) (now index) ⌝ }
-    ensures { λ r. ⌜ Adds (now (model .entry)) (now (text .entry)) seed s (λ rooms c. objectLine (modelAt (now (model .entry))) rooms (now (text .entry)) (here .table) (fieldsOf at (stretch (now (text .entry)) at (end - at))) c) (now (rows .entry)) (now (rows .exit)) (now (cells .entry)) (now (cells .exit)) (now (index .entry)) (now (index .exit)) r ⌝ }
+    ensures { λ r. ⌜ (let t = now (text .entry) in Adds (now (model .entry)) t seed s
+        (λ rooms c. objectLine (modelAt (now (model .entry))) rooms t table (fieldsOf at (stretch t at (end - at))) c)
+        (now (rows .entry)) (now (rows .exit)) (now (cells .entry)) (now (cells .exit))
+        (now (index .entry)) (now (index .exit)) r) ⌝ }
 {
-    let head = read_frame::codes::head_of(&text[at..end]);
-    if head.code != 8 {
+    let head = codes::head_of(&text[at..end]);
+    if head.code != codes::OBJE {
         return plain_step(
             s,
-            read_frame::tables::behind_objects(model, &text[at..end], here),
+            tables::behind_objects(model, places, shape, &text[at..end], table),
         );
     }
+    let first = places::attributes_at(model, places, shape, table);
     read_objects::reading::object_fields(
         model,
         text,
         at,
         end,
         head.behind,
-        undefined,
+        shape.undefined,
         rows,
         cells,
         index,
         seed,
-        here,
+        OpenTable { table, at: first },
         s,
     )
 }
@@ -148,11 +172,11 @@ fn object_line(
 // The line that stands in the text from `at` to `end`.
 pub fn step_line(
     model: &[u8],
+    places: &[usize],
+    shape: Shape,
     text: &[u8],
     at: usize,
     end: usize,
-    undefined: u8,
-    topics: usize,
     marks: &mut [u8],
     rows: &mut [u64],
     cells: &mut [i64],
@@ -161,36 +185,42 @@ pub fn step_line(
     seed: u64,
     s: State,
 ) -> Step
-    requires { ⌜ Rattle.read_step.specs.Steps.Model (now model) undefined topics (now marks) ⌝ }
+    requires { ⌜ Prepared (now model) shape (now places) (now marks) ⌝ }
     requires { ⌜ (at ≤ end) × (end ≤ length (now text)) × (length (now text) < 2 ^ 62) ⌝ }
-    requires { ⌜ Holds (modelAt (now model)) (now model) (now text) seed s (now marks) (now rows) (now cells) (now points) (now index) ⌝ }
-    ensures { λ r. ⌜ Steps (now (model .entry)) (now (text .entry)) seed s (lineMeant (now (model .entry)) (now (text .entry)) at (end - at) (s .due)) (now (marks .entry)) (now (rows .entry)) (now (cells .entry)) (now (points .entry)) (now (index .entry)) (now (marks .exit)) (now (rows .exit)) (now (cells .exit)) (now (points .exit)) (now (index .exit)) r ⌝ }
+    requires { ⌜ (let b = now model in
+        Holds (modelAt b) b (now text) seed s (now marks) (now rows) (now cells) (now points) (now index)) ⌝ }
+    ensures { λ r. ⌜ (let b = now (model .entry) in let t = now (text .entry) in
+        Steps b t seed s (lineMeant b t at (end - at) (s .due))
+        (now (marks .entry)) (now (rows .entry)) (now (cells .entry)) (now (points .entry)) (now (index .entry))
+        (now (marks .exit)) (now (rows .exit)) (now (cells .exit)) (now (points .exit)) (now (index .exit)) r) ⌝ }
 {
     let due = s.due;
     match due {
-        Due::ObjectOf(here) => object_line(
+        Due::Object(table) => object_line(
             model,
+            places,
+            shape,
             text,
             at,
             end,
-            undefined,
             rows,
             cells,
             index,
             seed,
-            here,
+            table,
             s,
         ),
-        Due::LineOf(u) => {
-            read_polylines::attribute_line(model, &text[at..end], undefined, cells, points, u, s)
+        Due::Line(u) => read_polylines::attribute_line(
+            model,
+            &text[at..end],
+            shape.undefined,
+            cells,
+            points,
+            u,
+            s,
+        ),
+        Due::Frame(frame) => {
+            frame_line(model, places, shape, &text[at..end], marks, frame, s)
         }
-        Due::Opening => frame_line(model, &text[at..end], undefined, topics, marks, s),
-        Due::Description => frame_line(model, &text[at..end], undefined, topics, marks, s),
-        Due::Transfer => frame_line(model, &text[at..end], undefined, topics, marks, s),
-        Due::ModelName => frame_line(model, &text[at..end], undefined, topics, marks, s),
-        Due::TopicFrom(_) => frame_line(model, &text[at..end], undefined, topics, marks, s),
-        Due::TableFrom(_, _) => frame_line(model, &text[at..end], undefined, topics, marks, s),
-        Due::Closing => frame_line(model, &text[at..end], undefined, topics, marks, s),
-        Due::Nothing => frame_line(model, &text[at..end], undefined, topics, marks, s),
     }
 }

@@ -1,45 +1,51 @@
 // The mark of a topic or table that a line begins.
 ghost use mathlib.Core.Path.{_≡_};
-ghost use Prim.Native.Nat.{_+_, _<_, _^_};
+ghost use Prim.Native.Nat.{_+_};
 ghost use lib.ListN.{set};
-ghost use Rattle.read_step.specs.Steps.{marksBy};
+ghost use Rattle.read_step.specs.Steps.{topicMarksBy, marksBy};
 use read_state::Due;
+use read_state::FrameDue;
 
-// "1 where delivered"; there is no mark behind the end.
-fn put_mark(marks: &mut [u8], at: usize)
-    ensures { λ _. ⌜ now (marks .exit) ≡ set (now (marks .entry)) at 1 ⌝ }
+// "1 where delivered", so many behind the first ones; there is no mark behind the end.
+fn put_mark(marks: &mut [u8], first: usize, n: usize)
+    ensures { λ _. ⌜ now (marks .exit) ≡ set (now (marks .entry)) (first + n) 1 ⌝ }
 {
-    if at < marks.len() {
-        marks[at] = 1;
+    if first < marks.len() {
+        if n < marks.len() - first {
+            marks[first + n] = 1;
+        }
+    }
+}
+
+// The mark of the topic that a line outside objects began, where it began one.
+fn mark_topic(marks: &mut [u8], due: FrameDue)
+    ensures { λ _. ⌜ now (marks .exit) ≡ topicMarksBy due (now (marks .entry)) ⌝ }
+{
+    match due {
+        FrameDue::Opening => {}
+        FrameDue::Description => {}
+        FrameDue::Transfer => {}
+        FrameDue::ModelName => {}
+        FrameDue::Topic(_) => {}
+        FrameDue::Table(topic, _) => {
+            put_mark(marks, 0, topic);
+        }
+        FrameDue::Closing => {}
+        FrameDue::Nothing => {}
     }
 }
 
 // "Marks: one byte per topic, then per table": the line that led here began a topic, a table, or none.
 pub fn mark_due(marks: &mut [u8], topics: usize, due: Due)
-    requires { ⌜ topics < 2 ^ 32 ⌝ }
-    requires { ⌜ Rattle.read_step.specs.Steps.Small due ⌝ }
     ensures { λ _. ⌜ now (marks .exit) ≡ marksBy topics due (now (marks .entry)) ⌝ }
 {
     match due {
-        Due::Opening => {}
-        Due::Description => {}
-        Due::Transfer => {}
-        Due::ModelName => {}
-        Due::TopicFrom(_) => {}
-        Due::TableFrom(_, stand) => {
-            let p = stand.topics;
-            if 0 < p {
-                put_mark(marks, p - 1);
-            } else {
-                put_mark(marks, 0);
-            }
+        Due::Frame(frame) => {
+            mark_topic(marks, frame);
         }
-        Due::ObjectOf(here) => {
-            let t = here.table;
-            put_mark(marks, topics + t);
+        Due::Object(table) => {
+            put_mark(marks, topics, table);
         }
-        Due::LineOf(_) => {}
-        Due::Closing => {}
-        Due::Nothing => {}
+        Due::Line(_) => {}
     }
 }

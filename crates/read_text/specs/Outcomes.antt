@@ -12,7 +12,8 @@ use Rattle.meaning.specs.Lines as lines
 use Rattle.meaning.specs.Table.{Result, refusedWith, acceptedWith}
 use Rattle.model_records.specs.Records.{modelAt}
 use Rattle.read_state.specs.Meaning.{dueOf, contentOf}
-use Rattle.read_state.specs.declared.Due.the-variants.{Nothing}
+use Rattle.read_state.specs.declared.Due.the-variants.{Frame}
+use Rattle.read_state.specs.declared.FrameDue.the-variants as frame
 use Rattle.read_state.specs.declared.State.{State}
 use Rattle.read_state.specs.Holds.{Holds}
 use Rattle.read_text.specs.declared.loops.Ran.{Ran}
@@ -35,7 +36,7 @@ RanTo b text seed marks rows cells points index run (Stopped number line field) 
 
 -- behind the last line: the state s, where no line is due
 abbrev pub EndsAs : State → (line : ℕ) → Ran → Type 0
-EndsAs s line (Read t) = (t ≡ s) × (s .due ≡ Nothing)
+EndsAs s line (Read t) = (t ≡ s) × (s .due ≡ Frame frame.Nothing)
 EndsAs s line (Stopped number at field) = (number ≡ 7) × (at ≡ line) × (field ≡ 1) × ((b : List ℕ) → isComplete (dueOf b (s .due)) ≡ false)
 
 -- ## The answer

@@ -2,14 +2,17 @@
 ghost use mathlib.Core.Path.{_≡_};
 ghost use Prim.Native.Nat.{_<_, _^_};
 ghost use lib.ListN.{length, replicate};
-ghost use Rattle.meaning.specs.Reading.{startOf, Rooms};
+ghost use Rattle.meaning.specs.Reading.{isComplete, startOf, Rooms};
 ghost use Rattle.meaning.specs.Lines.{readLines};
 ghost use Rattle.model_records.specs.Records.{modelAt};
 ghost use Rattle.read_text.specs.Text.{linesOf};
-ghost use Rattle.read_step.specs.Steps as line;
+ghost use Rattle.read_state.specs.Meaning.{frameDueOf};
+ghost use Rattle.read_step.specs.Steps.{Prepared};
 ghost use Rattle.read_text.specs.Outcomes.{EndsAs, RanTo};
 use crate::ends;
+use model_records::places::Shape;
 use read_state::Due;
+use read_state::FrameDue;
 use read_state::State;
 use read_state::Step;
 
@@ -19,31 +22,45 @@ pub enum Ran {
     Stopped(u8, usize, usize),
 }
 
+// Whether it is behind ENDE.
+fn is_last(due: FrameDue) -> bool
+    ensures { λ r. ⌜ r ≡ isComplete (frameDueOf due) ⌝ }
+{
+    match due {
+        FrameDue::Opening => false,
+        FrameDue::Description => false,
+        FrameDue::Transfer => false,
+        FrameDue::ModelName => false,
+        FrameDue::Topic(_) => false,
+        FrameDue::Table(_, _) => false,
+        FrameDue::Closing => false,
+        FrameDue::Nothing => true,
+    }
+}
+
 // 7 where a line is still due behind the last one.
 fn at_end(s: State, line: usize) -> Ran
     ensures { λ r. ⌜ EndsAs s line r ⌝ }
 {
     let due = s.due;
     match due {
-        Due::Opening => Ran::Stopped(7, line, 1),
-        Due::Description => Ran::Stopped(7, line, 1),
-        Due::Transfer => Ran::Stopped(7, line, 1),
-        Due::ModelName => Ran::Stopped(7, line, 1),
-        Due::TopicFrom(_) => Ran::Stopped(7, line, 1),
-        Due::TableFrom(_, _) => Ran::Stopped(7, line, 1),
-        Due::ObjectOf(_) => Ran::Stopped(7, line, 1),
-        Due::LineOf(_) => Ran::Stopped(7, line, 1),
-        Due::Closing => Ran::Stopped(7, line, 1),
-        Due::Nothing => Ran::Read(s),
+        Due::Frame(frame) => {
+            if is_last(frame) {
+                return Ran::Read(s);
+            }
+            Ran::Stopped(7, line, 1)
+        }
+        Due::Object(_) => Ran::Stopped(7, line, 1),
+        Due::Line(_) => Ran::Stopped(7, line, 1),
     }
 }
 
 // Every line, from the first on, into buffers whose marks and index are zeros.
 pub fn read_lines(
     model: &[u8],
+    places: &[usize],
+    shape: Shape,
     text: &[u8],
-    undefined: u8,
-    topics: usize,
     marks: &mut [u8],
     rows: &mut [u64],
     cells: &mut [i64],
@@ -51,13 +68,13 @@ pub fn read_lines(
     index: &mut [u64],
     seed: u64,
 ) -> Ran
-    requires { ⌜ line.Model (now model) undefined topics (now marks) ⌝ }
+    requires { ⌜ Prepared (now model) shape (now places) (now marks) ⌝ }
     requires { ⌜ length (now text) < 2 ^ 62 ⌝ }
     requires { ⌜ (now marks ≡ replicate (length (now marks)) 0) × (now index ≡ replicate (length (now index)) 0) ⌝ }
     ensures { λ r. ⌜ ((rooms : Rooms) → rooms .rows ≡ length (now (rows .entry)) → rooms .cells ≡ length (now (cells .entry)) → rooms .points ≡ length (now (points .entry)) → RanTo (now (model .entry)) (now (text .entry)) seed (now (marks .exit)) (now (rows .exit)) (now (cells .exit)) (now (points .exit)) (now (index .exit)) (readLines (modelAt (now (model .entry))) rooms (now (text .entry)) (startOf (modelAt (now (model .entry)))) (linesOf (now (text .entry)))) r) ⌝ }
 {
     let mut s = State {
-        due: Due::Opening,
+        due: Due::Frame(FrameDue::Opening),
         rows: 0,
         cells: 0,
         points: 0,
@@ -68,11 +85,11 @@ pub fn read_lines(
         let end = ends::end_of_line(text, at);
         let step = read_step::line::step_line(
             model,
+            places,
+            shape,
             text,
             at,
             end,
-            undefined,
-            topics,
             marks,
             rows,
             cells,

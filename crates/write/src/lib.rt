@@ -30,8 +30,14 @@ pub fn write(
     index: &mut [u64],
     seed: u64,
 ) -> Answer
-    ensures answer { λ r. ⌜ answerOf r ≡ meaning.write (now (model .entry)) (lentOf (now (text .entry)) (now (marks .entry)) (now (rows .entry)) (now (cells .entry)) (now (points .entry)) objects «cells_used» «points_used») width (length (now (out .entry))) .answer ⌝ }
-    ensures output { λ _. ⌜ now (out .exit) ≡ meaning.write (now (model .entry)) (lentOf (now (text .entry)) (now (marks .entry)) (now (rows .entry)) (now (cells .entry)) (now (points .entry)) objects «cells_used» «points_used») width (length (now (out .entry))) .output ⌝ }
+    ensures answer { λ r. ⌜ (let table = lentOf (now (text .entry)) (now (marks .entry)) (now (rows .entry))
+        (now (cells .entry)) (now (points .entry)) objects «cells_used» «points_used» in
+        let result = meaning.write (now (model .entry)) table width (length (now (out .entry))) in
+        answerOf r ≡ result .answer) ⌝ }
+    ensures output { λ _. ⌜ (let table = lentOf (now (text .entry)) (now (marks .entry)) (now (rows .entry))
+        (now (cells .entry)) (now (points .entry)) objects «cells_used» «points_used» in
+        let result = meaning.write (now (model .entry)) table width (length (now (out .entry))) in
+        now (out .exit) ≡ result .output) ⌝ }
     ensures index { λ _. ⌜ now (index .exit) ≡ replicate (length (now (index .entry))) 0 ⌝ }
 {
     match model_check::check::check(model) {
