@@ -1,4 +1,4 @@
--- What is proved of these definitions, in proofs/Claims.antt.
+-- What is proved of these definitions, in proofs/Reading/Claims.antt.
 use Prim.Native.Nat.{ℕ, _*_, _-_, _≤_}
 use mathlib.Core.Path.{_≡_}
 use mathlib.Core.List.{List}

@@ -1,5 +1,5 @@
 -- What is proved of `Right`: reading accepts exactly what is right, and gives the first refusal in the fixed order
--- otherwise. Proved in proofs/RightClaims.antt.
+-- otherwise. Proved in proofs/Right/Claims.antt.
 use Prim.Native.Nat.{ℕ, _+_, _≤_, _<_}
 use mathlib.Core.Path.{_≡_}
 use mathlib.Core.Bool.{true, false}

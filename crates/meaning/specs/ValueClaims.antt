@@ -1,6 +1,6 @@
 -- What we claim of values and their bytes: each written value reads as itself, is told from every other, and is the
 -- shortest.
--- One type for each claim; proofs/ValueClaims.antt proves them.
+-- One type for each claim; proofs/Values/ValueClaims.antt proves them.
 use Prim.Native.Nat.{ℕ, _+_, _/_, _%_, _^_, _≤_, _<_}
 use mathlib.Core.Path.{_≡_}
 use mathlib.Core.Bool.{true, not, _&&_, _||_}

@@ -1,5 +1,5 @@
 -- What is proved of writing: unwritable exactly when no lines read as the table, the judge that says so, and the round
--- trip. Proved in proofs/WritingClaims.antt.
+-- trip. Proved in proofs/Writing/WritingClaims.antt.
 use Prim.Native.Nat.{ℕ, _+_, _-_, _≤_}
 use mathlib.Core.Path.{_≡_}
 use mathlib.Core.Bool.{Bool, true, _&&_}
