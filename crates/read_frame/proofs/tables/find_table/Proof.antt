@@ -1,56 +1,67 @@
--- `read_frame::find_table` meets its contract. Assumes nothing.
-use borrow.Author.Needs.{needs}
-use Rattle.read_frame.proofs.Rows.{WalkedTables, NoneFound, in-topic, only-inside, walk-start, none-start, none-end, walk-more, passed-least, table-found, table-passed}
-use Rattle.model_records.proofs.Standing.{here}
-use Rattle.model_records.specs.Records.{modelAt}
-use lib.ListN.{length}
-use Prim.Native.Nat.{_-_}
-use mathlib.Core.Path.{sym, _∙_}
-use native.Mathlib.Omega.{arith}
 use Rattle.read_frame.proofs.tables.find_table.Statement.{statement}
 use Rattle.read_frame.proofs.tables.find_table.Tie as tie
+use Rattle.read_frame.proofs.tables.find_table.Reads as reads
+use Rattle.read_frame.proofs.tables.find_table.Lts as lts
+use Rattle.base.proofs.bools.either.Reads as either-reads
+use Rattle.model_records.proofs.places.is_optional.Reads as is-optional-reads
+use Rattle.model_records.proofs.places.table_at.Reads as table-at-reads
+use Rattle.model_records.proofs.places.topic_of.Reads as topic-of-reads
+use Rattle.read_frame.proofs.tables.found_table.Reads as found-table-reads
+use Rattle.read_frame.proofs.tables.is_table.Reads as is-table-reads
 
 abbrev Inv-loop : tie.InvT-loop
-Inv-loop model name from here₀ mandatory₀ here mandatory = WalkedTables (modelAt model) model (here₀ .topics - 1) from here mandatory × NoneFound (modelAt model) (here₀ .topics - 1) from name here
+Inv-loop model places shape name topic from t₀ mandatory₀ t mandatory = ?
 
 abbrev μ-loop : tie.MeasureT-loop
-μ-loop model name from here₀ mandatory₀ here mandatory = length model - here .at
+μ-loop model places shape name topic from t₀ mandatory₀ t mandatory = ?
 
+-- src/tables.rt:66:5
 loop-holds : tie.Need-loop-holds Inv-loop μ-loop
-loop-holds c = (walk-start _ _ _ _ (c .before .before .pre), none-start _ _ _ _ _ (c .before .before .pre))
+loop-holds c = ?
 
-is-in-topic-requires : tie.Need-is-in-topic-requires Inv-loop μ-loop
-is-in-topic-requires c κs = here _ _ _ _ _ ((c .loop .inv .0) .standing)
+-- src/tables.rt:67:12
+topic-of-requires : tie.Need-topic-of-requires Inv-loop μ-loop
+topic-of-requires c κs = ?
 
-pass-record-requires : tie.Need-pass-record-requires Inv-loop μ-loop
-pass-record-requires c κs = ((c .before .before .before .loop .inv .0) .standing, only-inside _ (sym (c .before .before .is-in-topic .ensures) ∙ c .before .if1 .taken) .1)
+-- src/tables.rt:68:32
+table-at-requires : tie.Need-table-at-requires Inv-loop μ-loop
+table-at-requires c κs = ?
 
+-- src/tables.rt:68:16
 is-table-requires : tie.Need-is-table-requires Inv-loop μ-loop
-is-table-requires c κs = in-topic _ _ _ _ _ ((c .before .before .before .before .loop .inv .0) .standing) (sym (c .before .before .before .is-in-topic .ensures) ∙ c .before .before .if1 .taken)
+is-table-requires c κs = ?
 
+-- src/tables.rt:69:17
 found-table-requires : tie.Need-found-table-requires Inv-loop μ-loop
-found-table-requires c κs = passed-least _ _ _ _ _ _ (c .before .before .before .before .before .before .loop .inv .0) _ (c .before .before .pass-record .ensures) _ (sym (c .before .is-table .ensures) ∙ c .if2 .taken)
+found-table-requires c κs = ?
 
+-- src/tables.rt:69:17
 returns : tie.Need-returns Inv-loop μ-loop
-returns c = rw (c .found-table .ensures) (table-found _ _ _ _ _ _ (c .before .before .before .before .before .before .before .loop .inv .0) _ (c .before .before .before .pass-record .ensures) _ (c .before .before .before .before .before .before .before .loop .inv .1) (sym (c .before .before .is-table .ensures) ∙ c .before .if2 .taken))
+returns c = ?
 
-is-mandatory-requires : tie.Need-is-mandatory-requires Inv-loop μ-loop
-is-mandatory-requires c κs = in-topic _ _ _ _ _ ((c .before .before .before .before .before .before .loop .inv .0) .standing) (sym (c .before .before .before .before .before .is-in-topic .ensures) ∙ c .before .before .before .before .if1 .taken)
+-- src/tables.rt:71:51
+is-optional-requires : tie.Need-is-optional-requires Inv-loop μ-loop
+is-optional-requires c κs = ?
 
+-- src/tables.rt:71:13
 either-requires : tie.Need-either-requires Inv-loop μ-loop
-either-requires c κs = search needs
+either-requires c κs = ?
 
+-- src/tables.rt:73:9
+add-t : tie.Need-add-t Inv-loop μ-loop
+add-t c = ?
+
+-- src/tables.rt:66:5
 loop-less : tie.Need-loop-less Inv-loop μ-loop
-loop-less c = omega (arith, c .before .before .before .before .pass-record .ensures .at, here _ _ _ _ _ ((c .before .before .before .before .before .before .before .before .loop .inv .0) .standing) .room)
+loop-less c = ?
 
+-- src/tables.rt:66:5
 loop-again : tie.Need-loop-again Inv-loop μ-loop
-loop-again c = (
-  rw (c .either .ensures, c .before .is-mandatory .ensures) (walk-more _ _ _ _ _ _ (c .before .before .before .before .before .before .before .before .loop .inv .0) _ (c .before .before .before .before .pass-record .ensures) (only-inside _ (sym (c .before .before .before .before .before .before .before .is-in-topic .ensures) ∙ c .before .before .before .before .before .before .if1 .taken) .0)),
-  table-passed _ _ _ _ _ _ (c .before .before .before .before .before .before .before .before .loop .inv .0) _ (c .before .before .before .before .pass-record .ensures) _ (c .before .before .before .before .before .before .before .before .loop .inv .1) (only-inside _ (sym (c .before .before .before .before .before .before .before .is-in-topic .ensures) ∙ c .before .before .before .before .before .before .if1 .taken) .0) (sym (c .before .before .before .is-table .ensures) ∙ c .before .before .if2 .left),
-)
+loop-again c = ?
 
+-- src/tables.rt:53:1
 returns-2 : tie.Need-returns-2 Inv-loop μ-loop
-returns-2 c = none-end _ _ _ _ _ _ (c .before .before .loop .inv .0) (sym (c .before .is-in-topic .ensures) ∙ c .if1 .left) _ (c .before .before .loop .inv .1)
+returns-2 c = ?
 
 pub find-table-spec : {M : Type 1} → statement M
 find-table-spec =
@@ -59,13 +70,14 @@ find-table-spec =
     Inv-loop
     μ-loop
     loop-holds
-    is-in-topic-requires
-    pass-record-requires
+    topic-of-requires
+    table-at-requires
     is-table-requires
     found-table-requires
     returns
-    is-mandatory-requires
+    is-optional-requires
     either-requires
+    add-t
     loop-less
     loop-again
     returns-2)
