@@ -11,8 +11,9 @@ use lib.ListN.{length, take, drop, getD, drop-of-length-le}
 use lib.Seq.{drop-cons, take-all}
 use borrow.Author.Tests.{leb-true, leb-false, eq-eqb, ne-eqb, lt-leb, le-leb, lt-ltb, le-ltb}
 use Rattle.meaning.specs.Bytes.{choose}
-use Rattle.meaning.specs.Model.{Table, found, missing, noTable, tableAt}
+use Rattle.meaning.specs.Model.{Model, Table, found, missing, noTable, tableAt}
 use Rattle.meaning.specs.Reading.{sameName, findTopic, findTable, mandatoryBetween}
+use Rattle.read_frame.specs.Finds.{foundAt, FoundTable}
 use Rattle.meaning.proofs.Tests.Unequal.{no-found, same-found}
 use Rattle.meaning.proofs.Model.Names.{none-mandatory}
 
@@ -147,8 +148,16 @@ module _ (p from : ℕ) (ts : List Table) where
     owed-next = rw (zero-add t) at (between-more p from 0 ts t l)
 
     -- a table of the topic, and one of another
-    pub owed-more : from ≤ t → tableAt ts t .topic ≡ p → mandatoryBetween p from (t + 1) 0 ts ≡ (mandatoryBetween p from t 0 ts || not (tableAt ts t .optional))
-    owed-more g e = rw (le-leb from t g, eq-eqb (tableAt ts t .topic) p e) at owed-next
+    pub owed-more : (owed optional : Bool) → from ≤ t → tableAt ts t .topic ≡ p → owed ≡ mandatoryBetween p from t 0 ts → optional ≡ tableAt ts t .optional
+        → (owed || not optional) ≡ mandatoryBetween p from (t + 1) 0 ts
+    owed-more owed optional g e old o = rw (old, o) (sym (rw (le-leb from t g, eq-eqb (tableAt ts t .topic) p e) at owed-next))
 
-    pub owed-other : (tableAt ts t .topic ≡ p → ⊥) → mandatoryBetween p from (t + 1) 0 ts ≡ mandatoryBetween p from t 0 ts
-    owed-other n = rw (ne-eqb (tableAt ts t .topic) p n, and-false (leb from t), or-false (mandatoryBetween p from t 0 ts)) at owed-next
+    pub owed-other : (owed : Bool) → (tableAt ts t .topic ≡ p → ⊥) → owed ≡ mandatoryBetween p from t 0 ts → owed ≡ mandatoryBetween p from (t + 1) 0 ts
+    owed-other owed n old = old ∙ sym (rw (ne-eqb (tableAt ts t .topic) p n, and-false (leb from t), or-false (mandatoryBetween p from t 0 ts)) at owed-next)
+
+-- the table found, by whether a mandatory one was passed
+pub table-found : (m : Model) (p from : ℕ) (name : List ℕ) (t : ℕ) (owed : Bool) → t < length (m .tables) → findTable p from 0 name (m .tables) ≡ found t
+    → owed ≡ mandatoryBetween p from t 0 (m .tables) → FoundTable m p from name (foundAt t owed)
+unfolding foundAt
+table-found m p from name t true l f o = record { table = t; at = record { found = f; inside = l; owed = sym o } }
+table-found m p from name t false l f o = record { found = f; inside = l; owed = sym o }

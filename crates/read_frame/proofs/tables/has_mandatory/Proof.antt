@@ -3,7 +3,7 @@ use Rattle.read_frame.proofs.Finds.{owed-start, owed-more, owed-other, 
 use Rattle.meaning.specs.Reading.{mandatoryBetween}
 use Rattle.model_records.specs.Records.{modelAt}
 use borrow.Author.Needs.{needs}
-use Prim.Native.Nat.{_+_, _-_, _≤_}
+use Prim.Native.Nat.{_-_, _≤_}
 use mathlib.Core.Path.{_≡_, sym, _∙_}
 use mathlib.Core.Logic.{⊎-elim}
 use native.Mathlib.Omega.{arith}
@@ -40,9 +40,11 @@ loop-again c =
     let q = c .before .before .before .before .before .before .before .pre in
     let i = c .before .before .before .before .loop .inv in
     let k = c .before .before .if1 .taken in
-    let l = omega (arith, k, q .tables) in
-    let o = sym (q .noted .owner _ k) ∙ sym (c .before .topic-of .ensures) in
-    (omega (arith, i .0), ⊎-elim (λ w. ?) (λ w. w .1 ∙ i .1 ∙ sym (owed-other _ _ _ _ l (λ e. w .0 .left ?))) (c .if2 .came))
+    let o = sym (c .before .topic-of .ensures ∙ q .noted .owner _ k) in
+    (omega (arith, i .0), ⊎-elim
+    (λ w. w .3 ∙ w .2 .ensures ∙ owed-more _ _ _ _ (omega (arith, k, q .tables)) _ _ (i .0) (o ∙ w .0 .taken) (i .1) (w .1 .ensures))
+    (λ w. w .1 ∙ owed-other _ _ _ _ (omega (arith, k, q .tables)) _ (λ e. w .0 .left (sym o ∙ e)) (i .1))
+    (c .if2 .came))
 
 returns : tie.Need-returns Inv-loop μ-loop
 returns c =
