@@ -1,87 +1,94 @@
+-- `read_frame::begin_table` meets its contract. Assumes nothing.
+use Rattle.read_frame.proofs.TableLines.{table-no-name, table-missing, table-skipped, table-begun, table-holds}
+use Rattle.read_frame.specs.Finds.{FoundTable}
+use Rattle.model_records.specs.Records.{modelAt}
+use Rattle.base.proofs.Fill.{to-end}
+use Rattle.base.specs.Fields.{NextField}
+use Prim.Native.Nat.{_+_, _-_}
+use mathlib.Core.Path.{_≡_, subst}
+use native.Mathlib.Omega.{arith}
 use borrow.Author.Needs.{needs}
 use Rattle.read_frame.proofs.tables.begin_table.Statement.{statement}
 use Rattle.read_frame.proofs.tables.begin_table.Tie as tie
-use Rattle.read_frame.proofs.tables.begin_table.Reads as reads
-use Rattle.read_frame.proofs.tables.begin_table.Lts as lts
-use Rattle.base.proofs.fields.next_field.Reads as next-field-reads
-use Rattle.read_frame.proofs.lines.end_line.Reads as end-line-reads
-use Rattle.read_frame.proofs.tables.find_table.Reads as find-table-reads
 
--- src/tables.rt:110:9
 next-field-requires : tie.Need-next-field-requires
 next-field-requires c κs = search needs
 
--- src/tables.rt:112:26
 enum-told : tie.Need-enum-told
 enum-told c = search needs
 
--- src/tables.rt:113:23
 enum-known-next : tie.Need-enum-known-next
 enum-known-next c = search needs
 
--- src/tables.rt:114:23
 add-end : tie.Need-add-end
-add-end c = ?
+add-end c = let f = subst (NextField (c .before .before .before .before .before .before .before .args .rest .now)) (c .before .next .given .1) (c .before .before .before .next-field .ensures) in
+    omega (arith, f .within)
 
--- src/tables.rt:115:58
 sub-find-table : tie.Need-sub-find-table
 sub-find-table c = search needs
 
--- src/tables.rt:115:58
 part-find-table-start : tie.Need-part-find-table-start
 part-find-table-start c = search needs
 
--- src/tables.rt:115:58
 part-find-table-end : tie.Need-part-find-table-end
-part-find-table-end c = ?
+part-find-table-end c = let f = subst (NextField (c .before .before .before .before .before .before .before .args .rest .now)) (c .before .next .given .1) (c .before .before .before .next-field .ensures) in
+    f .within
 
--- src/tables.rt:115:17
 find-table-requires : tie.Need-find-table-requires
 find-table-requires c κs = search needs
 
--- src/tables.rt:117:40
 enum-told-2 : tie.Need-enum-told-2
 enum-told-2 c = search needs
 
--- src/tables.rt:118:40
 enum-told-3 : tie.Need-enum-told-3
 enum-told-3 c = search needs
 
--- src/tables.rt:119:32
 enum-known-found : tie.Need-enum-known-found
 enum-known-found c = search needs
 
--- src/tables.rt:119:54
 sub-end-line : tie.Need-sub-end-line
-sub-end-line c = ?
+sub-end-line c = let f = subst (NextField (c .before .before .before .before .before .before .before .before .before .before .before .before .args .rest .now)) (c .before .before .before .before .before .before .next .given .1) (c .before .before .before .before .before .before .before .before .next-field .ensures) in
+    omega (arith, f .within)
 
--- src/tables.rt:119:54
 part-end-line-start : tie.Need-part-end-line-start
-part-end-line-start c = ?
+part-end-line-start c = let f = subst (NextField (c .before .before .before .before .before .before .before .before .before .before .before .before .args .rest .now)) (c .before .before .before .before .before .before .next .given .1) (c .before .before .before .before .before .before .before .before .next-field .ensures) in
+    omega (arith, f .within)
 
--- src/tables.rt:119:54
 part-end-line-end : tie.Need-part-end-line-end
 part-end-line-end c = search needs
 
--- src/tables.rt:119:38
 end-line-requires : tie.Need-end-line-requires
 end-line-requires c κs = search needs
 
--- src/tables.rt:96:1
 returns : tie.Need-returns
-returns c = ?
+returns c = let a = c .before .before .before .before .before .before .args in
+    let f = subst (NextField (a .rest .now)) (c .enum-told .given .1) (c .before .before .next-field .ensures) in
+    ((λ s k. table-no-name _ (a .model .now) _ _ _ k f s), tt)
 
--- src/tables.rt:96:1
 returns-2 : tie.Need-returns-2
-returns-2 c = ?
+returns-2 c = let f = subst (NextField (c .before .before .before .before .before .before .before .before .before .before .before .args .rest .now)) (c .before .before .before .before .before .next .given .1) (c .before .before .before .before .before .before .before .next-field .ensures) in
+    let a = c .before .before .before .before .before .before .before .before .before .before .before .args in
+    let g = c .before .before .before .before .before .next .given .0 in
+    let z : g .0 + g .1 .0 - g .0 ≡ g .1 .0 = omega arith in
+    let e = rw z at (subst (FoundTable (modelAt (a .model .now)) (a .topic) (a .from) _) (c .enum-told2 .given .1) (c .before .before .find-table .ensures)) in
+    ((λ s k. table-missing _ (a .model .now) _ _ (a .rest .now) k (g .0) (g .1 .0) f e s), tt)
 
--- src/tables.rt:96:1
 returns-3 : tie.Need-returns-3
-returns-3 c = ?
+returns-3 c = let f = subst (NextField (c .before .before .before .before .before .before .before .before .before .before .before .args .rest .now)) (c .before .before .before .before .before .next .given .1) (c .before .before .before .before .before .before .before .next-field .ensures) in
+    let a = c .before .before .before .before .before .before .before .before .before .before .before .args in
+    let g = c .before .before .before .before .before .next .given .0 in
+    let z : g .0 + g .1 .0 - g .0 ≡ g .1 .0 = omega arith in
+    let e = rw z at (subst (FoundTable (modelAt (a .model .now)) (a .topic) (a .from) _) (c .enum-told3 .given .1) (c .before .before .find-table .ensures)) in
+    ((λ s k. table-skipped _ (a .model .now) _ _ (a .rest .now) k (g .0) (g .1 .0) f e s), tt)
 
--- src/tables.rt:96:1
 returns-4 : tie.Need-returns-4
-returns-4 c = ?
+returns-4 c = let f = subst (NextField (c .before .before .before .before .before .before .before .before .before .before .before .before .before .before .args .rest .now)) (c .before .before .before .before .before .before .before .before .next .given .1) (c .before .before .before .before .before .before .before .before .before .before .next-field .ensures) in
+    let a = c .before .before .before .before .before .before .before .before .before .before .before .before .before .before .args in
+    let g = c .before .before .before .before .before .before .before .before .next .given .0 in
+    let z : g .0 + g .1 .0 - g .0 ≡ g .1 .0 = omega arith in
+    let e = rw z at (subst (FoundTable (modelAt (a .model .now)) (a .topic) (a .from) _) (c .before .before .before .found .given .1) (c .before .before .before .before .before .find-table .ensures)) in
+    let k = rw (to-end (a .rest .now) (g .0 + g .1 .0)) at (c .end-line .ensures) in
+    ((λ s x. table-begun _ _ _ _ (a .rest .now) x (g .0) (g .1 .0) f _ _ e k s), table-holds _ _ _ (e .inside) _ _ (k 0))
 
 pub begin-table-spec : {M : Type 1} → statement M
 begin-table-spec =

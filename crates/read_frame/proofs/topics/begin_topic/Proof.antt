@@ -1,79 +1,81 @@
+-- `read_frame::begin_topic` meets its contract. Assumes nothing.
+use Rattle.read_frame.proofs.TopicLines.{topic-no-name, topic-missing, topic-begun, topic-holds}
+use Rattle.read_frame.specs.Finds.{topicFoundOf}
+use Rattle.base.proofs.Fill.{to-end}
+use Rattle.base.specs.Fields.{NextField}
+use Prim.Native.Nat.{_+_, _-_}
+use mathlib.Core.Path.{_≡_, sym, ap, subst, _∙_}
+use native.Mathlib.Omega.{arith}
 use borrow.Author.Needs.{needs}
 use Rattle.read_frame.proofs.topics.begin_topic.Statement.{statement}
 use Rattle.read_frame.proofs.topics.begin_topic.Tie as tie
-use Rattle.read_frame.proofs.topics.begin_topic.Reads as reads
-use Rattle.read_frame.proofs.topics.begin_topic.Lts as lts
-use Rattle.base.proofs.fields.next_field.Reads as next-field-reads
-use Rattle.read_frame.proofs.lines.end_line.Reads as end-line-reads
-use Rattle.read_frame.proofs.topics.find_topic.Reads as find-topic-reads
 
--- src/topics.rt:63:9
 next-field-requires : tie.Need-next-field-requires
 next-field-requires c κs = search needs
 
--- src/topics.rt:65:26
 enum-told : tie.Need-enum-told
 enum-told c = search needs
 
--- src/topics.rt:66:23
 enum-known-next : tie.Need-enum-known-next
 enum-known-next c = search needs
 
--- src/topics.rt:67:23
 add-end : tie.Need-add-end
-add-end c = ?
+add-end c = let f = subst (NextField (c .before .before .before .before .before .before .before .args .rest .now)) (c .before .next .given .1) (c .before .before .before .next-field .ensures) in
+    omega (arith, f .within)
 
--- src/topics.rt:68:58
 sub-find-topic : tie.Need-sub-find-topic
 sub-find-topic c = search needs
 
--- src/topics.rt:68:58
 part-find-topic-start : tie.Need-part-find-topic-start
 part-find-topic-start c = search needs
 
--- src/topics.rt:68:58
 part-find-topic-end : tie.Need-part-find-topic-end
-part-find-topic-end c = ?
+part-find-topic-end c = let f = subst (NextField (c .before .before .before .before .before .before .before .args .rest .now)) (c .before .next .given .1) (c .before .before .before .next-field .ensures) in
+    f .within
 
--- src/topics.rt:68:17
 find-topic-requires : tie.Need-find-topic-requires
 find-topic-requires c κs = search needs
 
--- src/topics.rt:70:40
 enum-told-2 : tie.Need-enum-told-2
 enum-told-2 c = search needs
 
--- src/topics.rt:71:32
 enum-known-found : tie.Need-enum-known-found
 enum-known-found c = search needs
 
--- src/topics.rt:72:21
 sub-end-line : tie.Need-sub-end-line
-sub-end-line c = ?
+sub-end-line c = let f = subst (NextField (c .before .before .before .before .before .before .before .before .before .before .before .before .args .rest .now)) (c .before .before .before .before .before .before .next .given .1) (c .before .before .before .before .before .before .before .before .next-field .ensures) in
+    omega (arith, f .within)
 
--- src/topics.rt:72:21
 part-end-line-start : tie.Need-part-end-line-start
-part-end-line-start c = ?
+part-end-line-start c = let f = subst (NextField (c .before .before .before .before .before .before .before .before .before .before .before .before .args .rest .now)) (c .before .before .before .before .before .before .next .given .1) (c .before .before .before .before .before .before .before .before .next-field .ensures) in
+    omega (arith, f .within)
 
--- src/topics.rt:72:21
 part-end-line-end : tie.Need-part-end-line-end
 part-end-line-end c = search needs
 
--- src/topics.rt:71:38
 end-line-requires : tie.Need-end-line-requires
 end-line-requires c κs = search needs
 
--- src/topics.rt:57:1
 returns : tie.Need-returns
-returns c = ?
+returns c = let f = subst (NextField (c .before .before .before .before .before .before .args .rest .now)) (c .enum-told .given .1) (c .before .before .next-field .ensures) in
+    ((λ s k. topic-no-name _ (c .before .before .before .before .before .before .args .model .now) _ _ k f s), tt)
 
--- src/topics.rt:57:1
 returns-2 : tie.Need-returns-2
-returns-2 c = ?
+returns-2 c = let f = subst (NextField (c .before .before .before .before .before .before .before .before .before .before .before .args .rest .now)) (c .before .before .before .before .before .next .given .1) (c .before .before .before .before .before .before .before .next-field .ensures) in
+    let a = c .before .before .before .before .before .before .before .before .before .before .before .args in
+    let g = c .before .before .before .before .before .next .given .0 in
+    let z : g .0 + g .1 .0 - g .0 ≡ g .1 .0 = omega arith in
+    let e = sym (c .before .before .find-topic .ensures) ∙ ap topicFoundOf (c .enum-told2 .given .1) in
+    ((λ s k. topic-missing _ (a .model .now) _ (a .rest .now) k (g .0) (g .1 .0) f (rw z at e) s), tt)
 
--- src/topics.rt:57:1
 returns-3 : tie.Need-returns-3
-returns-3 c = ?
+returns-3 c = let f = subst (NextField (c .before .before .before .before .before .before .before .before .before .before .before .before .before .before .args .rest .now)) (c .before .before .before .before .before .before .before .before .next .given .1) (c .before .before .before .before .before .before .before .before .before .before .next-field .ensures) in
+    let a = c .before .before .before .before .before .before .before .before .before .before .before .before .before .before .args in
+    let g = c .before .before .before .before .before .before .before .before .next .given .0 in
+    let z : g .0 + g .1 .0 - g .0 ≡ g .1 .0 = omega arith in
+    let e = rw z at (sym (c .before .before .before .before .before .find-topic .ensures) ∙ ap topicFoundOf (c .before .before .before .found .given .1)) in
+    let k = rw (to-end (a .rest .now) (g .0 + g .1 .0)) at (c .end-line .ensures) in
+    ((λ s x. topic-begun _ _ _ (a .rest .now) x (g .0) (g .1 .0) f _ _ e k s), topic-holds _ _ _ _ _ _ _ e (k 0))
 
 pub begin-topic-spec : {M : Type 1} → statement M
 begin-topic-spec =

@@ -1,59 +1,63 @@
+-- `read_frame::topic_line` meets its contract. Assumes nothing.
+use Rattle.read_frame.proofs.TopicLines.{model-closed, topic-opened, topic-other}
+use Rattle.read_frame.proofs.Moves.{holds-refuse}
+use Rattle.read_frame.specs.Moves.{endIn, MovedHolds}
+use Rattle.model_records.specs.Records.{modelAt}
+use Rattle.read_state.specs.declared.Moved.the-variants.{No}
+use Rattle.read_state.specs.declared.Moved.{Moved}
+use Rattle.base.proofs.Fill.{to-end}
+use mathlib.Core.Path.{sym, subst}
 use borrow.Author.Needs.{needs}
 use Rattle.read_frame.proofs.topics.topic_line.Statement.{statement}
 use Rattle.read_frame.proofs.topics.topic_line.Tie as tie
-use Rattle.read_frame.proofs.topics.topic_line.Reads as reads
-use Rattle.read_frame.proofs.topics.topic_line.Lts as lts
-use Rattle.read_frame.proofs.codes.head_of.Reads as head-of-reads
-use Rattle.read_frame.proofs.lines.end_line.Reads as end-line-reads
-use Rattle.read_frame.proofs.topics.begin_topic.Reads as begin-topic-reads
 
--- src/topics.rt:89:9
 head-of-requires : tie.Need-head-of-requires
 head-of-requires c κs = search needs
 
--- src/topics.rt:93:40
 sub-end-line : tie.Need-sub-end-line
 sub-end-line c = search needs
 
--- src/topics.rt:93:40
 part-end-line-start : tie.Need-part-end-line-start
 part-end-line-start c = search needs
 
--- src/topics.rt:93:40
 part-end-line-end : tie.Need-part-end-line-end
 part-end-line-end c = search needs
 
--- src/topics.rt:93:24
 end-line-requires : tie.Need-end-line-requires
 end-line-requires c κs = search needs
 
--- src/topics.rt:94:58
 sub-begin-topic : tie.Need-sub-begin-topic
 sub-begin-topic c = search needs
 
--- src/topics.rt:94:58
 part-begin-topic-start : tie.Need-part-begin-topic-start
 part-begin-topic-start c = search needs
 
--- src/topics.rt:94:58
 part-begin-topic-end : tie.Need-part-begin-topic-end
 part-begin-topic-end c = search needs
 
--- src/topics.rt:94:24
 begin-topic-requires : tie.Need-begin-topic-requires
 begin-topic-requires c κs = search needs
 
--- src/topics.rt:82:1
 returns : tie.Need-returns
-returns c = ?
+unfolding endIn
+returns c = let a = c .before .before .before .before .before .before .before .args in
+    let h = c .before .before .before .head-of in
+    let k = rw (to-end (a .l .now) (h .result .behind)) at (c .end-line .ensures) in (
+      (λ rooms text s x. model-closed _ rooms text _ _ (a .l .now) (h .result) (h .ensures) _ x s (c .before .before .match .keys1) k),
+      subst (λ (x : Moved). MovedHolds (modelAt (a .model .now)) (a .model .now) x) (sym (k 0)) (holds-refuse _ _ _ _ _ tt (λ rows n used points. tt)),
+    )
 
--- src/topics.rt:82:1
 returns-2 : tie.Need-returns-2
-returns-2 c = ?
+returns-2 c = let a = c .before .before .before .before .before .before .before .args in
+    let h = c .before .before .before .head-of in
+    let k = rw (to-end (a .l .now) (h .result .behind)) at (c .begin-topic .ensures .0) in
+    ((λ rooms text s x. topic-opened _ rooms text (a .model .now) _ (a .l .now) (h .result) (h .ensures) (c .begin-topic .result) x s (c .before .before .match .keys2) k), c .begin-topic .ensures .1)
 
--- src/topics.rt:82:1
 returns-3 : tie.Need-returns-3
-returns-3 c = ?
+returns-3 c = let a = c .before .before .before .before .before .args in
+    let h = c .before .head-of in
+    let r = c .match .rest in
+    ((λ rooms text s x. topic-other _ rooms text (a .model .now) _ (a .l .now) (h .result) (h .ensures) (No 7 1) x s (r .0 .1) (r .1)), tt)
 
 pub topic-line-spec : {M : Type 1} → statement M
 topic-line-spec =
