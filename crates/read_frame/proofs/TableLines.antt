@@ -9,7 +9,7 @@ use Rattle.meaning.specs.Bytes.{choose, refuse}
 use Rattle.meaning.specs.Model.{Model, missing, tableAt}
 use Rattle.meaning.specs.Field.{Field, fieldsOf, moreThan, hasCode, TABL, ETAB, ETOP}
 use Rattle.meaning.specs.Reading.{Content, Rooms, findTable, mandatoryBetween}
-use Rattle.meaning.specs.Lines.{go, bare, tableLine, topicEnd, behindObjects}
+use Rattle.meaning.specs.Lines.{bare, tableLine, topicEnd, behindObjects}
 use Rattle.base.specs.Fields.{FirstField}
 use Rattle.read_state.specs.declared.FrameDue.the-variants as frame
 use Rattle.read_state.specs.declared.Due.the-variants.{Frame, Object}

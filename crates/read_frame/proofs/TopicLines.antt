@@ -1,5 +1,5 @@
 -- Lines that name the transfer, the model or a topic, and the line that ends the model. Assumes nothing.
-use Prim.Native.Nat.{ℕ, _+_, _≤_, _<_}
+use Prim.Native.Nat.{ℕ, _+_, _≤_}
 use native.Mathlib.Omega.{arith}
 use mathlib.Core.Path.{_≡_}
 use mathlib.Core.Bool.{true, false}
@@ -9,7 +9,7 @@ use Rattle.meaning.specs.Bytes.{choose, refuse}
 use Rattle.meaning.specs.Model.{Model, found, missing}
 use Rattle.meaning.specs.Field.{Field, fieldsOf, moreThan, hasCode, MTID, MOTR, MODL, TOPI, EMOD}
 use Rattle.meaning.specs.Reading.{Content, Rooms, findTopic}
-use Rattle.meaning.specs.Lines.{go, bare, transferLine, modelLine, topicLine}
+use Rattle.meaning.specs.Lines.{bare, transferLine, modelLine, topicLine}
 use Rattle.base.specs.Fields.{FirstField}
 use Rattle.read_state.specs.declared.FrameDue.the-variants as frame
 use Rattle.read_state.specs.declared.Due.the-variants.{Frame}

@@ -31,7 +31,7 @@ returns c =
     let s = a .pre .0 .noted .table _ (a .pre .1) .standing in (
       (λ rooms text s x. ap (λ (y : Moved). movedOf b y x) (e s 12 refl) ∙ table-closed _ b _ _ (fieldsOf s l) x o rooms text),
       subst (λ (y : Moved). MovedHolds (modelAt b) b y) (sym (e 0 12 refl))
-      (closed-holds _ b _ _ (fieldsOf 0 l) nothing-read (omega (arith, o, s .topicCount)) (omega (arith, a .pre .1, a .pre .0 .tables))),
+          (closed-holds _ b _ _ (fieldsOf 0 l) nothing-read (omega (arith, o, s .topicCount)) (omega (arith, a .pre .1, a .pre .0 .tables))),
     )
 
 pub behind-objects-spec : {M : Type 1} → statement M

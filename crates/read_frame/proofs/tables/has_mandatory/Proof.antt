@@ -40,11 +40,13 @@ loop-again c =
     let q = c .before .before .before .before .before .before .before .pre in
     let i = c .before .before .before .before .loop .inv in
     let k = c .before .before .if1 .taken in
-    let o = sym (c .before .topic-of .ensures ∙ q .noted .owner _ k) in
-    (omega (arith, i .0), ⊎-elim
-    (λ w. w .3 ∙ w .2 .ensures ∙ owed-more _ _ _ _ (omega (arith, k, q .tables)) _ _ (i .0) (o ∙ w .0 .taken) (i .1) (w .1 .ensures))
-    (λ w. w .1 ∙ owed-other _ _ _ _ (omega (arith, k, q .tables)) _ (λ e. w .0 .left (sym o ∙ e)) (i .1))
-    (c .if2 .came))
+    let o = sym (c .before .topic-of .ensures ∙ q .noted .owner _ k) in (
+      omega (arith, i .0),
+      ⊎-elim
+          (λ w. w .3 ∙ w .2 .ensures ∙ owed-more _ _ _ _ (omega (arith, k, q .tables)) _ _ (i .0) (o ∙ w .0 .taken) (i .1) (w .1 .ensures))
+          (λ w. w .1 ∙ owed-other _ _ _ _ (omega (arith, k, q .tables)) _ (λ e. w .0 .left (sym o ∙ e)) (i .1))
+          (c .if2 .came),
+    )
 
 returns : tie.Need-returns Inv-loop μ-loop
 returns c =

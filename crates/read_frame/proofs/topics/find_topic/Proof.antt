@@ -1,9 +1,9 @@
 -- `read_frame::find_topic` meets its contract. Assumes nothing.
 use Rattle.read_frame.proofs.Finds.{topic-start, topic-hit, topic-pass, topic-none}
-use Rattle.meaning.specs.Reading.{sameName, findTopic}
+use Rattle.meaning.specs.Reading.{findTopic}
 use Rattle.model_records.specs.Records.{modelAt}
 use lib.ListN.{drop}
-use Prim.Native.Nat.{_+_, _-_, _≤_}
+use Prim.Native.Nat.{_-_, _≤_}
 use mathlib.Core.Path.{_≡_, sym, _∙_}
 use native.Mathlib.Omega.{arith}
 use Rattle.read_frame.proofs.topics.find_topic.Statement.{statement}
