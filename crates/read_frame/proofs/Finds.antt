@@ -1,5 +1,5 @@
--- Finding a topic or a table by a walk: nothing is found below the place reached, and a turn finds or passes. Assumes nothing.
-use Prim.Native.Nat.{ℕ, zero, suc, _+_, _≤_, _<_}
+-- Finding a topic or a table by its name: none is found before the number reached, and a turn finds one or passes it. Assumes nothing.
+use Prim.Native.Nat.{ℕ, zero, suc, _+_, _≤_, _<_, min}
 use native.Mathlib.Omega.{arith}
 use native.Mathlib.Nat.{zero-add}
 use native.Mathlib.Numerals.{add-one}
@@ -7,12 +7,23 @@ use mathlib.Core.Path.{_≡_, refl, sym, ap, _∙_}
 use mathlib.Core.Bool.{Bool, true, false, not, _&&_, _||_, or-false, or-assoc, and-false}
 use mathlib.Core.List.{List, [], _∷_}
 use lib.Dec.{eqb, leb}
-use lib.ListN.{length, drop, getD, drop-of-length-le}
-use lib.Seq.{drop-cons}
-use borrow.Author.Tests.{leb-true, eq-eqb, lt-leb, le-leb, lt-ltb, le-ltb}
+use lib.ListN.{length, take, drop, getD, drop-of-length-le}
+use lib.Seq.{drop-cons, take-all}
+use borrow.Author.Tests.{leb-true, leb-false, eq-eqb, ne-eqb, lt-leb, le-leb, lt-ltb, le-ltb}
 use Rattle.meaning.specs.Bytes.{choose}
-use Rattle.meaning.specs.Model.{Table, found, missing, noTable, tableAt}
+use Rattle.meaning.specs.Model.{Model, Table, found, missing, noTable, tableAt}
 use Rattle.meaning.specs.Reading.{sameName, findTopic, findTable, mandatoryBetween}
+use Rattle.read_frame.specs.Finds.{foundAt, FoundTable}
+use Rattle.meaning.proofs.Tests.Unequal.{no-found, same-found}
+use Rattle.meaning.proofs.Model.Names.{none-mandatory}
+
+-- the first 24 bytes, of a shorter name too
+pub first-bytes : (l : List ℕ) → take (min 24 (length l)) l ≡ take 24 l
+first-bytes l = go (leb 24 (length l)) refl
+  where
+    go : (x : Bool) → leb 24 (length l) ≡ x → take (min 24 (length l)) l ≡ take 24 l
+    go true h = let k = leb-true 24 (length l) h in let e : min 24 (length l) ≡ 24 = omega arith in rw e
+    go false h = let k = leb-false 24 (length l) h in let e : min 24 (length l) ≡ length l = omega arith in rw (e, take-all (length l) l (omega arith), take-all 24 l (omega arith))
 
 -- the list from a place on
 from-on : {A : Type 0} (l : List A) (n : ℕ) (d : A) → n < length l → drop n l ≡ getD l n d ∷ drop (n + 1) l
@@ -20,68 +31,81 @@ from-on l n d h = rw add-one (drop-cons l n d h)
 
 -- ## Topics
 
+module _ (from : ℕ) (name : List ℕ) where
+  -- none is found before `from`; the first topic has the number n
+  before-from : (k n : ℕ) (ts : List (List ℕ)) → n + k ≤ from → findTopic from n name ts ≡ findTopic from (n + k) name (drop k ts)
+  unfolding findTopic choose
+  before-from zero n ts l = let e : n ≡ n + 0 = omega arith in ap (λ (x : ℕ). findTopic from x name ts) e
+  before-from (suc k) n [] l = refl
+  before-from (suc k) n (t ∷ ts) l =
+      let e : n + suc k ≡ n + 1 + k = omega arith in
+      rw (e, lt-leb from n (omega arith)) (before-from k (n + 1) ts (omega arith))
+
+  -- what is found is a topic
+  pub topic-inside : (n : ℕ) (ts : List (List ℕ)) (p : ℕ) → findTopic from n name ts ≡ found p → p < n + length ts
+  unfolding findTopic choose
+  topic-inside n [] p e = absurd (no-found p e)
+  topic-inside n (t ∷ ts) p e = go (leb from n && sameName t name) e (topic-inside (n + 1) ts p)
+    where
+      go : (x : Bool) → choose x (found n) (findTopic from (n + 1) name ts) ≡ found p → (findTopic from (n + 1) name ts ≡ found p → p < n + 1 + length ts) → p < n + length (t ∷ ts)
+      go true e ih = let q : n ≡ p = same-found n p e in omega arith
+      go false e ih = omega (arith, ih e)
+
 module _ (from : ℕ) (name : List ℕ) (ts : List (List ℕ)) where
+  pub topic-start : findTopic from 0 name ts ≡ findTopic from from name (drop from ts)
+  topic-start = rw (zero-add from) at (before-from from name from 0 ts (omega arith))
+
   pub topic-hit : (k : ℕ) → k < length ts → from ≤ k → sameName (getD ts k []) name ≡ true → findTopic from k name (drop k ts) ≡ found k
   unfolding findTopic choose
   topic-hit k l g e = rw (from-on ts k [] l, le-leb from k g, e)
 
-  pub topic-pass : (k : ℕ) → k < length ts → (leb from k && sameName (getD ts k []) name) ≡ false → findTopic from k name (drop k ts) ≡ findTopic from (k + 1) name (drop (k + 1) ts)
+  pub topic-pass : (k : ℕ) → k < length ts → from ≤ k → sameName (getD ts k []) name ≡ false → findTopic from k name (drop k ts) ≡ findTopic from (k + 1) name (drop (k + 1) ts)
   unfolding findTopic choose
-  topic-pass k l e = rw (from-on ts k [] l, e)
+  topic-pass k l g e = rw (from-on ts k [] l, le-leb from k g, e)
 
   pub topic-none : (k : ℕ) → length ts ≤ k → findTopic from k name (drop k ts) ≡ missing
   unfolding findTopic
   topic-none k l = rw (drop-of-length-le ts l)
 
-  -- none is found before `from`
-  pub topic-start : (k : ℕ) → k ≤ from → k ≤ length ts → findTopic from 0 name ts ≡ findTopic from k name (drop k ts)
-  topic-start zero g l = refl
-  topic-start (suc k) g l = topic-start k (omega arith) (omega arith) ∙ topic-pass k (omega arith) (rw (lt-leb from k (omega arith))) ∙ rw (add-one k)
-
 -- ## Tables
 
-module _ (p from : ℕ) (ts : List Table) where
-  module _ (name : List ℕ) where
-    pub table-hit : (t : ℕ) → t < length ts → from ≤ t → tableAt ts t .topic ≡ p → sameName (tableAt ts t .name) name ≡ true → findTable p from t name (drop t ts) ≡ found t
+module _ (p from : ℕ) (name : List ℕ) where
+  -- none is found before `from`; the first table has the number n
+  before-table : (k n : ℕ) (ts : List Table) → n + k ≤ from → findTable p from n name ts ≡ findTable p from (n + k) name (drop k ts)
+  unfolding findTable choose
+  before-table zero n ts l = let e : n ≡ n + 0 = omega arith in ap (λ (x : ℕ). findTable p from x name ts) e
+  before-table (suc k) n [] l = refl
+  before-table (suc k) n (t ∷ ts) l =
+      let e : n + suc k ≡ n + 1 + k = omega arith in
+      rw (e, lt-leb from n (omega arith)) (before-table k (n + 1) ts (omega arith))
+
+module _ (p from : ℕ) (name : List ℕ) (ts : List Table) where
+  pub table-start : findTable p from 0 name ts ≡ findTable p from from name (drop from ts)
+  table-start = rw (zero-add from) at (before-table p from name from 0 ts (omega arith))
+
+  pub table-none : (t : ℕ) → length ts ≤ t → findTable p from t name (drop t ts) ≡ missing
+  unfolding findTable
+  table-none t l = rw (drop-of-length-le ts l)
+
+  module _ (t : ℕ) (l : t < length ts) where
+    pub table-hit : from ≤ t → tableAt ts t .topic ≡ p → sameName (tableAt ts t .name) name ≡ true → findTable p from t name (drop t ts) ≡ found t
     unfolding findTable choose
-    table-hit t l g o e = rw (from-on ts t noTable l, le-leb from t g, eq-eqb (tableAt ts t .topic) p o, e)
+    table-hit g o e = rw (from-on ts t noTable l, le-leb from t g, eq-eqb (tableAt ts t .topic) p o, e)
 
-    pub table-pass : (t : ℕ) → t < length ts → (leb from t && eqb (tableAt ts t .topic) p && sameName (tableAt ts t .name) name) ≡ false
-        → findTable p from t name (drop t ts) ≡ findTable p from (t + 1) name (drop (t + 1) ts)
+    -- a table of another name, and one of another topic
+    pub table-pass : sameName (tableAt ts t .name) name ≡ false → findTable p from t name (drop t ts) ≡ findTable p from (t + 1) name (drop (t + 1) ts)
     unfolding findTable choose
-    table-pass t l e = rw (from-on ts t noTable l, e)
+    table-pass e = rw (from-on ts t noTable l, e, and-false (leb from t && eqb (tableAt ts t .topic) p))
 
-    -- no table of another topic is found
-    other-topic : (t : ℕ) → (leb from t ≡ true → eqb (tableAt ts t .topic) p ≡ false) → (leb from t && eqb (tableAt ts t .topic) p && sameName (tableAt ts t .name) name) ≡ false
-    other-topic t h = go (leb from t) h
-      where
-        go : (x : Bool) → (x ≡ true → eqb (tableAt ts t .topic) p ≡ false) → (x && eqb (tableAt ts t .topic) p && sameName (tableAt ts t .name) name) ≡ false
-        go true f = rw (f refl)
-        go false f = refl
-
-    pub table-start : (t : ℕ) → t ≤ length ts → ((n : ℕ) → from ≤ n → n < t → eqb (tableAt ts n .topic) p ≡ false)
-        → findTable p from 0 name ts ≡ findTable p from t name (drop t ts)
-    table-start zero l h = refl
-    table-start (suc t) l h =
-        table-start t (omega arith) (λ n g b. h n g (omega arith))
-        ∙ table-pass t (omega arith) (other-topic t (λ e. h t (leb-true from t e) (omega arith)))
-        ∙ rw (add-one t)
-
-    -- none is found among tables of later topics
-    pub table-none : (d t : ℕ) → t + d ≡ length ts → ((n : ℕ) → t ≤ n → n < length ts → eqb (tableAt ts n .topic) p ≡ false) → findTable p from t name (drop t ts) ≡ missing
-    unfolding findTable
-    table-none zero t l h = rw (drop-of-length-le ts {i = t} (omega arith))
-    table-none (suc d) t l h =
-        table-pass t (omega arith) (other-topic t (λ e. h t (omega arith) (omega arith)))
-        ∙ table-none d (t + 1) (omega arith) (λ n g b. h n (omega arith) b)
+    pub table-other : (tableAt ts t .topic ≡ p → ⊥) → findTable p from t name (drop t ts) ≡ findTable p from (t + 1) name (drop (t + 1) ts)
+    unfolding findTable choose
+    table-other n = rw (from-on ts t noTable l, ne-eqb (tableAt ts t .topic) p n, and-false (leb from t))
 
 -- ## Mandatory tables
 
 -- none before the first
 between-none : (p from to n : ℕ) (ts : List Table) → to ≤ n → mandatoryBetween p from to n ts ≡ false
-unfolding mandatoryBetween
-between-none p from to n [] l = refl
-between-none p from to n (t ∷ ts) l = rw (le-ltb n to l, and-false (leb from n), between-none p from to (n + 1) ts (omega arith))
+between-none p from to n ts l = none-mandatory p from to n ts (λ j a b d e. absurd (omega arith))
 
 -- one table more
 between-more : (p from n : ℕ) (ts : List Table) (i : ℕ) → i < length ts
@@ -103,28 +127,37 @@ between-more p from n (t ∷ ts) (suc i) l =
     let ih = between-more p from (n + 1) ts i (omega arith) in
     rw (e, lt-ltb n (n + 1 + i + 1) (omega arith), lt-ltb n (n + 1 + i) (omega arith), ih) (sym (or-assoc (leb from n && true && eqb (t .topic) p && not (t .optional)) _ _))
 
+-- all tables, up to any number behind them
+between-all : (p from to n : ℕ) (ts : List Table) → n + length ts ≤ to → mandatoryBetween p from to n ts ≡ mandatoryBetween p from (n + length ts) n ts
+unfolding mandatoryBetween
+between-all p from to n [] l = refl
+between-all p from to n (t ∷ ts) l =
+    let e : n + 1 + length ts ≡ n + suc (length ts) = omega arith in
+    let ih = rw e at (between-all p from to (n + 1) ts (omega arith)) in
+    rw (lt-ltb n to (omega arith), lt-ltb n (n + suc (length ts)) (omega arith), ih)
+
 module _ (p from : ℕ) (ts : List Table) where
-  pub owed-more : (t : ℕ) → t < length ts
-      → mandatoryBetween p from (t + 1) 0 ts ≡ (mandatoryBetween p from t 0 ts || (leb from t && eqb (tableAt ts t .topic) p && not (tableAt ts t .optional)))
-  owed-more t l = rw (zero-add t) at (between-more p from 0 ts t l)
+  pub owed-start : mandatoryBetween p from from 0 ts ≡ false
+  owed-start = none-mandatory p from from 0 ts (λ j a b d e. absurd (omega arith))
 
-  -- tables of other topics are not owed
-  pub owed-other : (t : ℕ) → t < length ts → (leb from t ≡ true → eqb (tableAt ts t .topic) p ≡ false) → mandatoryBetween p from (t + 1) 0 ts ≡ mandatoryBetween p from t 0 ts
-  owed-other t l h = owed-more t l ∙ go (leb from t) h
-    where
-      go : (x : Bool) → (x ≡ true → eqb (tableAt ts t .topic) p ≡ false) → (mandatoryBetween p from t 0 ts || (x && eqb (tableAt ts t .topic) p && not (tableAt ts t .optional))) ≡ mandatoryBetween p from t 0 ts
-      go true f = rw (f refl, or-false (mandatoryBetween p from t 0 ts))
-      go false f = or-false (mandatoryBetween p from t 0 ts)
+  pub owed-end : (t : ℕ) → length ts ≤ t → mandatoryBetween p from t 0 ts ≡ mandatoryBetween p from (length ts) 0 ts
+  owed-end t l = rw (zero-add (length ts)) at (between-all p from t 0 ts (omega arith))
 
-  pub owed-start : (t : ℕ) → t ≤ length ts → ((n : ℕ) → from ≤ n → n < t → eqb (tableAt ts n .topic) p ≡ false) → mandatoryBetween p from t 0 ts ≡ false
-  owed-start zero l h = between-none p from 0 0 ts (omega arith)
-  owed-start (suc t) l h =
-      let e = owed-other t (omega arith) (λ x. h t (leb-true from t x) (omega arith)) in
-      rw (add-one t) at (e ∙ owed-start t (omega arith) (λ n g b. h n g (omega arith)))
+  module _ (t : ℕ) (l : t < length ts) where
+    owed-next : mandatoryBetween p from (t + 1) 0 ts ≡ (mandatoryBetween p from t 0 ts || (leb from t && eqb (tableAt ts t .topic) p && not (tableAt ts t .optional)))
+    owed-next = rw (zero-add t) at (between-more p from 0 ts t l)
 
-  pub owed-end : (d t : ℕ) → t + d ≡ length ts → ((n : ℕ) → t ≤ n → n < length ts → eqb (tableAt ts n .topic) p ≡ false)
-      → mandatoryBetween p from (length ts) 0 ts ≡ mandatoryBetween p from t 0 ts
-  owed-end zero t l h = let e : length ts ≡ t = omega arith in ap (λ (x : ℕ). mandatoryBetween p from x 0 ts) e
-  owed-end (suc d) t l h =
-      owed-end d (t + 1) (omega arith) (λ n g b. h n (omega arith) b)
-      ∙ owed-other t (omega arith) (λ x. h t (omega arith) (omega arith))
+    -- a table of the topic, and one of another
+    pub owed-more : (owed optional : Bool) → from ≤ t → tableAt ts t .topic ≡ p → owed ≡ mandatoryBetween p from t 0 ts → optional ≡ tableAt ts t .optional
+        → (owed || not optional) ≡ mandatoryBetween p from (t + 1) 0 ts
+    owed-more owed optional g e old o = rw (old, o) (sym (rw (le-leb from t g, eq-eqb (tableAt ts t .topic) p e) at owed-next))
+
+    pub owed-other : (owed : Bool) → (tableAt ts t .topic ≡ p → ⊥) → owed ≡ mandatoryBetween p from t 0 ts → owed ≡ mandatoryBetween p from (t + 1) 0 ts
+    owed-other owed n old = old ∙ sym (rw (ne-eqb (tableAt ts t .topic) p n, and-false (leb from t), or-false (mandatoryBetween p from t 0 ts)) at owed-next)
+
+-- the table found, by whether a mandatory one was passed
+pub table-found : (m : Model) (p from : ℕ) (name : List ℕ) (t : ℕ) (owed : Bool) → t < length (m .tables) → findTable p from 0 name (m .tables) ≡ found t
+    → owed ≡ mandatoryBetween p from t 0 (m .tables) → FoundTable m p from name (foundAt t owed)
+unfolding foundAt
+table-found m p from name t true l f o = record { table = t; at = record { found = f; inside = l; owed = sym o } }
+table-found m p from name t false l f o = record { found = f; inside = l; owed = sym o }

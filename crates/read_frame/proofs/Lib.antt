@@ -2,5 +2,5 @@ pub mod Words
 pub mod Heads
 pub mod Moves
 pub mod Finds
-pub mod Walks
-pub mod Rows
+pub mod TopicLines
+pub mod TableLines

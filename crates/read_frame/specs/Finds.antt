@@ -1,4 +1,4 @@
--- The topics and tables that lines name: what is found, and what a line that begins a topic or a table makes of its fields.
+-- The topics and tables that lines name: what is found, and what a line that begins one makes of its fields.
 use Prim.Native.Nat.{ℕ, _+_, _<_}
 use mathlib.Core.Path.{_≡_}
 use mathlib.Core.Bool.{Bool, true, false, not}
@@ -7,7 +7,8 @@ use lib.ListN.{length}
 use Rattle.meaning.specs.Bytes.{refuse}
 use Rattle.meaning.specs.Model.{Model, Found, found, missing}
 use Rattle.meaning.specs.Field.{Field, fieldAt, moreThan}
-use Rattle.meaning.specs.Reading.{Content, findTopic, findTable, mandatoryBetween, withMark, topicFrom, tableFrom, objectOf}
+use Rattle.meaning.specs.Reading.{Content, withMark, topicFrom, tableFrom, objectOf}
+use Rattle.meaning.specs.Reading.{findTopic, findTable, mandatoryBetween}
 use Rattle.meaning.specs.Lines.{Step, go, no, afterFound}
 use Rattle.read_frame.specs.declared.topics.TopicFound.{TopicFound}
 use Rattle.read_frame.specs.declared.topics.TopicFound.the-variants.{At, Missing}

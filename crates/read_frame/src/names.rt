@@ -1,6 +1,5 @@
 // "Topic and table names compare by their first 24 bytes".
 ghost use mathlib.Core.Path.{_≡_};
-ghost use Prim.Native.Nat.{min};
 ghost use Rattle.meaning.specs.Reading.{sameName};
 use base::compare;
 use base::numbers;

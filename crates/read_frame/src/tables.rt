@@ -155,7 +155,8 @@ pub fn table_line(
 ) -> Moved
     requires { ⌜ Placed (now model) shape (now places) ⌝ }
     requires { ⌜ topic < shape .topics ⌝ }
-    ensures meant { λ r. ⌜ ((rooms : Rooms) (text : List ℕ) (s : ℕ) (c : Content) → let m = modelAt (now (model .entry)) in
+    ensures meant { λ r. ⌜ ((rooms : Rooms) (text : List ℕ) (s : ℕ) (c : Content) →
+        let m = modelAt (now (model .entry)) in
         markedOf (now (model .entry)) (length (m .topics)) r c
         ≡ tableLine m rooms text topic from (fieldsOf s (now (l .entry))) c) ⌝ }
     ensures held { λ r. ⌜ MovedHolds (modelAt (now (model .entry))) (now (model .entry)) r ⌝ }
@@ -174,7 +175,8 @@ pub fn table_line(
 pub fn behind_objects(model: &[u8], places: &[usize], shape: Shape, l: &[u8], table: usize) -> Moved
     requires { ⌜ Placed (now model) shape (now places) ⌝ }
     requires { ⌜ table < shape .tables ⌝ }
-    ensures meant { λ r. ⌜ ((rooms : Rooms) (text : List ℕ) (s : ℕ) (c : Content) → let m = modelAt (now (model .entry)) in
+    ensures meant { λ r. ⌜ ((rooms : Rooms) (text : List ℕ) (s : ℕ) (c : Content) →
+        let m = modelAt (now (model .entry)) in
         movedOf (now (model .entry)) r c ≡ behindObjects m rooms text table (fieldsOf s (now (l .entry))) c) ⌝ }
     ensures held { λ r. ⌜ MovedHolds (modelAt (now (model .entry))) (now (model .entry)) r ⌝ }
 {

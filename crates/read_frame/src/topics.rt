@@ -1,7 +1,7 @@
 // Topics: the topic that a line names, and the lines that begin a topic or end the model.
 ghost use mathlib.Core.Path.{_≡_};
 ghost use mathlib.Core.List.{List};
-ghost use Prim.Native.Nat.{ℕ, _+_, _≤_};
+ghost use Prim.Native.Nat.{ℕ, _≤_};
 ghost use lib.ListN.{length};
 ghost use Rattle.meaning.specs.Field.{fieldsOf};
 ghost use Rattle.meaning.specs.Reading.{Content, Rooms, sameName, findTopic};
@@ -81,7 +81,8 @@ fn begin_topic(model: &[u8], places: &[usize], shape: Shape, rest: &[u8], from: 
 // TOPI of topic `from` or a later one, or EMOD.
 pub fn topic_line(model: &[u8], places: &[usize], shape: Shape, l: &[u8], from: usize) -> Moved
     requires { ⌜ Placed (now model) shape (now places) ⌝ }
-    ensures meant { λ r. ⌜ ((rooms : Rooms) (text : List ℕ) (s : ℕ) (c : Content) → let m = modelAt (now (model .entry)) in
+    ensures meant { λ r. ⌜ ((rooms : Rooms) (text : List ℕ) (s : ℕ) (c : Content) →
+        let m = modelAt (now (model .entry)) in
         markedOf (now (model .entry)) (length (m .topics)) r c
         ≡ topicLine m rooms text from (fieldsOf s (now (l .entry))) c) ⌝ }
     ensures held { λ r. ⌜ MovedHolds (modelAt (now (model .entry))) (now (model .entry)) r ⌝ }

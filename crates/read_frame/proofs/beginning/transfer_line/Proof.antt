@@ -1,5 +1,5 @@
 -- `read_frame::transfer_line` meets its contract. Assumes nothing.
-use Rattle.read_frame.proofs.Walks.{transfer-named, transfer-motr, transfer-other}
+use Rattle.read_frame.proofs.TopicLines.{transfer-named, transfer-motr, transfer-other}
 use Rattle.read_frame.proofs.Moves.{named-holds, nothing-read}
 use Rattle.read_frame.specs.Moves.{MovedHolds}
 use Rattle.model_records.proofs.Types.{payload-part}

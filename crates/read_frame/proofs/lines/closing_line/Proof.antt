@@ -1,7 +1,7 @@
 -- `read_frame::closing_line` meets its contract. Assumes nothing.
 use Rattle.read_frame.proofs.Moves.{alone-moved, alone-holds, nothing-read}
 use Rattle.read_frame.specs.Moves.{MovedHolds}
-use Rattle.read_state.specs.Meaning.{dueOf, movedOf}
+use Rattle.read_state.specs.Meaning.{frameDueOf, dueOf, movedOf}
 use Rattle.read_state.specs.declared.Moved.{Moved}
 use Rattle.meaning.specs.Field.{fieldsOf, ENDE}
 use Rattle.meaning.specs.Lines.{closingLine}
@@ -14,7 +14,7 @@ alone-line-requires : tie.Need-alone-line-requires
 alone-line-requires c κs = search needs
 
 returns : tie.Need-returns
-unfolding closingLine dueOf
+unfolding closingLine frameDueOf dueOf
 returns c = let l = c .before .before .args .l .now in
     let e = c .alone-line .ensures in (
       (λ m rooms text b s k. ap (λ (x : Moved). movedOf b x k) (e s 15 refl) ∙ alone-moved b k ENDE (fieldsOf s l) _),

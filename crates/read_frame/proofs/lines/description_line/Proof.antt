@@ -3,7 +3,7 @@ use mathlib.Core.Bool.{true, false}
 use Rattle.meaning.specs.Bytes.{choose, prefix}
 use Rattle.read_frame.proofs.Moves.{alone-moved, alone-holds, nothing-read}
 use Rattle.read_frame.specs.Moves.{MovedHolds}
-use Rattle.read_state.specs.Meaning.{dueOf, movedOf}
+use Rattle.read_state.specs.Meaning.{frameDueOf, dueOf, movedOf}
 use Rattle.read_state.specs.declared.Moved.{Moved}
 use Rattle.meaning.specs.Field.{fieldsOf, slashes}
 use Rattle.meaning.specs.Lines.{descriptionLine}
@@ -22,7 +22,7 @@ alone-line-requires : tie.Need-alone-line-requires
 alone-line-requires c κs = search needs
 
 returns : tie.Need-returns
-unfolding descriptionLine dueOf choose
+unfolding descriptionLine frameDueOf dueOf choose
 returns c = let l = c .before .before .before .before .before .args .l .now in
     let e = c .alone-line .ensures in
     let p : prefix slashes l ≡ true = sym (c .before .before .begins-with .ensures) ∙ c .before .if1 .taken in (
@@ -31,7 +31,7 @@ returns c = let l = c .before .before .before .before .before .args .l .now in
     )
 
 returns-2 : tie.Need-returns-2
-unfolding descriptionLine dueOf choose
+unfolding descriptionLine frameDueOf dueOf choose
 returns-2 c = let l = c .before .before .before .before .args .l .now in
     let p : prefix slashes l ≡ false = sym (c .before .begins-with .ensures) ∙ c .if1 .left in
     ((λ m rooms text b s k. rw p), (λ m b rows n used points. tt))

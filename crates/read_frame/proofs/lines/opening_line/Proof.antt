@@ -1,7 +1,7 @@
 -- `read_frame::opening_line` meets its contract. Assumes nothing.
 use Rattle.read_frame.proofs.Moves.{alone-moved, alone-holds, nothing-read}
 use Rattle.read_frame.specs.Moves.{MovedHolds}
-use Rattle.read_state.specs.Meaning.{dueOf, movedOf}
+use Rattle.read_state.specs.Meaning.{frameDueOf, dueOf, movedOf}
 use Rattle.read_state.specs.declared.Moved.{Moved}
 use Rattle.meaning.specs.Field.{fieldsOf, SCNT}
 use Rattle.meaning.specs.Lines.{openingLine}
@@ -14,7 +14,7 @@ alone-line-requires : tie.Need-alone-line-requires
 alone-line-requires c κs = search needs
 
 returns : tie.Need-returns
-unfolding openingLine dueOf
+unfolding openingLine frameDueOf dueOf
 returns c = let l = c .before .before .args .l .now in
     let e = c .alone-line .ensures in (
       (λ m rooms text b s k. ap (λ (x : Moved). movedOf b x k) (e s 0 refl) ∙ alone-moved b k SCNT (fieldsOf s l) _),

@@ -1,5 +1,5 @@
 -- `read_frame::same_name` meets its contract. Assumes nothing.
-use Rattle.read_frame.proofs.Walks.{first-bytes}
+use Rattle.read_frame.proofs.Finds.{first-bytes}
 use Rattle.meaning.specs.Reading.{sameName}
 use lib.ListN.{take, length-take}
 use Prim.Native.Nat.{ℕ}

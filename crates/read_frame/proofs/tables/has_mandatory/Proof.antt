@@ -1,44 +1,57 @@
 -- `read_frame::has_mandatory` meets its contract. Assumes nothing.
-use borrow.Author.Needs.{needs}
-use Rattle.read_frame.proofs.Rows.{WalkedTables, in-topic, only-inside, walk-start, walk-end, walk-more}
-use Rattle.model_records.proofs.Standing.{here}
+use Rattle.read_frame.proofs.Finds.{owed-start, owed-more, owed-other, owed-end}
+use Rattle.meaning.specs.Reading.{mandatoryBetween}
 use Rattle.model_records.specs.Records.{modelAt}
-use lib.ListN.{length}
-use Prim.Native.Nat.{_-_}
-use mathlib.Core.Path.{sym, _∙_}
+use borrow.Author.Needs.{needs}
+use Prim.Native.Nat.{_-_, _≤_}
+use mathlib.Core.Path.{_≡_, sym, _∙_}
+use mathlib.Core.Logic.{⊎-elim}
 use native.Mathlib.Omega.{arith}
 use Rattle.read_frame.proofs.tables.has_mandatory.Statement.{statement}
 use Rattle.read_frame.proofs.tables.has_mandatory.Tie as tie
 
+-- whether a mandatory one is among the tables before t
 abbrev Inv-loop : tie.InvT-loop
-Inv-loop model from here₀ mandatory₀ here mandatory = WalkedTables (modelAt model) model (here₀ .topics - 1) from here mandatory
+Inv-loop model places shape topic from t₀ mandatory₀ t mandatory = (from ≤ t) × (mandatory ≡ mandatoryBetween topic from t 0 (modelAt model .tables))
 
 abbrev μ-loop : tie.MeasureT-loop
-μ-loop model from here₀ mandatory₀ here mandatory = length model - here .at
+μ-loop model places shape topic from t₀ mandatory₀ t mandatory = shape .tables - t
 
 loop-holds : tie.Need-loop-holds Inv-loop μ-loop
-loop-holds c = walk-start _ _ _ _ (c .before .pre)
+loop-holds c = (omega arith, sym (owed-start _ _ _))
 
-is-in-topic-requires : tie.Need-is-in-topic-requires Inv-loop μ-loop
-is-in-topic-requires c κs = here _ _ _ _ _ ((c .loop .inv) .standing)
+topic-of-requires : tie.Need-topic-of-requires Inv-loop μ-loop
+topic-of-requires c κs = let q = c .before .before .before .before .before .pre in (q .noted .room, omega (arith, c .if1 .taken, q .tableLimit))
 
-is-mandatory-requires : tie.Need-is-mandatory-requires Inv-loop μ-loop
-is-mandatory-requires c κs = in-topic _ _ _ _ _ ((c .before .before .before .loop .inv) .standing) (sym (c .before .before .is-in-topic .ensures) ∙ c .before .if1 .taken)
+is-optional-requires : tie.Need-is-optional-requires Inv-loop μ-loop
+is-optional-requires c κs = (c .before .before .before .before .before .before .before .pre, c .before .before .if1 .taken)
 
 either-requires : tie.Need-either-requires Inv-loop μ-loop
 either-requires c κs = search needs
 
-pass-record-requires : tie.Need-pass-record-requires Inv-loop μ-loop
-pass-record-requires c κs = ((c .before .before .before .before .before .loop .inv) .standing, only-inside _ (sym (c .before .before .before .before .is-in-topic .ensures) ∙ c .before .before .before .if1 .taken) .1)
+add-t : tie.Need-add-t Inv-loop μ-loop
+add-t c = omega (arith, c .before .before .if1 .taken, c .before .before .before .before .before .before .before .pre .tableLimit)
 
 loop-less : tie.Need-loop-less Inv-loop μ-loop
-loop-less c = omega (arith, c .pass-record .ensures .at, here _ _ _ _ _ ((c .before .before .before .before .before .before .loop .inv) .standing) .room)
+loop-less c = omega (arith, c .before .before .if1 .taken)
 
 loop-again : tie.Need-loop-again Inv-loop μ-loop
-loop-again c = rw (c .before .either .ensures, c .before .before .is-mandatory .ensures) (walk-more _ _ _ _ _ _ (c .before .before .before .before .before .before .loop .inv) _ (c .pass-record .ensures) (only-inside _ (sym (c .before .before .before .before .before .is-in-topic .ensures) ∙ c .before .before .before .before .if1 .taken) .0))
+loop-again c =
+    let q = c .before .before .before .before .before .before .before .pre in
+    let i = c .before .before .before .before .loop .inv in
+    let k = c .before .before .if1 .taken in
+    let o = sym (c .before .topic-of .ensures ∙ q .noted .owner _ k) in (
+      omega (arith, i .0),
+      ⊎-elim
+          (λ w. w .3 ∙ w .2 .ensures ∙ owed-more _ _ _ _ (omega (arith, k, q .tables)) _ _ (i .0) (o ∙ w .0 .taken) (i .1) (w .1 .ensures))
+          (λ w. w .1 ∙ owed-other _ _ _ _ (omega (arith, k, q .tables)) _ (λ e. w .0 .left (sym o ∙ e)) (i .1))
+          (c .if2 .came),
+    )
 
 returns : tie.Need-returns Inv-loop μ-loop
-returns c = walk-end _ _ _ _ _ _ (c .before .before .loop .inv) (sym (c .before .is-in-topic .ensures) ∙ c .if1 .left)
+returns c =
+    let q = c .before .before .before .before .before .pre in
+    c .before .before .loop .inv .1 ∙ owed-end _ _ _ _ (omega (arith, c .if1 .left, q .tables))
 
 pub has-mandatory-spec : {M : Type 1} → statement M
 has-mandatory-spec =
@@ -47,10 +60,10 @@ has-mandatory-spec =
     Inv-loop
     μ-loop
     loop-holds
-    is-in-topic-requires
-    is-mandatory-requires
+    topic-of-requires
+    is-optional-requires
     either-requires
-    pass-record-requires
+    add-t
     loop-less
     loop-again
     returns)

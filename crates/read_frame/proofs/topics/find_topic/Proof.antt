@@ -1,43 +1,56 @@
 -- `read_frame::find_topic` meets its contract. Assumes nothing.
-use Rattle.read_frame.proofs.Walks.{WalkedTopics, topics-start, topics-end, topics-hit, topics-pass}
-use Rattle.model_records.proofs.Standing.{here}
+use Rattle.read_frame.proofs.Finds.{topic-start, topic-hit, topic-pass, topic-none}
+use Rattle.meaning.specs.Reading.{findTopic}
 use Rattle.model_records.specs.Records.{modelAt}
-use lib.ListN.{length}
-use Prim.Native.Nat.{_-_}
-use mathlib.Core.Path.{sym, _∙_}
+use lib.ListN.{drop}
+use Prim.Native.Nat.{_-_, _≤_}
+use mathlib.Core.Path.{_≡_, sym, _∙_}
 use native.Mathlib.Omega.{arith}
 use Rattle.read_frame.proofs.topics.find_topic.Statement.{statement}
 use Rattle.read_frame.proofs.topics.find_topic.Tie as tie
 
+-- no topic before p is found
 abbrev Inv-loop : tie.InvT-loop
-Inv-loop model name here₀ here = WalkedTopics (modelAt model) model (here₀ .topics) name here
+Inv-loop model places shape name from p₀ p = (from ≤ p) × (findTopic from 0 name (modelAt model .topics) ≡ findTopic from p name (drop p (modelAt model .topics)))
 
 abbrev μ-loop : tie.MeasureT-loop
-μ-loop model name here₀ here = length model - here .at
+μ-loop model places shape name from p₀ p = shape .topics - p
 
 loop-holds : tie.Need-loop-holds Inv-loop μ-loop
-loop-holds c = topics-start _ _ _ _ (c .before .before .pre)
+loop-holds c = (omega arith, topic-start _ _ _)
 
-kind-at-requires : tie.Need-kind-at-requires Inv-loop μ-loop
-kind-at-requires c κs = here _ _ _ _ _ (c .loop .inv .standing) .room
-
-returns : tie.Need-returns Inv-loop μ-loop
-returns c = topics-end _ _ _ _ _ (c .before .before .loop .inv) (sym (c .before .kind-at .ensures) ∙ c .if1 .taken)
-
-pass-record-requires : tie.Need-pass-record-requires Inv-loop μ-loop
-pass-record-requires c κs = (c .before .before .loop .inv .standing, λ e. c .if1 .left (c .before .kind-at .ensures ∙ e))
+topic-at-requires : tie.Need-topic-at-requires Inv-loop μ-loop
+topic-at-requires c κs = let q = c .before .before .before .before .before .before .pre in (q .noted .room, omega (arith, c .if1 .taken, q .topicLimit))
 
 is-topic-requires : tie.Need-is-topic-requires Inv-loop μ-loop
-is-topic-requires c κs = here _ _ _ _ _ (c .before .before .before .loop .inv .standing)
+is-topic-requires c κs = rw (c .topic-at .ensures) (c .before .before .before .before .before .before .before .pre .noted .topic _ (c .before .if1 .taken) .fits)
 
-returns-2 : tie.Need-returns-2 Inv-loop μ-loop
-returns-2 c = topics-hit _ _ _ _ _ (c .before .before .before .before .before .loop .inv) _ (c .before .before .pass-record .ensures) (sym (c .before .is-topic .ensures) ∙ c .if2 .taken)
+returns : tie.Need-returns Inv-loop μ-loop
+returns c =
+    let q = c .before .before .before .before .before .before .before .before .before .pre in
+    let i = c .before .before .before .before .before .loop .inv in
+    let l = c .before .before .before .if1 .taken in
+    let e = rw (c .before .before .topic-at .ensures, q .noted .topic _ l .name) at (sym (c .before .is-topic .ensures) ∙ c .if2 .taken) in
+    sym (i .1 ∙ topic-hit _ _ _ _ (omega (arith, l, q .topics)) (i .0) e)
+
+add-p : tie.Need-add-p Inv-loop μ-loop
+add-p c = omega (arith, c .before .before .before .if1 .taken, c .before .before .before .before .before .before .before .before .before .pre .topicLimit)
 
 loop-less : tie.Need-loop-less Inv-loop μ-loop
-loop-less c = omega (arith, c .before .before .pass-record .ensures .at, here _ _ _ _ _ (c .before .before .before .before .before .loop .inv .standing) .room)
+loop-less c = omega (arith, c .before .before .before .if1 .taken)
 
 loop-again : tie.Need-loop-again Inv-loop μ-loop
-loop-again c = topics-pass _ _ _ _ _ (c .before .before .before .before .before .loop .inv) _ (c .before .before .pass-record .ensures) (sym (c .before .is-topic .ensures) ∙ c .if2 .left)
+loop-again c =
+    let q = c .before .before .before .before .before .before .before .before .before .pre in
+    let i = c .before .before .before .before .before .loop .inv in
+    let l = c .before .before .before .if1 .taken in
+    let e = rw (c .before .before .topic-at .ensures, q .noted .topic _ l .name) at (sym (c .before .is-topic .ensures) ∙ c .if2 .left) in
+    (omega (arith, i .0), i .1 ∙ topic-pass _ _ _ _ (omega (arith, l, q .topics)) (i .0) e)
+
+returns-2 : tie.Need-returns-2 Inv-loop μ-loop
+returns-2 c =
+    let q = c .before .before .before .before .before .before .pre in
+    sym (c .before .before .loop .inv .1 ∙ topic-none _ _ _ _ (omega (arith, c .if1 .left, q .topics)))
 
 pub find-topic-spec : {M : Type 1} → statement M
 find-topic-spec =
@@ -46,10 +59,10 @@ find-topic-spec =
     Inv-loop
     μ-loop
     loop-holds
-    kind-at-requires
-    returns
-    pass-record-requires
+    topic-at-requires
     is-topic-requires
-    returns-2
+    returns
+    add-p
     loop-less
-    loop-again)
+    loop-again
+    returns-2)

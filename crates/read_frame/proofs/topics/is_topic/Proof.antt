@@ -8,9 +8,6 @@ use borrow.Author.Needs.{needs}
 use Rattle.read_frame.proofs.topics.is_topic.Statement.{statement}
 use Rattle.read_frame.proofs.topics.is_topic.Tie as tie
 
-kind-at-requires : tie.Need-kind-at-requires
-kind-at-requires c κs = search needs
-
 next-at-requires : tie.Need-next-at-requires
 next-at-requires c κs = search needs
 
@@ -29,26 +26,21 @@ part-same-name-end c = search needs
 same-name-requires : tie.Need-same-name-requires
 same-name-requires c κs = search needs
 
-both-requires : tie.Need-both-requires
-both-requires c κs = search needs
-
 returns : tie.Need-returns
-returns c = let a = c .before .before .before .before .before .before .before in
-    let b = a .args .model .now in
-    let k = c .before .before .before .before .kind-at .ensures in
-    let n = ap (λ (x : ℕ). take (x - (a .args .at + 4)) (drop (a .args .at + 4) b)) (c .before .before .before .next-at .ensures) ∙ payload-part b (a .args .at) 0 (a .args .at + 4) (omega arith) in
-    rw (c .before .same-name .ensures, n, k) at (c .both .ensures)
+returns c =
+    let a = c .before .before .before .before .before .args in
+    let b = a .model .now in
+    let n = ap (λ (x : ℕ). take (x - (a .at + 4)) (drop (a .at + 4) b)) (c .before .before .next-at .ensures) ∙ payload-part b (a .at) 0 (a .at + 4) (omega arith) in
+    rw n at (c .same-name .ensures)
 
 pub is-topic-spec : {M : Type 1} → statement M
 is-topic-spec =
     tie.close
     (tie.spec
-    kind-at-requires
     next-at-requires
     add-same-name
     sub-same-name
     part-same-name-start
     part-same-name-end
     same-name-requires
-    both-requires
     returns)

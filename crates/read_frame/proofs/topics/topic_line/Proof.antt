@@ -1,5 +1,5 @@
 -- `read_frame::topic_line` meets its contract. Assumes nothing.
-use Rattle.read_frame.proofs.Walks.{model-closed, topic-opened, topic-other}
+use Rattle.read_frame.proofs.TopicLines.{model-closed, topic-opened, topic-other}
 use Rattle.read_frame.proofs.Moves.{holds-refuse}
 use Rattle.read_frame.specs.Moves.{endIn, MovedHolds}
 use Rattle.model_records.specs.Records.{modelAt}
@@ -40,7 +40,7 @@ begin-topic-requires c κs = search needs
 
 returns : tie.Need-returns
 unfolding endIn
-returns c = let a = c .before .before .before .before .before .before .args in
+returns c = let a = c .before .before .before .before .before .before .before .args in
     let h = c .before .before .before .head-of in
     let k = rw (to-end (a .l .now) (h .result .behind)) at (c .end-line .ensures) in (
       (λ rooms text s x. model-closed _ rooms text _ _ (a .l .now) (h .result) (h .ensures) _ x s (c .before .before .match .keys1) k),
@@ -48,13 +48,13 @@ returns c = let a = c .before .before .before .before .before .before .args in
     )
 
 returns-2 : tie.Need-returns-2
-returns-2 c = let a = c .before .before .before .before .before .before .args in
+returns-2 c = let a = c .before .before .before .before .before .before .before .args in
     let h = c .before .before .before .head-of in
     let k = rw (to-end (a .l .now) (h .result .behind)) at (c .begin-topic .ensures .0) in
     ((λ rooms text s x. topic-opened _ rooms text (a .model .now) _ (a .l .now) (h .result) (h .ensures) (c .begin-topic .result) x s (c .before .before .match .keys2) k), c .begin-topic .ensures .1)
 
 returns-3 : tie.Need-returns-3
-returns-3 c = let a = c .before .before .before .before .args in
+returns-3 c = let a = c .before .before .before .before .before .args in
     let h = c .before .head-of in
     let r = c .match .rest in
     ((λ rooms text s x. topic-other _ rooms text (a .model .now) _ (a .l .now) (h .result) (h .ensures) (No 7 1) x s (r .0 .1) (r .1)), tt)
