@@ -74,7 +74,8 @@ fn line(file: &mut Vec<u8>, l: &str, number: usize) {
     file.push(b'\n');
 }
 
-// So many nodes and as many pipes, a third of the lines cut. Pipe i refers to node `step` times i: with 1 to the node where its line begins.
+// So many nodes and as many pipes, a third of the lines cut. Pipe i refers to node `step` times i: with 1 to the node
+// where its line begins.
 pub fn network_file(n: usize, step: usize) -> Vec<u8> {
     let (mut f, mut k) = (HEAD.to_vec(), 0);
     let mut add = |f: &mut Vec<u8>, l: String| {
@@ -82,7 +83,8 @@ pub fn network_file(n: usize, step: usize) -> Vec<u8> {
         k += 1;
     };
     for i in 0..n {
-        add(&mut f, format!("OBJE n{i} chamber-{} {}.{:02} {}.{:02}", i % 977, 480000 + i % 300000, i % 100, 70000 + i % 200000, i * 7 % 100));
+        let (east, north) = (480000 + i % 300000, 70000 + i % 200000);
+        add(&mut f, format!("OBJE n{i} chamber-{} {east}.{:02} {north}.{:02}", i % 977, i % 100, i * 7 % 100));
     }
     f.extend(b"ETAB\nTABL Pipe\n");
     for i in 0..n {

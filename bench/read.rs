@@ -36,15 +36,16 @@ fn proved(model: &[u8], file: &[u8], seed: u64, r: &mut Rooms) -> [u64; 4] {
     let mut answer = [0u64; 4];
     unsafe {
         vendorfinch_read(
-            model.as_ptr(), model.len(), file.as_ptr(), file.len(), r.text.as_mut_ptr(), r.text.len(), r.marks.as_mut_ptr(), r.marks.len(),
-            r.rows.as_mut_ptr(), r.rows.len(), r.cells.as_mut_ptr(), r.cells.len(), r.points.as_mut_ptr(), r.points.len(),
-            r.index.as_mut_ptr(), r.index.len(), seed, answer.as_mut_ptr(), 4,
+            model.as_ptr(), model.len(), file.as_ptr(), file.len(), r.text.as_mut_ptr(), r.text.len(),
+            r.marks.as_mut_ptr(), r.marks.len(), r.rows.as_mut_ptr(), r.rows.len(), r.cells.as_mut_ptr(), r.cells.len(),
+            r.points.as_mut_ptr(), r.points.len(), r.index.as_mut_ptr(), r.index.len(), seed, answer.as_mut_ptr(), 4,
         )
     };
     answer
 }
 
-// Identifications that stand in one chain of so many heads under seed 0, whose factor is the library's: the last byte, no mark, is chosen for that.
+// Identifications that stand in one chain of so many heads under seed 0, whose factor is the library's: the last byte,
+// no mark, is chosen for that.
 fn colliding(n: usize, heads: u64) -> Vec<String> {
     let k = 663608941 + 1;
     let fold = |h: u64, b: u64| (h * k + b) / 2147483648 + (h * k + b) % 2147483648;
@@ -132,12 +133,17 @@ fn plain(file: &[u8]) -> Option<Plain> {
     let mut ids: HashMap<&[u8], (i64, i64)> = HashMap::new();
     let mut references: Vec<(usize, &[u8])> = Vec::new();
     let start = |s: &[u8]| (s.as_ptr() as usize - text.as_ptr() as usize) as i64;
-    let mut lines = text.split(|&b| b == b'\n').map(|l| l.split(|&b| b == b' ' || b == b'\t').filter(|f| !f.is_empty()).collect::<Vec<_>>());
+    let mut lines = text
+        .split(|&b| b == b'\n')
+        .map(|l| l.split(|&b| b == b' ' || b == b'\t').filter(|f| !f.is_empty()).collect::<Vec<_>>());
     if lines.next()? != [b"SCNT"] {
         return None;
     }
     while lines.next()? != [b"////"] {}
-    if lines.next()? != [b"MTID".as_slice(), b"Network"] || lines.next()? != [b"MODL".as_slice(), b"Water"] || lines.next()? != [b"TOPI".as_slice(), b"Pipes"] {
+    if lines.next()? != [b"MTID".as_slice(), b"Network"]
+        || lines.next()? != [b"MODL".as_slice(), b"Water"]
+        || lines.next()? != [b"TOPI".as_slice(), b"Pipes"]
+    {
         return None;
     }
     for (table, name) in [b"Node", b"Pipe"].into_iter().enumerate() {
@@ -213,10 +219,14 @@ fn compare(name: &str, objects: usize, step: usize, turns: usize) -> f64 {
         let (t, answer) = milliseconds(|| proved(&model, &file, 20261115, &mut rooms));
         assert_eq!(answer, [0, 2 * objects as u64, 18 * objects as u64, 3 * objects as u64]);
         let (s, table) = milliseconds(|| plain(&file).unwrap());
-        assert!(table.rows == rooms.rows && table.cells == rooms.cells && table.points == rooms.points && table.text == rooms.text[..table.text.len()]);
+        assert!(table.rows == rooms.rows && table.cells == rooms.cells && table.points == rooms.points);
+        assert!(table.text == rooms.text[..table.text.len()]);
         (ours, theirs) = (ours.min(t), theirs.min(s));
     }
-    println!("{name}: {} bytes, {} objects: proved {ours:.1} ms; plain Rust {theirs:.1} ms, ratio {:.2}", file.len(), 2 * objects, ours / theirs);
+    println!(
+        "{name}: {} bytes, {} objects: proved {ours:.1} ms; plain Rust {theirs:.1} ms, ratio {:.2}",
+        file.len(), 2 * objects, ours / theirs,
+    );
     ours
 }
 
@@ -263,6 +273,8 @@ fn main() {
     for seed in [0, 20261115] {
         let mut rooms = Rooms::new(file.len(), 40_000, 200_000, 0);
         let (t, answer) = milliseconds(|| proved(&model, &file, seed, &mut rooms));
-        println!("40,000 identifications of one chain under seed 0, read under seed {seed}: answer {answer:?}, {t:.0} ms");
+        println!(
+            "40,000 identifications of one chain under seed 0, read under seed {seed}: answer {answer:?}, {t:.0} ms"
+        );
     }
 }

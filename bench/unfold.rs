@@ -175,6 +175,10 @@ fn main() {
             }
         }
         let [ours, lines, bytes] = least;
-        println!("{name}: proved {ours:.2} ms; Rust by lines {lines:.2} ms, ratio {:.2}; Rust by bytes {bytes:.2} ms, ratio {:.2}", ours / lines, ours / bytes);
+        println!(
+            "{name}: proved {ours:.2} ms; Rust by lines {lines:.2} ms, ratio {:.2}; Rust by bytes {bytes:.2} ms, \
+             ratio {:.2}",
+            ours / lines, ours / bytes,
+        );
     }
 }

@@ -1,5 +1,6 @@
-/* Asks the proved library every case of a file that tests/oracle/for_c.py wrote (its layout stands there), and compares each answer and the whole content of
- * each room with what the independent implementation answers. Its exit status is 0 only where all agree. */
+/* Asks the proved library every case of a file that tests/oracle/for_c.py wrote (its layout stands there), and compares
+ * each answer and the whole content of each room with what the independent implementation answers. Its exit status is 0
+ * only where all agree. */
 #include "vendorfinch.h"
 #include "kit/calls.h"
 
@@ -58,21 +59,24 @@ static int holds(int which)
     return used <= end && memcmp(got, expected, used) == 0 && all(got, used, end, 0) && all(got, end, end + 8, 1);
 }
 
-static int unfolds(const uint8_t *model, size_t model_length, const uint8_t *file, size_t file_length, uint64_t expected, uint64_t *got)
+static int unfolds(const uint8_t *model, size_t model_length, const uint8_t *file, size_t file_length,
+                   uint64_t expected, uint64_t *got)
 {
     lend(TEXT);
     *got = vendorfinch_unfold(model, model_length, file, file_length, room[TEXT], length[TEXT]);
     return holds(TEXT) && *got == expected;
 }
 
-static int reads(const uint8_t *model, size_t model_length, const uint8_t *file, size_t file_length, uint64_t expected, uint64_t *got)
+static int reads(const uint8_t *model, size_t model_length, const uint8_t *file, size_t file_length,
+                 uint64_t expected, uint64_t *got)
 {
     for (int which = TEXT; which <= ANSWER; which++)
         lend(which);
     uint64_t seed = number(8);
-    *got = vendorfinch_read(model, model_length, file, file_length, room[TEXT], length[TEXT], room[MARKS], length[MARKS], (uint64_t *)room[ROWS],
-                            length[ROWS], (int64_t *)room[CELLS], length[CELLS], (int64_t *)room[POINTS], length[POINTS], (uint64_t *)room[INDEX],
-                            length[INDEX], seed, (uint64_t *)room[ANSWER], length[ANSWER]);
+    *got = vendorfinch_read(model, model_length, file, file_length, room[TEXT], length[TEXT],
+                            room[MARKS], length[MARKS], (uint64_t *)room[ROWS], length[ROWS],
+                            (int64_t *)room[CELLS], length[CELLS], (int64_t *)room[POINTS], length[POINTS],
+                            (uint64_t *)room[INDEX], length[INDEX], seed, (uint64_t *)room[ANSWER], length[ANSWER]);
     int same = *got == expected && all(room[INDEX], 0, 8 * length[INDEX], 0);
     for (int which = TEXT; which < INDEX; which++)
         same &= holds(which);
@@ -88,9 +92,11 @@ static int writes(const uint8_t *model, size_t model_length, uint64_t expected, 
     lend(INDEX);
     lend(ANSWER);
     uint64_t seed = number(8);
-    *got = vendorfinch_write(model, model_length, room[TEXT], length[TEXT], room[MARKS], length[MARKS], (uint64_t *)room[ROWS], length[ROWS],
-                             (int64_t *)room[CELLS], length[CELLS], (int64_t *)room[POINTS], length[POINTS], objects, cells_used, points_used, width,
-                             room[OUT], length[OUT], (uint64_t *)room[INDEX], length[INDEX], seed, (uint64_t *)room[ANSWER], length[ANSWER]);
+    *got = vendorfinch_write(model, model_length, room[TEXT], length[TEXT], room[MARKS], length[MARKS],
+                             (uint64_t *)room[ROWS], length[ROWS], (int64_t *)room[CELLS], length[CELLS],
+                             (int64_t *)room[POINTS], length[POINTS], objects, cells_used, points_used, width,
+                             room[OUT], length[OUT], (uint64_t *)room[INDEX], length[INDEX],
+                             seed, (uint64_t *)room[ANSWER], length[ANSWER]);
     int same = *got == expected && all(room[INDEX], 0, 8 * length[INDEX], 0);
     for (int which = TEXT; which <= POINTS; which++)
         same &= memcmp(room[which], given[which], length[which] * size_of[which]) == 0;
@@ -124,11 +130,12 @@ int main(int count, char **names)
         compared[call]++;
         if (!same) {
             wrong++;
-            printf("%.*s: %llu %llu, expected %llu %llu\n", (int)name, what, (unsigned long long)(got % 256), (unsigned long long)(got / 256),
+            printf("%.*s: %llu %llu, expected %llu %llu\n", (int)name, what,
+                   (unsigned long long)(got % 256), (unsigned long long)(got / 256),
                    (unsigned long long)(expected % 256), (unsigned long long)(expected / 256));
         }
     }
-    printf("cases: %d of the check, %d of unfolding, %d of reading, %d of writing compared, %d wrong\n", compared[0], compared[1], compared[2], compared[3],
-           wrong);
+    printf("cases: %d of the check, %d of unfolding, %d of reading, %d of writing compared, %d wrong\n",
+           compared[0], compared[1], compared[2], compared[3], wrong);
     return wrong != 0 || compared[0] == 0 || compared[1] == 0 || compared[2] == 0 || compared[3] == 0;
 }

@@ -40,7 +40,8 @@ static void holds(const char *what, const uint8_t *got, const uint8_t *expected,
 static void refused(const char *what, const char *bytes, size_t room, uint64_t number, uint64_t second)
 {
     memset(text, 1, room);
-    same(what, vendorfinch_unfold(model, model_length, (const uint8_t *)bytes, strlen(bytes), text, room), number, second);
+    same(what, vendorfinch_unfold(model, model_length, (const uint8_t *)bytes, strlen(bytes), text, room),
+         number, second);
     holds(what, text, zeros, room);
 }
 
@@ -114,8 +115,8 @@ static uint64_t rows[8], links[32], answer[8];
 static int64_t cells[32], points[32];
 
 /* Reads `bytes` into buffers of these lengths that were full of ones. */
-static uint64_t read_into(const uint8_t *bytes, size_t length, size_t text_room, size_t mark_room, size_t row_room, size_t cell_room, size_t point_room,
-                          size_t index_room, size_t answer_room)
+static uint64_t read_into(const uint8_t *bytes, size_t length, size_t text_room, size_t mark_room, size_t row_room,
+                          size_t cell_room, size_t point_room, size_t index_room, size_t answer_room)
 {
     memset(text, 1, sizeof text);
     memset(marks, 1, sizeof marks);
@@ -124,8 +125,8 @@ static uint64_t read_into(const uint8_t *bytes, size_t length, size_t text_room,
     memset(points, 1, sizeof points);
     memset(links, 1, sizeof links);
     memset(answer, 1, sizeof answer);
-    return vendorfinch_read(model, model_length, bytes, length, text, text_room, marks, mark_room, rows, row_room, cells, cell_room, points, point_room, links,
-                            index_room, 20260101, answer, answer_room);
+    return vendorfinch_read(model, model_length, bytes, length, text, text_room, marks, mark_room, rows, row_room,
+                            cells, cell_room, points, point_room, links, index_room, 20260101, answer, answer_room);
 }
 
 static void numbers(const char *what, uint64_t first, uint64_t second, uint64_t third, uint64_t fourth)
@@ -134,7 +135,8 @@ static void numbers(const char *what, uint64_t first, uint64_t second, uint64_t 
     holds(what, (const uint8_t *)answer, (const uint8_t *)expected, sizeof expected);
 }
 
-static void read_refused(const char *what, const uint8_t *bytes, size_t length, size_t rooms[5], uint64_t number, uint64_t first, uint64_t second)
+static void read_refused(const char *what, const uint8_t *bytes, size_t length, size_t rooms[5],
+                         uint64_t number, uint64_t first, uint64_t second)
 {
     same(what, read_into(bytes, length, rooms[0], rooms[1], rooms[2], rooms[3], rooms[4], 32, 8), number, first);
     numbers(what, number, first, second, 0);
@@ -172,7 +174,8 @@ static void read_sample(void)
 
 static void refuse_reading(void)
 {
-    size_t rooms[6][5] = {{200, 8, 8, 32, 32}, {168, 8, 8, 32, 32}, {200, 2, 8, 32, 32}, {200, 8, 1, 32, 32}, {200, 8, 8, 17, 32}, {200, 8, 8, 32, 11}};
+    size_t rooms[6][5] = {{200, 8, 8, 32, 32}, {168, 8, 8, 32, 32}, {200, 2, 8, 32, 32},
+                          {200, 8, 1, 32, 32}, {200, 8, 8, 17, 32}, {200, 8, 8, 32, 11}};
     uint8_t other[200];
     read_refused("reading an empty file", file, 0, rooms[0], 7, 1, 1);
     read_refused("one byte of text too few", file, file_length, rooms[1], 6, 0, 0);
@@ -227,11 +230,13 @@ static uint64_t write_from(const struct table *t, size_t width, size_t out_room,
     memset(out, 1, sizeof out);
     memset(links, 1, sizeof links);
     memset(answer, 1, sizeof answer);
-    return vendorfinch_write(model, model_length, t->text, 200, t->marks, 8, t->rows, 8, t->cells, 32, t->points, 32, t->objects, t->cells_used, t->points_used,
-                             width, out, out_room, links, index_room, 20260101, answer, answer_room);
+    return vendorfinch_write(model, model_length, t->text, 200, t->marks, 8, t->rows, 8, t->cells, 32, t->points, 32,
+                             t->objects, t->cells_used, t->points_used, width, out, out_room,
+                             links, index_room, 20260101, answer, answer_room);
 }
 
-static void writes(const char *what, const struct table *t, size_t width, size_t index_room, const uint8_t *expected, size_t length)
+static void writes(const char *what, const struct table *t, size_t width, size_t index_room,
+                   const uint8_t *expected, size_t length)
 {
     same(what, write_from(t, width, 256, index_room, 8), 0, length);
     numbers(what, 0, length, 0, 0);
@@ -278,7 +283,8 @@ static struct table moved_in_text(const struct table *t)
     return moved;
 }
 
-/* The sample written, read again and written again. Its one line above 16 bytes, from byte 46 on, is cut behind its 15th byte. */
+/* The sample written, read again and written again. Its one line above 16 bytes, from byte 46 on, is cut behind its
+ * 15th byte. */
 static void write_sample(void)
 {
     static const size_t widths[5] = {16, 20, 21, 80, 65535}, cuts[5] = {15, 19, 0, 0, 0};
@@ -368,16 +374,20 @@ static void write_counts(void)
         same("writing, a short answer", write_from(&t, 80, 256, 32, room), 0, 169);
         holds("writing, a short answer", (const uint8_t *)answer, (const uint8_t *)four, sizeof four);
     }
-    same("writing under a bad model", vendorfinch_write(model, 186, t.text, 200, t.marks, 8, t.rows, 8, t.cells, 32, t.points, 32, 3, 19, 4, 15, out, 256, links,
-                                                        32, 0, answer, 8), 2, 186);
+    same("writing under a bad model",
+         vendorfinch_write(model, 186, t.text, 200, t.marks, 8, t.rows, 8, t.cells, 32, t.points, 32,
+                           3, 19, 4, 15, out, 256, links, 32, 0, answer, 8),
+         2, 186);
     numbers("writing under a bad model", 2, 186, 0, 0);
     holds("writing under a bad model", out, zeros, 256);
 }
 
-/* 256 objects, each with a line of 65,535 bytes but the last: the file has 16,777,216 bytes, and with one byte more in the last it would be too long. */
+/* 256 objects, each with a line of 65,535 bytes but the last: the file has 16,777,216 bytes, and with one byte more in
+ * the last it would be too long. */
 static void write_large(void)
 {
-    static const uint8_t wide[] = {4, 0, 1, 0, '_', '@', '\\', 'T', 1, 0, 2, 0, 'M', 1, 0, 3, 0, 'N', 2, 0, 4, 0, 0, 'A', 5, 0, 5, 0, 0, 5, 255, 255, 'Y', 0, 0, 6, 0};
+    static const uint8_t wide[] = {4, 0, 1, 0, '_', '@', '\\', 'T', 1, 0, 2, 0, 'M', 1, 0, 3, 0, 'N',
+                                   2, 0, 4, 0, 0, 'A', 5, 0, 5, 0, 0, 5, 255, 255, 'Y', 0, 0, 6, 0};
     static uint8_t long_text[768 + 65526];
     static uint64_t long_rows[256];
     static int64_t long_cells[5 * 256];
@@ -391,14 +401,20 @@ static void write_large(void)
         memcpy(long_text + 3 * n, name, 3);
         long_rows[n] = 5 * n;
     }
-    same("16,777,216 bytes to be written", vendorfinch_write(wide, sizeof wide, long_text, sizeof long_text, both, 2, long_rows, 256, long_cells, 1280, points, 0,
-                                                             256, 1280, 0, 65535, large, 16777217, links, 0, 0, answer, 8), 0, 16777216);
+    same("16,777,216 bytes to be written",
+         vendorfinch_write(wide, sizeof wide, long_text, sizeof long_text, both, 2, long_rows, 256, long_cells, 1280,
+                           points, 0, 256, 1280, 0, 65535, large, 16777217, links, 0, 0, answer, 8),
+         0, 16777216);
     numbers("16,777,216 bytes to be written", 0, 16777216, 0, 0);
-    holds("16,777,216 bytes to be written", large, (const uint8_t *)"SCNT\n////\nMTID T\nMODL M\nTOPI N\nTABL A\nOBJE aaz xxx", 50);
-    holds("16,777,216 bytes to be written", large + 16777216 - 23, (const uint8_t *)"xx\nETAB\nETOP\nEMOD\nENDE\n\0", 24);
+    holds("16,777,216 bytes to be written", large,
+          (const uint8_t *)"SCNT\n////\nMTID T\nMODL M\nTOPI N\nTABL A\nOBJE aaz xxx", 50);
+    holds("16,777,216 bytes to be written", large + 16777216 - 23,
+          (const uint8_t *)"xx\nETAB\nETOP\nEMOD\nENDE\n\0", 24);
     long_cells[5 * 255 + 3]++;
-    same("16,777,217 bytes to be written", vendorfinch_write(wide, sizeof wide, long_text, sizeof long_text, both, 2, long_rows, 256, long_cells, 1280, points, 0,
-                                                             256, 1280, 0, 65535, large, 16777217, links, 0, 0, answer, 8), 21, 0);
+    same("16,777,217 bytes to be written",
+         vendorfinch_write(wide, sizeof wide, long_text, sizeof long_text, both, 2, long_rows, 256, long_cells, 1280,
+                           points, 0, 256, 1280, 0, 65535, large, 16777217, links, 0, 0, answer, 8),
+         21, 0);
     numbers("16,777,217 bytes to be written", 21, 0, 0, 0);
     for (size_t i = 0; i < 16777217; i += 65536)
         holds("16,777,217 bytes to be written", large + i, zeros, i < 16777216 ? 65536 : 1);

@@ -1,10 +1,12 @@
-/* Vendorfinch for a C host: the proved intake of INTERLIS 1 transfer files (x86-64 Linux, static library libvendorfinch.a).
+/* Vendorfinch for a C host: the proved intake of INTERLIS 1 transfer files (x86-64 Linux, static library
+ * libvendorfinch.a).
  *
- * A slice is a pointer and its length. A pointer is never NULL, also where the length is 0; slices that are written to do
- * not overlap any other slice of the same call. No call asks anything else of its caller: each looks at all it is given,
- * refuses what is wrong, and returns. Every byte of a lent buffer is settled when a call returns.
+ * A slice is a pointer and its length. A pointer is never NULL, also where the length is 0; slices that are written to
+ * do not overlap any other slice of the same call. No call asks anything else of its caller: each looks at all it is
+ * given, refuses what is wrong, and returns. Every byte of a lent buffer is settled when a call returns.
  *
- * A call answers one number: the answer's first number plus 256 times its second. The first is 0, or a refusal; the second is then its place:
+ * A call answers one number: the answer's first number plus 256 times its second. The first is 0, or a refusal; the
+ * second is then its place:
  *   1 file above 16,777,216 bytes (0)            10 mandatory table skipped (line)
  *   2 model bad (the record's byte)              11 field missing or extra (line)
  *   3 last line has no LF, or ends in the        12 undefined where not allowed, mixed coordinate (line)
@@ -44,17 +46,19 @@ uint64_t vendorfinch_unfold(const uint8_t *model, size_t model_length, const uin
  *   text    the unfolded text; as many bytes as the file has are always enough
  *   marks   a byte per topic, then per table, 1 where delivered; 576 are enough for every model
  *   rows    for each object the number of its row's first cell
- *   cells   for each object its row: table, start and length of its identification in the text; then a pair per attribute, per component of a coordinate:
- *           0 0 undefined; 1 and the value of a number, date or enumeration; 1 plus length and start of a text; 1 and the object of a reference;
- *           1 plus the count of points and the first point of a line
+ *   cells   for each object its row: table, start and length of its identification in the text; then a pair per
+ *           attribute, per component of a coordinate: 0 0 undefined; 1 and the value of a number, date or enumeration;
+ *           1 plus length and start of a text; 1 and the object of a reference; 1 plus the count of points and the
+ *           first point of a line
  *   points  four numbers each: 0 STPT, 1 LIPT, 2 ARCP; east; north; height or 0. A rest below four stays zero
  * A refusal, the first in the fixed order: each of them holds nothing but zeros.
  *
- * index is working room, all zeros behind every call: three numbers for each of rows make reading fast, and a shorter one, of length 0 too, only costs
- * time. seed is any number: one that nobody can guess keeps every file from making reading slow. Neither changes what is answered.
+ * index is working room, all zeros behind every call: three numbers for each of rows make reading fast, and a shorter
+ * one, of length 0 too, only costs time. seed is any number: one that nobody can guess keeps every file from making
+ * reading slow. Neither changes what is answered.
  *
- * answer gets the four numbers 0, objects, cells, points; or the refusal, its two place numbers (the second is the field, from 1), 0. It gets as many
- * as there is room for, and zeros behind the fourth. Its length may be 0. */
+ * answer gets the four numbers 0, objects, cells, points; or the refusal, its two place numbers (the second is the
+ * field, from 1), 0. It gets as many as there is room for, and zeros behind the fourth. Its length may be 0. */
 uint64_t vendorfinch_read(const uint8_t *model, size_t model_length, const uint8_t *file, size_t file_length,
                           uint8_t *text, size_t text_length, uint8_t *marks, size_t marks_length,
                           uint64_t *rows, size_t rows_length, int64_t *cells, size_t cells_length,
@@ -62,14 +66,17 @@ uint64_t vendorfinch_read(const uint8_t *model, size_t model_length, const uint8
                           uint64_t seed, uint64_t *answer, size_t answer_length);
 
 /* Writes a table under a model, its lines cut to a width of 16 to 65,535 bytes, into the output room.
- * text, marks, rows, cells and points are laid out as reading leaves them, and objects, cells_used and points_used are its three numbers; what lies behind
- * these counts is not looked at. A text or an identification may start anywhere in text. points_used counts points, of four numbers each.
+ * text, marks, rows, cells and points are laid out as reading leaves them, and objects, cells_used and points_used are
+ * its three numbers; what lies behind these counts is not looked at. A text or an identification may start anywhere in
+ * text. points_used counts points, of four numbers each.
  * 0 and the number of bytes written: out holds them, and zeros behind.
- * 2, 20, 19 or 21, the first of them in this order: out holds nothing but zeros. 19 says that the lent table is none that reading could have left.
+ * 2, 20, 19 or 21, the first of them in this order: out holds nothing but zeros. 19 says that the lent table is none
+ * that reading could have left.
  *
  * index and seed are as in reading: three numbers for each object make writing fast.
  *
- * answer gets the four numbers 0, bytes written, 0, 0; or the refusal, the record's byte for 2 and else 0, 0, 0; as many as there is room for, as in reading. */
+ * answer gets the four numbers 0, bytes written, 0, 0; or the refusal, the record's byte for 2 and else 0, 0, 0; as
+ * many as there is room for, as in reading. */
 uint64_t vendorfinch_write(const uint8_t *model, size_t model_length, const uint8_t *text, size_t text_length,
                            const uint8_t *marks, size_t marks_length, const uint64_t *rows, size_t rows_length,
                            const int64_t *cells, size_t cells_length, const int64_t *points, size_t points_length,

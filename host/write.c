@@ -1,5 +1,6 @@
-/* write MODEL FILE WIDTH: reads a transfer file under a compiled model and writes its table anew, with lines of at most this width, to standard output.
- * Limit and rooms are those of the listing program. Where the file or the width is refused it prints the four numbers, and its status is 1. */
+/* write MODEL FILE WIDTH: reads a transfer file under a compiled model and writes its table anew, with lines of at most
+ * this width, to standard output. Limit and rooms are those of the listing program. Where the file or the width is
+ * refused it prints the four numbers, and its status is 1. */
 #include "vendorfinch.h"
 #include "kit/calls.h"
 
@@ -36,13 +37,14 @@ static void rewrite(size_t model_length, size_t file_length, size_t width)
         answer[0] = 1;
         return;
     }
-    vendorfinch_read(model, model_length, file, file_length, text, sizeof text, marks, sizeof marks, rows, ROWS, cells, CELLS, points, POINTS, working, 3 * ROWS,
-                     seed, answer, 4);
+    vendorfinch_read(model, model_length, file, file_length, text, sizeof text, marks, sizeof marks, rows, ROWS,
+                     cells, CELLS, points, POINTS, working, 3 * ROWS, seed, answer, 4);
     if (answer[0] != 0)
         return;
     size_t objects = answer[1], cells_used = answer[2], points_used = answer[3];
-    vendorfinch_write(model, model_length, text, sizeof text, marks, sizeof marks, rows, ROWS, cells, CELLS, points, POINTS, objects, cells_used, points_used,
-                      width, out, sizeof out, working, 3 * ROWS, seed, answer, 4);
+    vendorfinch_write(model, model_length, text, sizeof text, marks, sizeof marks, rows, ROWS, cells, CELLS,
+                      points, POINTS, objects, cells_used, points_used, width, out, sizeof out,
+                      working, 3 * ROWS, seed, answer, 4);
 }
 
 int main(int count, char **names)
@@ -51,7 +53,8 @@ int main(int count, char **names)
         return 2;
     rewrite(load(names[1], model), load(names[2], file), number_of(names[3]));
     if (answer[0] != 0) {
-        printf("%llu %llu %llu 0\n", (unsigned long long)answer[0], (unsigned long long)answer[1], (unsigned long long)answer[2]);
+        printf("%llu %llu %llu 0\n", (unsigned long long)answer[0], (unsigned long long)answer[1],
+               (unsigned long long)answer[2]);
         return 1;
     }
     for (size_t done = 0; done < answer[1];) {

@@ -1,7 +1,9 @@
-"""make.py [--check]: writes what the programs vectors_read and vectors_write read, their `stdin`, from the cases in read.txt and write.txt beside it.
+"""make.py [--check]: writes what the programs vectors_read and vectors_write read, their `stdin`, from the cases in
+read.txt and write.txt beside it.
 
-With --check it writes nothing, and fails where a stored `stdin` is not what it would write. The head of each file of cases says what its lines mean, the head of
-each program's main.rt what the program reads. A line that is wrong ends the script, which tells its number. The table of a file is the oracle's."""
+With --check it writes nothing, and fails where a stored `stdin` is not what it would write. The head of each file of
+cases says what its lines mean, the head of each program's main.rt what the program reads. A line that is wrong ends the
+script, which tells its number. The table of a file is the oracle's."""
 
 import pathlib
 import re
@@ -11,7 +13,8 @@ ROOT = pathlib.Path(__file__).resolve().parents[2]
 sys.path.insert(0, str(ROOT / "tests" / "oracle"))
 import oracle
 
-# what the programs have: marks, rows, cells, cells of points and words of the index; the text of each program, the output, and all cases
+# what the programs have: marks, rows, cells, cells of points and words of the index; the text of each program, the
+# output, and all cases
 ROOMS = (6, 6, 48, 32, 24)
 TEXT_READ, TEXT_WRITTEN, OUTPUT, INPUT = 300, 66000, 112000, 1048576
 # bounds of a number
@@ -80,7 +83,8 @@ def prepared(values, parts):
 
 
 class Cases:
-    """What the lines have said so far, and the cases that they made. A line is understood by the method with its code."""
+    """What the lines have said so far, and the cases that they made. A line is understood by the method with its
+    code."""
 
     def __init__(self, text):
         self.rooms = (text,) + ROOMS
@@ -175,7 +179,8 @@ class Writes(Cases):
         need(less <= len(self.model), "the model is shorter")
         parts = [name, self.model[:len(self.model) - less], bytes(t.text[:text]), bytes(t.marks[:marks])]
         lists = [t.rows[:rows], t.cells[:cells], t.points[:points]]
-        # a number below zero goes as 2^64 more; 5 places of the parts, these 4 and 8 more stand before the table, and zeros behind it
+        # a number below zero goes as 2^64 more; 5 places of the parts, these 4 and 8 more stand before the table, and
+        # zeros behind it
         table = [value % 2 ** 64 for value in sum(lists, [])]
         table += [0] * (sum(ROOMS[1:4]) - len(table))
         self.out.append(prepared(places(lists, 17) + self.counts + [width, room, index, seed, shown] + table, parts))
@@ -190,7 +195,8 @@ def made(file, cases):
             sys.exit("%s, line %d: %s" % (file.relative_to(ROOT), number, wrong))
     content = b"".join(cases.out)
     if len(content) > INPUT:
-        sys.exit("%s: the cases are %d bytes, and the program has room for %d" % (file.relative_to(ROOT), len(content), INPUT))
+        sys.exit("%s: the cases are %d bytes, and the program has room for %d"
+                 % (file.relative_to(ROOT), len(content), INPUT))
     return content
 
 

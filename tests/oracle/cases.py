@@ -967,7 +967,8 @@ def model_borders():
         yield "end of %d bytes" % v, one(D)[:-4] + o.record(6, b"\x00" * v)
     for kind in range(12):
         for size in (0, 1, 2, 3, 17, 18, 19, 34, 35, 36, 37, 51, 52, 53, 54):
-            yield "type %d, %d bytes" % (kind, size), one(o.attribute(b"", kind, (b"\x01" + b"\x00" * 16 + b"A" * 40)[:size]))
+            content = (b"\x01" + b"\x00" * 16 + b"A" * 40)[:size]
+            yield "type %d, %d bytes" % (kind, size), one(o.attribute(b"", kind, content))
     for count in range(5):
         parameters = bytes([3, count]) + o.component(0, 0, 0) * count
         yield "line of %d components" % count, one(o.attribute(b"L", o.LINE, parameters))
@@ -1042,7 +1043,8 @@ def huge():
     for size, answer in ((limit, (0, limit)), (limit + 1, (1, 0))):
         file = begin + b"x" * (size - len(SAMPLE_FILE) - 1) + b"\n" + rest
         yield "unfolding %d bytes" % size, "unfold", (SAMPLE_MODEL, file, size), answer
-        yield "unfolding %d bytes under a bad model" % size, "unfold", (b"", file, 0), (2, 0) if answer[0] == 0 else answer
+        yield ("unfolding %d bytes under a bad model" % size, "unfold", (b"", file, 0),
+               (2, 0) if answer[0] == 0 else answer)
         yield ("reading %d bytes" % size, "read", (SAMPLE_MODEL, file, o.Rooms(size, 3, 2, 18, 12)),
                (0, 2) if answer[0] == 0 else answer)
     model = one(o.text(b"Y", 65535))
@@ -1090,8 +1092,8 @@ def unfold_rooms():
 def unfoldings(rng, count):
     """Short files over the bytes that unfolding looks at."""
     for n in range(count):
-        pieces = [b"a", b"b ", b"\\", b"\\\n", b"\n", b"\r\n", b"\\\r\n", b"\\\nCONT ", b"CONT ", b"CONT", b"\r", b"\x01",
-                  b"\\\nCONT x", b"\xa0", b"\x80", b" "]
+        pieces = [b"a", b"b ", b"\\", b"\\\n", b"\n", b"\r\n", b"\\\r\n", b"\\\nCONT ", b"CONT ", b"CONT", b"\r",
+                  b"\x01", b"\\\nCONT x", b"\xa0", b"\x80", b" "]
         file = b"".join(rng.choice(pieces) for _ in range(rng.randrange(1, 9)))
         if rng.random() < 0.7:
             file += b"\n"
@@ -1104,9 +1106,9 @@ def damaged_tables(rng):
     short = frame(b"OBJE a xy", b"STPT 1.0 1.0", b"ARCP 2.0 2.0", b"LIPT 3.0 3.0", b"ELIN", b"OBJE b @", b"ELIN")
     refs = (head() + o.topic(b"N") + o.table(b"A") + E + o.table(b"B", 1) + R_ + P_ + o.date(b"D", 1)
             + o.number(b"Z", (2, -500, 500), 1) + o.end())
-    refs_file = file_of([b"SCNT", b"////", b"MTID T", b"MODL M", b"TOPI N", b"TABL A", b"OBJE a 2", b"OBJE b 0", b"ETAB",
-                         b"TABL B", b"OBJE c b 1.0 2.0 19991231 -5.00", b"OBJE d @@", b"ETAB", b"ETOP", b"EMOD",
-                         b"ENDE"])
+    refs_file = file_of([b"SCNT", b"////", b"MTID T", b"MODL M", b"TOPI N", b"TABL A", b"OBJE a 2", b"OBJE b 0",
+                         b"ETAB", b"TABL B", b"OBJE c b 1.0 2.0 19991231 -5.00", b"OBJE d @@", b"ETAB", b"ETOP",
+                         b"EMOD", b"ENDE"])
     for name, model, file in (("sample", SAMPLE_MODEL, SAMPLE_FILE), ("short", short_model, short),
                               ("references", refs, refs_file), ("rich", RICH_MODEL, file_of(RICH_LINES))):
         t = lent_of(model, file)

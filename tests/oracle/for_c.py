@@ -1,11 +1,13 @@
-"""for_c.py OUT: writes every case of the model check, the unfolding, reading and writing, with the oracle's answer, for host/cases.c.
+"""for_c.py OUT: writes every case of the model check, the unfolding, reading and writing, with the oracle's answer, for
+host/cases.c.
 
-A case is its call (u32: 0 check, 1 unfold, 2 read, 3 write), the lengths of its name, model and file (u32 each), their bytes, and the answer's one number (u64).
-Unfolding adds its text room (u32); reading adds its rooms for text, marks, rows, cells, points, index and answer (u32 each) and the seed (u64). What each
-room then holds follows (text; or text, marks, rows, cells, points and answer): the count up to the last that is not zero (u32), and these, a byte each in text
-and marks and eight in the others. Writing has no file; it adds text, marks, rows, cells and points, each its count (u32) and these, whole; the counts of objects,
-cells and points, and the width (u64 each); its rooms for output, index and answer (u32 each) and the seed (u64); then what output and answer hold. All is
-little-endian."""
+A case is its call (u32: 0 check, 1 unfold, 2 read, 3 write), the lengths of its name, model and file (u32 each), their
+bytes, and the answer's one number (u64). Unfolding adds its text room (u32); reading adds its rooms for text, marks,
+rows, cells, points, index and answer (u32 each) and the seed (u64). What each room then holds follows (text; or text,
+marks, rows, cells, points and answer): the count up to the last that is not zero (u32), and these, a byte each in text
+and marks and eight in the others. Writing has no file; it adds text, marks, rows, cells and points, each its count
+(u32) and these, whole; the counts of objects, cells and points, and the width (u64 each); its rooms for output, index
+and answer (u32 each) and the seed (u64); then what output and answer hold. All is little-endian."""
 
 import struct
 import sys
@@ -39,14 +41,17 @@ def put(out, call, name, model, file, answer, rest):
 
 def read_rest(result, rooms, index, seed, answer_room):
     numbers = (list(result.answer) + [0] * answer_room)[:answer_room]
-    return (struct.pack("<IIIIIIIQ", rooms.text, rooms.marks, rooms.rows, rooms.cells, rooms.points, index, answer_room, seed) + content(result.text, "B")
-            + content(result.marks, "B") + content(result.rows, "Q") + content(result.cells, "q") + content(result.points, "q") + content(numbers, "Q"))
+    return (struct.pack("<IIIIIIIQ", rooms.text, rooms.marks, rooms.rows, rooms.cells, rooms.points, index, answer_room,
+                        seed)
+            + content(result.text, "B") + content(result.marks, "B") + content(result.rows, "Q")
+            + content(result.cells, "q") + content(result.points, "q") + content(numbers, "Q"))
 
 
 def write_rest(answer, output, t, width, index, seed, answer_room):
     numbers = (list(answer) + [0] * answer_room)[:answer_room]
     return (whole(t.text, "B") + whole(t.marks, "B") + whole(t.rows, "Q") + whole(t.cells, "q") + whole(t.points, "q")
-            + struct.pack("<QQQQIIIQ", t.objects, t.cells_used, t.points_used, width, len(output), index, answer_room, seed)
+            + struct.pack("<QQQQIIIQ", t.objects, t.cells_used, t.points_used, width, len(output), index, answer_room,
+                          seed)
             + content(output, "B") + content(numbers, "Q"))
 
 

@@ -1,4 +1,5 @@
-"""Cases of reading for the proved library: (name, model, file, rooms, index length, seed, answer room). Always the same cases in the same order."""
+"""Cases of reading for the proved library: (name, model, file, rooms, index length, seed, answer room). Always the same
+cases in the same order."""
 
 import random
 
@@ -24,14 +25,16 @@ def good_files():
     for n in range(120):
         model = cases.random_model(rng)
         m = o.decode(model)
-        yield "good %d" % n, model, cases.cut(rng, bytes([m.mark]), cases.random_lines(rng, m), rng.choice((0, 0.2, 0.5)), rng.choice((0, 0.3)))
+        yield "good %d" % n, model, cases.cut(rng, bytes([m.mark]), cases.random_lines(rng, m),
+                                              rng.choice((0, 0.2, 0.5)), rng.choice((0, 0.3)))
 
 
 def just_enough(model, file):
     """The least rooms in which a good file is read."""
     r = o.read(model, file, o.LISTING_ROOMS)
     m = o.decode(model)
-    return o.Rooms(len(o.text_of(o.logical_lines(m.mark, file))), len(m.topics) + len(m.tables), r.answer[1], r.answer[2], 4 * r.answer[3])
+    return o.Rooms(len(o.text_of(o.logical_lines(m.mark, file))), len(m.topics) + len(m.tables), r.answer[1],
+                   r.answer[2], 4 * r.answer[3])
 
 
 def rooms_just_enough():
@@ -44,14 +47,16 @@ def rooms_just_enough():
                 fewer = o.Rooms(least.text, least.marks, least.rows, least.cells, least.points)
                 setattr(fewer, which, getattr(least, which) - 1)
                 yield "%s, one of %s less" % (name, which), model, file, fewer
-        yield name + ", three more for points", model, file, o.Rooms(least.text, least.marks, least.rows, least.cells, least.points + 3)
+        more = o.Rooms(least.text, least.marks, least.rows, least.cells, least.points + 3)
+        yield name + ", three more for points", model, file, more
 
 
 def changed_samples():
     """The sample with each byte changed, left out and doubled; with lines left out, doubled and swapped."""
     file, lines = cases.SAMPLE_FILE, cases.SAMPLE_LINES
     for at, byte in enumerate(file):
-        for other in sorted({*b"\x00\t\n\r @\\k1.-/CO", (byte + 1) % 256, (byte - 1) % 256, byte ^ 0x20, 0xA0, 0xE4} - {byte}):
+        others = {*b"\x00\t\n\r @\\k1.-/CO", (byte + 1) % 256, (byte - 1) % 256, byte ^ 0x20, 0xA0, 0xE4}
+        for other in sorted(others - {byte}):
             yield "byte %d as %02X" % (at, other), file[:at] + bytes([other]) + file[at + 1:]
         yield "byte %d left out" % at, file[:at] + file[at + 1:]
         yield "byte %d doubled" % at, file[:at + 1] + file[at:]
@@ -92,7 +97,8 @@ def plain_cases():
 def all_cases():
     rng = random.Random(1945)
     for name, model, file, rooms in plain_cases():
-        yield name, model, file, rooms, rng.choice(index_lengths(rooms)), rng.choice(SEEDS), rng.choice((4, 4, 4, 0, 1, 2, 3, 7))
+        yield (name, model, file, rooms, rng.choice(index_lengths(rooms)), rng.choice(SEEDS),
+               rng.choice((4, 4, 4, 0, 1, 2, 3, 7)))
     for name, model, file, _ in cases.identification_readings():
         for index in index_lengths(ENOUGH):
             yield "%s, index %d" % (name, index), model, file, ENOUGH, index, 0, 4

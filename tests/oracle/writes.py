@@ -1,4 +1,5 @@
-"""Cases of writing for the proved library: (name, model, table, width, room, index length, seed, answer room). Always the same cases in the same order."""
+"""Cases of writing for the proved library: (name, model, table, width, room, index length, seed, answer room). Always
+the same cases in the same order."""
 
 import random
 
@@ -21,7 +22,8 @@ def starts(m, t):
 
 
 def moved(rng, m, t):
-    """The same table with its identifications and texts elsewhere in the text, in another order, with other bytes between them."""
+    """The same table with its identifications and texts elsewhere in the text, in another order, with other bytes
+    between them."""
     new, text = t.copy(), []
     places = list(starts(m, t))
     rng.shuffle(places)
@@ -56,7 +58,8 @@ def damages(rng, m, t):
             yield "%s %d is %d" % (which, at, getattr(new, which)[at]), new
     for count in ("objects", "cells_used", "points_used"):
         old, new = getattr(t, count), t.copy()
-        setattr(new, count, rng.choice([v for v in (0, 1, old - 1, old + 1, 2 ** 63, 2 ** 64 - 1) if v >= 0 and v != old]))
+        near = (0, 1, old - 1, old + 1, 2 ** 63, 2 ** 64 - 1)
+        setattr(new, count, rng.choice([v for v in near if v >= 0 and v != old]))
         yield "%s is %d" % (count, getattr(new, count)), new
     for which in ("text", "marks", "rows", "cells", "points"):
         if getattr(t, which):
@@ -80,7 +83,8 @@ def tables_read():
 
 
 def tables_written(rng):
-    """Each table at several widths: into a room just enough, one byte less and some more; moved in its text, with room behind its counts, and damaged."""
+    """Each table at several widths: into a room just enough, one byte less and some more; moved in its text, with room
+    behind its counts, and damaged."""
     for name, model, t in tables_read():
         m = o.decode(model)
         for width in rng.sample(WIDTHS, 2):
@@ -120,7 +124,8 @@ def all_cases(others):
     """The others (name, model, table, width, room), and these."""
     rng = random.Random(1912)
     for name, model, t, width, room in [*others, *tables_written(rng), *sample_widths()]:
-        yield name, model, t, width, room, rng.choice(index_lengths(t)), rng.choice(reads.SEEDS), rng.choice((4, 4, 4, 0, 1, 2, 3, 7))
+        yield (name, model, t, width, room, rng.choice(index_lengths(t)), rng.choice(reads.SEEDS),
+               rng.choice((4, 4, 4, 0, 1, 2, 3, 7)))
     for name, model, t, width, room, _ in cases.identification_tables():
         for index in index_lengths(t):
             yield "%s, index %d" % (name, index), model, t, width, room, index, 0, 4
