@@ -1,20 +1,22 @@
 -- The end of a row: no attribute is left, or two undefined bytes cover the rest. Assumes nothing.
-use Prim.Native.Nat.{ℕ, zero, suc, _+_, _*_, _-_, _≤_, _<_}
-use native.Mathlib.Nat.{add-assoc, add-zero}
+use Prim.Native.Nat.{ℕ, _+_, _*_, _-_, _≤_}
+use native.Mathlib.Nat.{add-zero}
 use native.Mathlib.Omega.{arith}
-use mathlib.Core.Path.{_≡_, refl, sym, ap, _∙_, subst}
-use mathlib.Core.Bool.{Bool, true, false}
-use mathlib.Core.List.{List, [], _∷_, _++_}
+use mathlib.Core.Path.{_≡_, refl, ap, _∙_}
+use mathlib.Core.Bool.{true, false}
+use mathlib.Core.List.{List, [], _++_}
 use lib.IntN.{ℤ}
 use lib.ListN.{length, drop, length-append}
 use lib.Seq.{sets}
 use Rattle.meaning.specs.Bytes.{refuse}
-use Rattle.meaning.specs.Field.{Field, fieldsOf}
+use Rattle.meaning.specs.Model.{Model}
+use Rattle.meaning.specs.Field.{fieldsOf}
 use Rattle.meaning.specs.Row.{Pair, Cells, cells, refused, hasMandatory, pairCells}
 use Rattle.base.specs.Fields.{FirstField}
 use Rattle.model_records.specs.Records.{kindAt, nextAt, pairsAt}
+use Rattle.model_records.specs.Standing.{AttributesHere}
 use Rattle.read_fields.specs.Filled.{zeros, prefixed, coveredCells, covered, left, going, goingOver, covering, Steps, Fills}
-use Rattle.read_objects.specs.Fields.{recordPairs, AttributesFrom, EndsFull, Ends, EndsHere}
+use Rattle.read_objects.specs.Fields.{recordPairs, EndsFull, Ends, EndsHere}
 use Rattle.read_fields.specs.declared.filling.Filling.{Filling}
 use Rattle.read_fields.specs.declared.filling.Filled.the-variants.{On, Rest}
 use Rattle.read_objects.specs.declared.rows.RowOut.{RowOut}
@@ -83,7 +85,7 @@ ends-here u start rest s most l h (No k f) e = e u start
 abbrev pub fromRecord : (u start : ℕ) (rest b : List ℕ) (here : ℕ) → Filling → List Pair → Cells
 fromRecord u start rest b here s ps = going u start rest s (pairsAt b here)
 
-module _ (u start : ℕ) (rest b : List ℕ) (here : ℕ) (from : AttributesFrom b here) {most : ℕ} {whole : Cells} {s₀ s : Filling} {entry cells : List ℤ}
+module _ (u start : ℕ) (rest b : List ℕ) (here : ℕ) {m : Model} (from : AttributesHere m b here) {most : ℕ} {whole : Cells} {s₀ s : Filling} {entry cells : List ℤ}
     (now : Steps rest most (λ ps. whole) (fromRecord u start rest b here s) s₀ s entry cells) where
   pub row-end : (limit : ℕ) → (kindAt b here ≡ 5 → ⊥) → s .used ≤ limit → (r : RowOut) → EndsHere rest s r → Ends whole limit (s₀ .used) entry cells r
   row-end limit n h r e =
