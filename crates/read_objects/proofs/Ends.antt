@@ -16,12 +16,12 @@ use Rattle.base.specs.Fields.{FirstField}
 use Rattle.model_records.specs.Records.{kindAt, nextAt, pairsAt}
 use Rattle.model_records.specs.Standing.{AttributesHere}
 use Rattle.read_fields.specs.Filled.{zeros, prefixed, coveredCells, covered, left, going, goingOver, covering, Steps, Fills}
-use Rattle.read_objects.specs.Fields.{recordPairs, EndsFull, Ends, EndsHere}
+use Rattle.read_objects.specs.Fields.{recordPairs, Ends, EndsHere}
 use Rattle.read_fields.specs.declared.filling.Filling.{Filling}
 use Rattle.read_fields.specs.declared.filling.Filled.the-variants.{On, Rest}
 use Rattle.read_objects.specs.declared.rows.RowOut.{RowOut}
 use Rattle.read_objects.specs.declared.rows.RowOut.the-variants.{Full, No}
-use Rattle.read_fields.proofs.Stores.{sets-append, sets-front, length-zeros}
+use Rattle.read_fields.proofs.Stores.{sets-append, length-zeros}
 use Rattle.read_fields.proofs.Steps.{none, both, wider, renamed, before, refuses}
 use Rattle.read_objects.proofs.Records.{pairs-next, no-record}
 
@@ -47,7 +47,7 @@ module _ (rest : List ℕ) (s : Filling) (count : ℕ) (ps : List Pair) where
   unfolding covered refuse coveredCells
   covers-field e at len f start = rw (e, f .first (start + s .at))
 
-  pub covers-all : hasMandatory ps ≡ false → ((n : ℕ) → fieldsOf n (drop (s .at) rest) ≡ []) → (start : ℕ) → covering start rest s count ps ≡ cells (zeros (count + length ps))
+  covers-all : hasMandatory ps ≡ false → ((n : ℕ) → fieldsOf n (drop (s .at) rest) ≡ []) → (start : ℕ) → covering start rest s count ps ≡ cells (zeros (count + length ps))
   unfolding covered refuse coveredCells
   covers-all e f start = rw (e, f (start + s .at))
 
@@ -115,10 +115,3 @@ pub row-start : (u start : ℕ) (rest b : List ℕ) (at : ℕ) (l : List ℤ) (s
 row-start u start rest b at l s e =
     wider (2 * (at - at)) (omega arith) (renamed (λ ps. pairCells u true 3 (pairsAt b at) (fieldsOf start rest)) (fromRecord u start rest b at s)
     (λ ps. rw e (rw (add-zero start))) (λ ps. refl) (none rest (fromRecord u start rest b at s) s l (rw e (omega arith)) (rw e (omega arith))))
-
--- ## For the caller: a row that has room
-
-pub stored-front : {meant : Cells} {most n : ℕ} {entry exit : List ℤ} (e : EndsFull meant most 0 n entry exit) → n ≤ length entry → exit ≡ e .values ++ drop n entry
-stored-front {meant} {most} {n} {entry} e h =
-    let z : length (e .values) ≡ n = omega (arith, e .size) in
-    e .stored ∙ rw z at (sets-front (e .values) entry (omega arith))

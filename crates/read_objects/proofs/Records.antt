@@ -25,7 +25,7 @@ use Rattle.read_fields.proofs.Attributes.{coordinate-type, line-type, own-type}
 
 -- ## Mandatory, and how many
 
-pub mandatory-append : (ps qs : List Pair) → hasMandatory (ps ++ qs) ≡ (hasMandatory ps || hasMandatory qs)
+mandatory-append : (ps qs : List Pair) → hasMandatory (ps ++ qs) ≡ (hasMandatory ps || hasMandatory qs)
 unfolding hasMandatory
 mandatory-append [] qs = refl
 mandatory-append (OfAttribute true type ∷ ps) qs = mandatory-append ps qs
@@ -101,7 +101,7 @@ module _ {m : Model} (b : List ℕ) (at : ℕ) (from : AttributesHere m b at) wh
     unfolding pairsOf
     pairs-next = rw (turn .attributes)
 
-    pub mandatory-next : hasMandatory (pairsAt b at) ≡ (hasMandatory (recordPairs b at) || hasMandatory (pairsAt b (nextAt b at)))
+    mandatory-next : hasMandatory (pairsAt b at) ≡ (hasMandatory (recordPairs b at) || hasMandatory (pairsAt b (nextAt b at)))
     mandatory-next = ap hasMandatory pairs-next ∙ mandatory-append (recordPairs b at) (pairsAt b (nextAt b at))
 
     module _ (a : Attribute) (d : Decoded b at a) where

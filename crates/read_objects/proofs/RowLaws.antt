@@ -110,7 +110,7 @@ module _ (m : Model) (n used used′ t : ℕ) (rows rows′ : List ℕ) (cs cs�
   new-table : cellAt cs′ (getD rows′ n 0) ≡ t
   new-table = ap (cellAt cs′) atRow ∙ ap natAbs atTable
 
-  pub laid-more : Laid m (n + 1) used′ rows′ cs′
+  laid-more : Laid m (n + 1) used′ rows′ cs′
   laid-more = record {
     table = below-more (λ (o : ℕ). cellAt cs′ (getD rows′ o 0) < length (m .tables)) n (λ o l. rw (same-table o l) (d .table o l)) (rw new-table table);
     ends = below-more (λ (o : ℕ). getD rows′ o 0 + rowSize m (cellAt cs′ (getD rows′ o 0)) ≤ used′) n
@@ -121,7 +121,7 @@ module _ (m : Model) (n used used′ t : ℕ) (rows rows′ : List ℕ) (cs cs�
         (λ j. rw (same-table o j, same-row o j, atRow) (d .ends o j)) p g l;
   }
 
-  pub behind-rows : (o : ℕ) → o < n + 1 → getD rows′ o 0 + 2 < used + 3
+  behind-rows : (o : ℕ) → o < n + 1 → getD rows′ o 0 + 2 < used + 3
   behind-rows = below-more (λ (o : ℕ). getD rows′ o 0 + 2 < used + 3) n (λ o l. omega (arith, same-row o l, within o l)) (omega (arith, atRow))
 
 -- ## A row of the line's fields

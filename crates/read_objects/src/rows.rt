@@ -84,7 +84,7 @@ fn end_row(rest: &[u8], s: Filling) -> RowOut
     }
 }
 
-// Two undefined bytes stood before: the attribute's pairs that are left and those of the records from a byte on are undefined.
+// Two undefined bytes stood before: the attribute's pairs left and those of the records from a byte on are undefined.
 fn undefine_rest(
     model: &[u8],
     at: usize,
@@ -113,8 +113,8 @@ fn undefine_rest(
     }
 }
 
-// The fields of an OBJE line behind its identification, as pairs behind the row's first three cells. The part of the cells
-// that starts there is lent on to the field writers.
+// The fields of an OBJE line behind its identification, as pairs behind the row's first three cells. The part of the
+// cells that starts there is lent on to the field writers.
 pub fn row_fields(
     model: &[u8],
     at: usize,

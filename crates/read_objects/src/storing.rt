@@ -31,7 +31,7 @@ pub struct Name {
     pub hash: u64,
 }
 
-// The fields behind the identification, as pairs behind the place of the row's first three cells as far as there is room.
+// The fields behind the identification, as pairs behind the place of the row's first three cells, where there is room.
 fn fill_row(
     model: &[u8],
     at: usize,

@@ -51,7 +51,7 @@ unfolding pointCells
 point-size kind values = ap suc (length-take-le 3 (values ++ replicate 3 (pos 0)) (rw (length-append values (replicate 3 (pos 0))) (omega arith)))
 
 -- cells stored behind those that count
-pub taken-more : (l vs : List ℤ) (i k : ℕ) → k ≡ i + length vs → k ≤ length l → take k (sets l i vs) ≡ take i l ++ vs
+taken-more : (l vs : List ℤ) (i k : ℕ) → k ≡ i + length vs → k ≤ length l → take k (sets l i vs) ≡ take i l ++ vs
 taken-more l vs i k e h =
     rw (sets-eq vs l i (omega arith))
     (take-at (take i l ++ vs) (drop (i + length vs) l) k (length-append (take i l) vs ∙ rw (length-take-le i l (omega arith)) (sym e)))

@@ -62,7 +62,7 @@ module _ (m : Model) (b rows : List ℕ) (n used points : ℕ) (u : OpenLine) (h
   next-here = record { topics = _; tables = _; standing = record-here .next }
 
   -- it has one pair
-  pub next-size : 2 * length (pairsAt b (u .at)) ≡ 2 + 2 * length (pairsAt b (nextAt b (u .at)))
+  next-size : 2 * length (pairsAt b (u .at)) ≡ 2 + 2 * length (pairsAt b (nextAt b (u .at)))
   unfolding pairsOf pairsOfType attributeOf model.typeOf choose
   next-size = rw (record-here .attributes, h .line) (omega arith)
 
@@ -70,7 +70,7 @@ module _ (m : Model) (b rows : List ℕ) (n used points : ℕ) (u : OpenLine) (h
   next-fits = omega (arith, next-size, h .fits)
 
   -- the same, whatever the rows, and where points were added
-  pub without-rows : LineHolds m b [] 0 used points u
+  without-rows : LineHolds m b [] 0 used points u
   without-rows = record { table = h .table; attributes = h .attributes; kind = h .kind; line = h .line; behindRows = λ o l. absurd (omega arith); fits = h .fits; first = h .first }
 
   -- the attribute of its record

@@ -52,8 +52,8 @@ fn get_value(rest: &[u8], undefined: u8, component: Component) -> Got
 // The values of a point's fields, which follow its line's code.
 pub fn point_values(rest: &[u8], undefined: u8, components: Components) -> PointOut
     requires { ⌜ (components .count ≤ 3) × (length (components .items) ≡ 3) ⌝ }
-    ensures { λ r. ⌜
-        ReadsPoint undefined (componentsOf components) (now (rest .entry)) (components .count) (r .values) (r .answer) ⌝ }
+    ensures { λ r. ⌜ ReadsPoint undefined (componentsOf components) (now (rest .entry)) (components .count)
+        (r .values) (r .answer) ⌝ }
 {
     let count = components.count;
     let items = components.items;
