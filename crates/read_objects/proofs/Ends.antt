@@ -1,25 +1,27 @@
 -- The end of a row: no attribute is left, or two undefined bytes cover the rest. Assumes nothing.
-use Prim.Native.Nat.{ℕ, zero, suc, _+_, _*_, _-_, _≤_, _<_}
-use native.Mathlib.Nat.{add-assoc, add-zero}
+use Prim.Native.Nat.{ℕ, _+_, _*_, _-_, _≤_}
+use native.Mathlib.Nat.{add-zero}
 use native.Mathlib.Omega.{arith}
-use mathlib.Core.Path.{_≡_, refl, sym, ap, _∙_, subst}
-use mathlib.Core.Bool.{Bool, true, false}
-use mathlib.Core.List.{List, [], _∷_, _++_}
+use mathlib.Core.Path.{_≡_, refl, ap, _∙_}
+use mathlib.Core.Bool.{true, false}
+use mathlib.Core.List.{List, [], _++_}
 use lib.IntN.{ℤ}
 use lib.ListN.{length, drop, length-append}
 use lib.Seq.{sets}
 use Rattle.meaning.specs.Bytes.{refuse}
-use Rattle.meaning.specs.Field.{Field, fieldsOf}
+use Rattle.meaning.specs.Model.{Model}
+use Rattle.meaning.specs.Field.{fieldsOf}
 use Rattle.meaning.specs.Row.{Pair, Cells, cells, refused, hasMandatory, pairCells}
 use Rattle.base.specs.Fields.{FirstField}
 use Rattle.model_records.specs.Records.{kindAt, nextAt, pairsAt}
+use Rattle.model_records.specs.Standing.{AttributesHere}
 use Rattle.read_fields.specs.Filled.{zeros, prefixed, coveredCells, covered, left, going, goingOver, covering, Steps, Fills}
-use Rattle.read_objects.specs.Fields.{recordPairs, AttributesFrom, EndsFull, Ends, EndsHere}
+use Rattle.read_objects.specs.Fields.{recordPairs, Ends, EndsHere}
 use Rattle.read_fields.specs.declared.filling.Filling.{Filling}
 use Rattle.read_fields.specs.declared.filling.Filled.the-variants.{On, Rest}
 use Rattle.read_objects.specs.declared.rows.RowOut.{RowOut}
 use Rattle.read_objects.specs.declared.rows.RowOut.the-variants.{Full, No}
-use Rattle.read_fields.proofs.Stores.{sets-append, sets-front, length-zeros}
+use Rattle.read_fields.proofs.Stores.{sets-append, length-zeros}
 use Rattle.read_fields.proofs.Steps.{none, both, wider, renamed, before, refuses}
 use Rattle.read_objects.proofs.Records.{pairs-next, no-record}
 
@@ -45,7 +47,7 @@ module _ (rest : List ℕ) (s : Filling) (count : ℕ) (ps : List Pair) where
   unfolding covered refuse coveredCells
   covers-field e at len f start = rw (e, f .first (start + s .at))
 
-  pub covers-all : hasMandatory ps ≡ false → ((n : ℕ) → fieldsOf n (drop (s .at) rest) ≡ []) → (start : ℕ) → covering start rest s count ps ≡ cells (zeros (count + length ps))
+  covers-all : hasMandatory ps ≡ false → ((n : ℕ) → fieldsOf n (drop (s .at) rest) ≡ []) → (start : ℕ) → covering start rest s count ps ≡ cells (zeros (count + length ps))
   unfolding covered refuse coveredCells
   covers-all e f start = rw (e, f (start + s .at))
 
@@ -83,7 +85,7 @@ ends-here u start rest s most l h (No k f) e = e u start
 abbrev pub fromRecord : (u start : ℕ) (rest b : List ℕ) (here : ℕ) → Filling → List Pair → Cells
 fromRecord u start rest b here s ps = going u start rest s (pairsAt b here)
 
-module _ (u start : ℕ) (rest b : List ℕ) (here : ℕ) (from : AttributesFrom b here) {most : ℕ} {whole : Cells} {s₀ s : Filling} {entry cells : List ℤ}
+module _ (u start : ℕ) (rest b : List ℕ) (here : ℕ) {m : Model} (from : AttributesHere m b here) {most : ℕ} {whole : Cells} {s₀ s : Filling} {entry cells : List ℤ}
     (now : Steps rest most (λ ps. whole) (fromRecord u start rest b here s) s₀ s entry cells) where
   pub row-end : (limit : ℕ) → (kindAt b here ≡ 5 → ⊥) → s .used ≤ limit → (r : RowOut) → EndsHere rest s r → Ends whole limit (s₀ .used) entry cells r
   row-end limit n h r e =
@@ -113,10 +115,3 @@ pub row-start : (u start : ℕ) (rest b : List ℕ) (at : ℕ) (l : List ℤ) (s
 row-start u start rest b at l s e =
     wider (2 * (at - at)) (omega arith) (renamed (λ ps. pairCells u true 3 (pairsAt b at) (fieldsOf start rest)) (fromRecord u start rest b at s)
     (λ ps. rw e (rw (add-zero start))) (λ ps. refl) (none rest (fromRecord u start rest b at s) s l (rw e (omega arith)) (rw e (omega arith))))
-
--- ## For the caller: a row that has room
-
-pub stored-front : {meant : Cells} {most n : ℕ} {entry exit : List ℤ} (e : EndsFull meant most 0 n entry exit) → n ≤ length entry → exit ≡ e .values ++ drop n entry
-stored-front {meant} {most} {n} {entry} e h =
-    let z : length (e .values) ≡ n = omega (arith, e .size) in
-    e .stored ∙ rw z at (sets-front (e .values) entry (omega arith))

@@ -17,11 +17,11 @@ use Rattle.model_records.specs.Records.{modelAt, pairsAt}
 use Rattle.value_read.specs.Meant.{fieldOf}
 use Rattle.table_index.specs.Holds.{Held}
 use Rattle.table_index.proofs.Kept.{held-used}
-use Rattle.read_state.specs.declared.TableHere.{TableHere}
+use Rattle.read_objects.specs.declared.OpenTable.{OpenTable}
 use Rattle.read_state.specs.declared.State.{State}
 use Rattle.read_state.specs.declared.Step as declared
 use Rattle.read_state.specs.declared.Step.the-variants.{No}
-use Rattle.read_state.specs.Holds.{TableHolds}
+use Rattle.read_objects.specs.Tables.{TableHolds}
 use Rattle.read_frame.proofs.Moves.{behind-more, behind-at}
 use Rattle.read_objects.specs.declared.naming.Identified.{Identified}
 use Rattle.read_objects.specs.declared.naming.Identified.the-variants.{At}
@@ -72,7 +72,7 @@ object-is m rooms text t fs c h = rw (behind-more fs 0 h, behind-at fs h, two-be
 
 -- ## The line
 
-module _ (b text : List ℕ) (seed : ℕ) (here : TableHere) (s : State) (at end behind u : ℕ) (rows rows′ : List ℕ) (cs cs′ : List ℤ) (index index′ : List ℕ)
+module _ (b text : List ℕ) (seed : ℕ) (here : OpenTable) (s : State) (at end behind u : ℕ) (rows rows′ : List ℕ) (cs cs′ : List ℤ) (index index′ : List ℕ)
     (undefined : u ≡ modelAt b .undefined) (some : 1 ≤ length (fieldsOf at (stretch text at (end - at))))
     (others : drop 1 (fieldsOf at (stretch text at (end - at))) ≡ fieldsOf (at + behind) (drop behind (stretch text at (end - at)))) where
   abbrev whole : Rooms → Content → Step

@@ -1,3 +1,4 @@
+pub mod Tables
 pub mod Records
 pub mod Ends
 pub mod Sizes

@@ -1,31 +1,31 @@
 -- The attribute records of a table and their pairs. Assumes nothing.
-use Prim.Native.Nat.{ℕ, zero, suc, _+_, _*_, _-_, _≤_, _<_}
+use Prim.Native.Nat.{ℕ, _+_, _-_, _≤_}
 use native.Mathlib.Omega.{arith}
-use mathlib.Core.Path.{_≡_, refl, sym, ap, _∙_, subst}
+use mathlib.Core.Path.{_≡_, refl, sym, ap, _∙_}
 use mathlib.Core.Bool.{Bool, true, false, not, _||_}
 use mathlib.Core.List.{List, [], _∷_, _++_, append-nil}
-use mathlib.Core.Logic.{_⊎_, inl, inr}
-use borrow.Author.Tests.{eqb-true, eqb-false, leb-true, leb-false}
-use lib.Dec.{leb, eqb}
+use mathlib.Core.Logic.{_⊎_}
+use borrow.Author.Tests.{eqb-true, eqb-false}
+use lib.Dec.{eqb}
 use lib.IntN.{pos}
-use lib.ListN.{length, take, drop, getD, length-drop, length-append}
-use Rattle.meaning.specs.Model.{AttributeType, Coordinate, Number, attributeOf}
+use lib.ListN.{length, take, drop}
+use Rattle.meaning.specs.Model.{Model, Coordinate, Number, attributeOf}
 use Rattle.meaning.specs.Row.{Pair, OfAttribute, OfComponent, OfLine, componentPairs, pairsOfType, pairsOf, hasMandatory}
 use Rattle.model_records.specs.declared.Component.{Component}
 use Rattle.model_records.specs.Components.{componentOf, listOf}
 use Rattle.model_records.specs.declared.Attribute.{Attribute}
-use Rattle.model_records.specs.Records.{kindAt, payloadAt, nextAt, attributesAt, pairsAt}
+use Rattle.model_records.specs.Records.{kindAt, payloadAt, nextAt, pairsAt}
 use Rattle.model_records.specs.Attributes.{typeOf, firstOf, Decoded}
-use Rattle.model_records.specs.Standing.{Standing, Here, AttributeHere, AttributeNext}
+use Rattle.model_records.specs.Standing.{Here, AttributeHere, AttributeNext, AttributesHere}
 use Rattle.model_records.proofs.Standing as standing
-use Rattle.read_fields.specs.Filled.{ownPairs, Counted}
-use Rattle.read_objects.specs.Fields.{recordPairs, AttributesFrom}
-use Rattle.read_fields.proofs.Coordinates.{listed-next, length-listed, mandatory-components, count-components}
+use Rattle.read_fields.specs.Filled.{Counted}
+use Rattle.read_objects.specs.Fields.{recordPairs}
+use Rattle.read_fields.proofs.Coordinates.{listed-next, mandatory-components}
 use Rattle.read_fields.proofs.Attributes.{coordinate-type, line-type, own-type}
 
 -- ## Mandatory, and how many
 
-pub mandatory-append : (ps qs : List Pair) → hasMandatory (ps ++ qs) ≡ (hasMandatory ps || hasMandatory qs)
+mandatory-append : (ps qs : List Pair) → hasMandatory (ps ++ qs) ≡ (hasMandatory ps || hasMandatory qs)
 unfolding hasMandatory
 mandatory-append [] qs = refl
 mandatory-append (OfAttribute true type ∷ ps) qs = mandatory-append ps qs
@@ -47,31 +47,6 @@ module _ (a : Attribute) (counted : Counted a) where
   shape : 2 ≤ a .kind → a .kind ≤ 3 → pairsOfType (a .optional) (typeOf a)
       ≡ OfAttribute (a .optional) (Number (componentOf (firstOf (a .components .items)))) ∷ (componentPairs (drop 1 (listOf (take (a .components .count) (a .components .items)))) ++ [])
   shape h g = rw (coordinate-type a h g) (coordinate-shape (a .optional) (a .components .count) (a .components .items) (counted .least h g) (omega (arith, counted .most, counted .room)))
-
-  pub count-coordinate : 2 ≤ a .kind → a .kind ≤ 3 → a .components .count ≡ length (pairsOfType (a .optional) (typeOf a))
-  count-coordinate h g =
-      let e = count-components (drop 1 (listOf (take (a .components .count) (a .components .items)))) [] in
-      let n = length-drop 1 (listOf (take (a .components .count) (a .components .items))) in
-      let k = length-listed (a .components .items) (a .components .count) (omega (arith, counted .most, counted .room)) in
-      let l = counted .least h g in
-      rw (shape h g) (omega (arith, e, n, k, l))
-
-  -- one pair, where the type is no coordinate
-  single : (2 ≤ a .kind → a .kind ≤ 3 → ⊥) → ((1 ≤ a .kind) × (a .kind ≤ 7)) ⊎ ((a .kind ≡ 0) ⊎ (8 ≤ a .kind)) → length (pairsOfType (a .optional) (typeOf a)) ≡ 1
-  unfolding pairsOfType
-  single n (inl k) = rw (own-type a (k .0) (k .1) n)
-  single n (inr k) = rw (line-type a k)
-
-  pub count-single : (2 ≤ a .kind → a .kind ≤ 3 → ⊥) → 1 ≡ length (pairsOfType (a .optional) (typeOf a))
-  count-single n = sym (single n (by-kind (a .kind)))
-    where
-      by-kind : (k : ℕ) → ((1 ≤ k) × (k ≤ 7)) ⊎ ((k ≡ 0) ⊎ (8 ≤ k))
-      by-kind zero = inr (inl refl)
-      by-kind (suc k) = above (leb (suc k) 7) refl
-        where
-          above : (t : Bool) → leb (suc k) 7 ≡ t → ((1 ≤ suc k) × (suc k ≤ 7)) ⊎ ((suc k ≡ 0) ⊎ (8 ≤ suc k))
-          above true e = inl (omega arith, leb-true (suc k) 7 e)
-          above false e = inr (inr (leb-false (suc k) 7 e))
 
   pub mandatory-line : (a .kind ≡ 0) ⊎ (8 ≤ a .kind) → false ≡ hasMandatory (pairsOfType (a .optional) (typeOf a))
   unfolding pairsOfType hasMandatory
@@ -104,38 +79,35 @@ counted b at a d = record { room = d .room; most = d .count; least = λ h g. go 
 pub decoded-pairs : (b : List ℕ) (at : ℕ) (a : Attribute) → Decoded b at a → pairsOfType (a .optional) (typeOf a) ≡ recordPairs b at
 decoded-pairs b at a d = rw (d .type) (ap (λ (o : Bool). pairsOfType o (attributeOf at (payloadAt b at) .type)) (d .optional))
 
-module _ (b : List ℕ) (at : ℕ) (from : AttributesFrom b at) where
+module _ {m : Model} (b : List ℕ) (at : ℕ) (from : AttributesHere m b at) where
   pub record-here : Here b at
-  record-here = standing.here (from .model) b at (from .topics) (from .tables) (from .standing)
+  record-here = standing.here m b at (from .topics) (from .tables) (from .standing)
 
   pub no-record : (kindAt b at ≡ 5 → ⊥) → pairsAt b at ≡ []
   unfolding pairsOf
-  no-record n = rw (standing.no-attribute (from .model) b at (from .topics) (from .tables) (from .standing) n)
+  no-record n = rw (standing.no-attribute m b at (from .topics) (from .tables) (from .standing) n)
 
   module _ (e : kindAt b at ≡ 5) where
-    turn : AttributeNext (from .model) b at (from .topics) (from .tables)
-    turn = standing.attribute-here (from .model) b at (from .topics) (from .tables) (from .standing) e
+    turn : AttributeNext m b at (from .topics) (from .tables)
+    turn = standing.attribute-here m b at (from .topics) (from .tables) (from .standing) e
 
     pub good-here : AttributeHere b at
     good-here = turn .good
 
-    pub next-from : AttributesFrom b (nextAt b at)
-    next-from = record { model = from .model; topics = from .topics; tables = from .tables; standing = turn .next }
+    pub next-from : AttributesHere m b (nextAt b at)
+    next-from = record { topics = from .topics; tables = from .tables; standing = turn .next }
 
     pub pairs-next : pairsAt b at ≡ recordPairs b at ++ pairsAt b (nextAt b at)
     unfolding pairsOf
     pairs-next = rw (turn .attributes)
 
-    pub mandatory-next : hasMandatory (pairsAt b at) ≡ (hasMandatory (recordPairs b at) || hasMandatory (pairsAt b (nextAt b at)))
+    mandatory-next : hasMandatory (pairsAt b at) ≡ (hasMandatory (recordPairs b at) || hasMandatory (pairsAt b (nextAt b at)))
     mandatory-next = ap hasMandatory pairs-next ∙ mandatory-append (recordPairs b at) (pairsAt b (nextAt b at))
 
-    pub count-next : length (pairsAt b at) ≡ length (recordPairs b at) + length (pairsAt b (nextAt b at))
-    count-next = ap length pairs-next ∙ length-append (recordPairs b at) (pairsAt b (nextAt b at))
-
     module _ (a : Attribute) (d : Decoded b at a) where
-      module _ (r : Bool) (m : r ≡ hasMandatory (pairsOfType (a .optional) (typeOf a))) where
+      module _ (r : Bool) (h : r ≡ hasMandatory (pairsOfType (a .optional) (typeOf a))) where
         here-mandatory : hasMandatory (recordPairs b at) ≡ r
-        here-mandatory = ap hasMandatory (sym (decoded-pairs b at a d)) ∙ sym m
+        here-mandatory = ap hasMandatory (sym (decoded-pairs b at a d)) ∙ sym h
 
         pub mandatory-found : r ≡ true → true ≡ hasMandatory (pairsAt b at)
         mandatory-found t = sym (mandatory-next ∙ rw (here-mandatory ∙ t))
@@ -143,12 +115,6 @@ module _ (b : List ℕ) (at : ℕ) (from : AttributesFrom b at) where
         pub mandatory-turn : r ≡ false → hasMandatory (pairsAt b at) ≡ hasMandatory (pairsAt b (nextAt b at))
         mandatory-turn f = mandatory-next ∙ rw (here-mandatory ∙ f)
 
-      pub count-turn : (n : ℕ) → n ≡ length (pairsOfType (a .optional) (typeOf a)) → length (pairsAt b at) ≡ n + length (pairsAt b (nextAt b at))
-      count-turn n e = count-next ∙ rw (ap length (sym (decoded-pairs b at a d)) ∙ sym e)
-
   pub mandatory-end : (kindAt b at ≡ 5 → ⊥) → false ≡ hasMandatory (pairsAt b at)
   unfolding hasMandatory
   mandatory-end n = rw (no-record n)
-
-  pub count-end : (kindAt b at ≡ 5 → ⊥) → length (pairsAt b at) ≡ 0
-  count-end n = rw (no-record n)

@@ -21,14 +21,15 @@ use Rattle.value_read.specs.Meant.{fieldOf}
 use Rattle.table_index.specs.Index.{hashOf, insertOf}
 use Rattle.table_index.specs.Holds.{Held}
 use Rattle.table_index.proofs.More.{held-more}
-use Rattle.read_state.specs.declared.TableHere.{TableHere}
+use Rattle.read_objects.specs.declared.OpenTable.{OpenTable}
 use Rattle.read_state.specs.declared.State.{State}
 use Rattle.read_state.specs.declared.Step.the-variants.{Go, No}
 use Rattle.read_state.specs.Meaning.{contentOf, stepOf}
-use Rattle.read_state.specs.Holds.{TableHolds, rowSize, Laid}
+use Rattle.read_state.specs.Holds.{rowSize, Laid}
+use Rattle.read_objects.specs.Tables.{TableHolds}
 use Rattle.read_polylines.proofs.Ways.{point-count}
 use borrow.Rule.Slice.PartMut.{putMid, midOf}
-use Rattle.model_records.proofs.Standing.{here}
+use Rattle.read_objects.proofs.Tables.{tables-few}
 use Rattle.read_objects.specs.Fields.{Ends}
 use Rattle.read_objects.specs.declared.rows.RowOut.{RowOut}
 use Rattle.read_objects.specs.declared.rows.RowOut.the-variants.{Full}
@@ -49,8 +50,8 @@ pub room-cells : (a b c d : ℕ) → (leb a b || ltb c d) ≡ false → d ≤ c
 room-cells a b c d e = ltb-false c d (neither (leb a b) (ltb c d) e .1)
 
 -- the table's number and a row's size stay small
-pub table-small : (m : Model) (b : List ℕ) (h : TableHere) → TableHolds m b h → h .table < length b
-table-small m b h t = omega (arith, t .standing .counted, here m b (h .at) (h .topic + 1) (h .table + 1) (t .standing) .room)
+pub table-small : (m : Model) (b : List ℕ) (h : OpenTable) → TableHolds m b h → h .table < length b
+table-small m b h t = omega (arith, t .table, tables-few m b (h .at) _ _ (t .here .standing))
 
 -- ## The fields in the part of the cells that is lent
 
@@ -109,7 +110,7 @@ module _ (m : Model) (n used used′ t : ℕ) (rows rows′ : List ℕ) (cs cs�
   new-table : cellAt cs′ (getD rows′ n 0) ≡ t
   new-table = ap (cellAt cs′) atRow ∙ ap natAbs atTable
 
-  pub laid-more : Laid m (n + 1) used′ rows′ cs′
+  laid-more : Laid m (n + 1) used′ rows′ cs′
   laid-more = record {
     table = below-more (λ (o : ℕ). cellAt cs′ (getD rows′ o 0) < length (m .tables)) n (λ o l. rw (same-table o l) (d .table o l)) (rw new-table table);
     ends = below-more (λ (o : ℕ). getD rows′ o 0 + rowSize m (cellAt cs′ (getD rows′ o 0)) ≤ used′) n
@@ -120,12 +121,12 @@ module _ (m : Model) (n used used′ t : ℕ) (rows rows′ : List ℕ) (cs cs�
         (λ j. rw (same-table o j, same-row o j, atRow) (d .ends o j)) p g l;
   }
 
-  pub behind-rows : (o : ℕ) → o < n + 1 → getD rows′ o 0 + 2 < used + 3
+  behind-rows : (o : ℕ) → o < n + 1 → getD rows′ o 0 + 2 < used + 3
   behind-rows = below-more (λ (o : ℕ). getD rows′ o 0 + 2 < used + 3) n (λ o l. omega (arith, same-row o l, within o l)) (omega (arith, atRow))
 
 -- ## A row of the line's fields
 
-module _ (b text : List ℕ) (seed : ℕ) (here : TableHere) (s : State) (start size : ℕ) (u : ℕ) (fs : List Field) (rows : List ℕ) (cs : List ℤ) (index : List ℕ)
+module _ (b text : List ℕ) (seed : ℕ) (here : OpenTable) (s : State) (start size : ℕ) (u : ℕ) (fs : List Field) (rows : List ℕ) (cs : List ℤ) (index : List ℕ)
     (held : Held seed text (s .rows) (s .cells) rows cs index) where
   abbrev meant : Rooms → Content → Step
   meant = λ rooms c. storeRow (modelAt b) rooms text (here .table) (fieldOf start (stretch text start size)) c (pairCells u true 3 (pairsAt b (here .at)) fs)

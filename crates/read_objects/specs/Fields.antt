@@ -5,21 +5,13 @@ use mathlib.Core.List.{List, []}
 use lib.IntN.{ℤ}
 use lib.ListN.{length}
 use lib.Seq.{sets}
-use Rattle.meaning.specs.Model.{Model, attributeOf}
+use Rattle.meaning.specs.Model.{attributeOf}
 use Rattle.meaning.specs.Row.{Pair, Cells, cells, refused, pairsOfType}
 use Rattle.model_records.specs.Records.{payloadAt}
-use Rattle.model_records.specs.Standing.{Standing}
 use Rattle.read_fields.specs.Filled.{going}
 use Rattle.read_fields.specs.declared.filling.Filling.{Filling}
 use Rattle.read_objects.specs.declared.rows.RowOut.{RowOut}
 use Rattle.read_objects.specs.declared.rows.RowOut.the-variants.{Full, No}
-
--- attribute records of a good model stand at a byte, up to another record
-pub record AttributesFrom (b : List ℕ) (at : ℕ) : Type 0 where
-  pub model : Model
-  pub topics : ℕ
-  pub tables : ℕ
-  pub standing : Standing model b at topics tables
 
 -- the pairs of the attribute record at a byte
 abbrev pub recordPairs : (b : List ℕ) (at : ℕ) → List Pair

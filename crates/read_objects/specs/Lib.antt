@@ -1,3 +1,4 @@
+pub mod Tables
 pub mod Fields
 pub mod Names
 pub mod Rows

@@ -9,11 +9,11 @@ use Rattle.meaning.specs.Row.{Cells, cells, refused}
 use Rattle.meaning.specs.Reading.{Content, Rooms, dueLines}
 use Rattle.meaning.specs.Lines as lines
 use Rattle.model_records.specs.Records.{modelAt}
-use Rattle.read_state.specs.declared.TableHere.{TableHere}
 use Rattle.read_state.specs.declared.State.{State}
 use Rattle.read_state.specs.declared.Step.{Step}
 use Rattle.read_state.specs.Meaning.{linesAt, dueOf, contentOf, stepOf}
 use Rattle.read_state.specs.Holds.{DueHolds, Holds}
+use Rattle.read_objects.specs.declared.OpenTable.{OpenTable}
 use Rattle.read_objects.specs.declared.rows.RowOut.{RowOut}
 use Rattle.read_objects.specs.declared.rows.RowOut.the-variants.{Full}
 use Rattle.read_polylines.specs.Ways.{StepHolds}
@@ -31,16 +31,19 @@ Fills meant most at entry exit (Full n) = RowFull meant most at n entry exit
 Fills meant most at entry exit (RowOut.No k f) = meant ≡ refused k f
 
 -- r is the state behind a row of so many cells
-pub record Behind (b : List ℕ) (here : TableHere) (s : State) (size : ℕ) (r : State) : Type 0 where
+pub record Behind (b : List ℕ) (here : OpenTable) (s : State) (size : ℕ) (r : State) : Type 0 where
   pub due : dueOf b (r .due) ≡ dueLines (here .table) (s .points) (linesAt b (here .at) (s .cells + 3))
   pub rows : r .rows ≡ s .rows + 1
   pub cells : r .cells ≡ s .cells + size
   pub points : r .points ≡ s .points
-  pub holds : (rows : List ℕ) → ((o : ℕ) → o < s .rows + 1 → getD rows o 0 + 2 < s .cells + 3) → DueHolds (modelAt b) b rows (s .rows + 1) (s .cells + size) (s .points) (r .due)
+  pub holds : (rows : List ℕ) → ((o : ℕ) → o < s .rows + 1 → getD rows o 0 + 2 < s .cells + 3)
+      → DueHolds (modelAt b) b rows (s .rows + 1) (s .cells + size) (s .points) (r .due)
 
 -- a line means this, with the rows and cells before and behind it; and what holds stays
-pub record Adds (b text : List ℕ) (seed : ℕ) (s : State) (meant : Rooms → Content → lines.Step) (rows rows′ : List ℕ) (cells cells′ : List ℤ) (index index′ : List ℕ) (r : Step) : Type 0 where
-  pub step : (k : ℕ) (rooms : Rooms) (marks : List ℕ) (points : List ℤ) → rooms .rows ≡ length rows → rooms .cells ≡ length cells → 4 * s .points ≤ length points
+pub record Adds (b text : List ℕ) (seed : ℕ) (s : State) (meant : Rooms → Content → lines.Step)
+    (rows rows′ : List ℕ) (cells cells′ : List ℤ) (index index′ : List ℕ) (r : Step) : Type 0 where
+  pub step : (k : ℕ) (rooms : Rooms) (marks : List ℕ) (points : List ℤ)
+      → rooms .rows ≡ length rows → rooms .cells ≡ length cells → 4 * s .points ≤ length points
       → stepOf b k r marks rows′ cells′ points ≡ meant rooms (contentOf k s marks rows cells points)
   pub holds : (marks : List ℕ) (points : List ℤ) → Holds (modelAt b) b text seed s marks rows cells points index
       → StepHolds (modelAt b) b text seed r marks rows′ cells′ points index′

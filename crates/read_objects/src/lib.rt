@@ -3,3 +3,9 @@ pub mod naming;
 pub mod reading;
 pub mod rows;
 pub mod storing;
+
+// The table whose objects are read: its number, and the byte of its first attribute record.
+pub struct OpenTable {
+    pub table: usize,
+    pub at: usize,
+}

@@ -11,15 +11,15 @@ ghost use Rattle.meaning.specs.Lines.{no, storeRow, objectFields};
 ghost use Rattle.model_records.specs.Records.{modelAt, pairsAt};
 ghost use Rattle.value_read.specs.Meant.{fieldOf};
 ghost use Rattle.table_index.specs.Holds.{Held};
-ghost use Rattle.read_state.specs.Holds.{TableHolds};
+ghost use Rattle.read_objects.specs.Tables.{TableHolds};
 ghost use Rattle.read_objects.specs.Rows.{Adds};
+use crate::OpenTable;
 use crate::naming;
 use crate::naming::Identified;
 use crate::storing;
 use crate::storing::Name;
 use read_state::State;
 use read_state::Step;
-use read_state::TableHere;
 
 // The object with the identification of so many bytes from `start` on: 15, then its row.
 fn add_object(
@@ -31,7 +31,7 @@ fn add_object(
     cells: &mut [i64],
     index: &mut [u64],
     seed: u64,
-    here: TableHere,
+    here: OpenTable,
     s: State,
     start: usize,
     size: usize,
@@ -40,7 +40,14 @@ fn add_object(
     requires { ⌜ (start + size ≤ end) × (end ≤ length (now text)) × (length (now text) < 2 ^ 62) ⌝ }
     requires { ⌜ length (now model) ≤ 65536 ⌝ }
     requires { ⌜ Held seed (now text) (s .rows) (s .cells) (now rows) (now cells) (now index) ⌝ }
-    ensures { λ r. ⌜ Adds (now (model .entry)) (now (text .entry)) seed s (λ rooms c. refuse (isUsed (stretch (now (text .entry)) start size) (objectsOf (now (text .entry)) (c .cells) (c .rows))) (no 15 2) (storeRow (modelAt (now (model .entry))) rooms (now (text .entry)) (here .table) (fieldOf start (stretch (now (text .entry)) start size)) c (pairCells undefined true 3 (pairsAt (now (model .entry)) (here .at)) (fieldsOf (start + size) (stretch (now (text .entry)) (start + size) (end - (start + size))))))) (now (rows .entry)) (now (rows .exit)) (now (cells .entry)) (now (cells .exit)) (now (index .entry)) (now (index .exit)) r ⌝ }
+    ensures { λ r. ⌜ (let b = now (model .entry) in let t = now (text .entry) in let i = stretch t start size in
+        Adds b t seed s
+        (λ rooms c. refuse (isUsed i (objectsOf t (c .cells) (c .rows))) (no 15 2)
+        (storeRow (modelAt b) rooms t (here .table) (fieldOf start i) c
+        (pairCells undefined true 3 (pairsAt b (here .at))
+        (fieldsOf (start + size) (stretch t (start + size) (end - (start + size)))))))
+        (now (rows .entry)) (now (rows .exit)) (now (cells .entry)) (now (cells .exit))
+        (now (index .entry)) (now (index .exit)) r) ⌝ }
 {
     let stop = start + size;
     let hash = table_index::hash(&text[start..stop], seed);
@@ -70,7 +77,7 @@ fn add_object(
     )
 }
 
-// An OBJE line, which stands in the text from `at` to `end`; its fields behind the code begin `behind` bytes from its start.
+// An OBJE line, in the text from `at` to `end`; its fields behind the code begin `behind` bytes from its start.
 pub fn object_fields(
     model: &[u8],
     text: &[u8],
@@ -82,15 +89,20 @@ pub fn object_fields(
     cells: &mut [i64],
     index: &mut [u64],
     seed: u64,
-    here: TableHere,
+    here: OpenTable,
     s: State,
 ) -> Step
     requires { ⌜ TableHolds (modelAt (now model)) (now model) here ⌝ }
     requires { ⌜ (at + behind ≤ end) × (end ≤ length (now text)) × (length (now text) < 2 ^ 62) ⌝ }
     requires { ⌜ (length (now model) ≤ 65536) × (undefined ≡ modelAt (now model) .undefined) ⌝ }
-    requires { ⌜ (1 ≤ length (fieldsOf at (stretch (now text) at (end - at)))) × (drop 1 (fieldsOf at (stretch (now text) at (end - at))) ≡ fieldsOf (at + behind) (drop behind (stretch (now text) at (end - at)))) ⌝ }
+    requires { ⌜ (let l = stretch (now text) at (end - at) in
+        (1 ≤ length (fieldsOf at l)) × (drop 1 (fieldsOf at l) ≡ fieldsOf (at + behind) (drop behind l))) ⌝ }
     requires { ⌜ Held seed (now text) (s .rows) (s .cells) (now rows) (now cells) (now index) ⌝ }
-    ensures { λ r. ⌜ Adds (now (model .entry)) (now (text .entry)) seed s (λ rooms c. objectFields (modelAt (now (model .entry))) rooms (now (text .entry)) (here .table) (fieldsOf at (stretch (now (text .entry)) at (end - at))) c) (now (rows .entry)) (now (rows .exit)) (now (cells .entry)) (now (cells .exit)) (now (index .entry)) (now (index .exit)) r ⌝ }
+    ensures { λ r. ⌜ (let b = now (model .entry) in let t = now (text .entry) in
+        Adds b t seed s
+        (λ rooms c. objectFields (modelAt b) rooms t (here .table) (fieldsOf at (stretch t at (end - at))) c)
+        (now (rows .entry)) (now (rows .exit)) (now (cells .entry)) (now (cells .exit))
+        (now (index .entry)) (now (index .exit)) r) ⌝ }
 {
     let from = at + behind;
     match naming::take_identification(&text[from..end], undefined) {

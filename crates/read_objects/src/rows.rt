@@ -6,12 +6,14 @@ ghost use lib.ListN.{length};
 ghost use Rattle.meaning.specs.Field.{fieldsOf};
 ghost use Rattle.meaning.specs.Row.{pairsOfType, hasMandatory, pairCells};
 ghost use Rattle.model_records.specs.Attributes.{typeOf};
-ghost use Rattle.model_records.specs.Records.{pairsAt};
-ghost use Rattle.model_records.specs.Standing.{AttributeHere};
+ghost use Rattle.model_records.specs.Records.{modelAt, pairsAt};
+ghost use Rattle.model_records.specs.Standing.{AttributeHere, AttributesHere};
 ghost use Rattle.read_fields.specs.Filled.{goingOver, covering, Counted, Ready, Fills};
-ghost use Rattle.read_objects.specs.Fields.{recordPairs, AttributesFrom, EndsHere, Ends};
+ghost use Rattle.read_objects.specs.Fields.{recordPairs, EndsHere, Ends};
 use base::fields::Next;
+use model_records::ATTRIBUTE;
 use model_records::Attribute;
+use model_records::counts;
 use read_fields::filling;
 use read_fields::filling::Filled;
 use read_fields::filling::Filling;
@@ -35,47 +37,19 @@ fn is_mandatory(a: Attribute) -> bool
     }
 }
 
-// "one pair per attribute, per component for coordinates"
-fn count_pairs(a: Attribute) -> usize
-    requires { ⌜ Counted a ⌝ }
-    ensures count { λ r. ⌜ r ≡ length (pairsOfType (a .optional) (typeOf a)) ⌝ }
-    ensures few { λ r. ⌜ r ≤ 3 ⌝ }
-{
-    let kind = a.kind;
-    match kind {
-        2..=3 => a.components.count,
-        _ => 1,
-    }
-}
-
 // Whether one of the attributes from a byte on may not be undefined.
 pub fn has_mandatory(model: &[u8], at: usize) -> bool
-    requires { ⌜ AttributesFrom (now model) at ⌝ }
+    requires { ⌜ AttributesHere (modelAt (now model)) (now model) at ⌝ }
     ensures { λ r. ⌜ r ≡ hasMandatory (pairsAt (now (model .entry)) at) ⌝ }
 {
     let mut here = at;
-    while model_records::kind_at(model, here) == 5 {
+    while model_records::kind_at(model, here) == ATTRIBUTE {
         if is_mandatory(model_records::attribute_at(model, here)) {
             return true;
         }
         here = model_records::next_at(model, here);
     }
     false
-}
-
-// The count of the pairs of the attributes from a byte on.
-pub fn pair_count(model: &[u8], at: usize) -> usize
-    requires { ⌜ AttributesFrom (now model) at ⌝ }
-    ensures count { λ r. ⌜ r ≡ length (pairsAt (now (model .entry)) at) ⌝ }
-    ensures few { λ r. ⌜ at + r ≤ length (now (model .entry)) ⌝ }
-{
-    let mut here = at;
-    let mut count = 0;
-    while model_records::kind_at(model, here) == 5 {
-        count += count_pairs(model_records::attribute_at(model, here));
-        here = model_records::next_at(model, here);
-    }
-    count
 }
 
 // The pairs of the attribute record at a byte.
@@ -90,7 +64,9 @@ fn put_record(
 ) -> Filled
     requires { ⌜ AttributeHere (now model) at ⌝ }
     requires { ⌜ Ready start (now rest) 6 s ⌝ }
-    ensures { λ r. ⌜ Fills undefined start (now (rest .entry)) 6 (goingOver undefined start (now (rest .entry)) (recordPairs (now (model .entry)) at) s) s (now (cells .entry)) (now (cells .exit)) r ⌝ }
+    ensures { λ r. ⌜ (let rest = now (rest .entry) in
+        Fills undefined start rest 6 (goingOver undefined start rest (recordPairs (now (model .entry)) at) s) s
+        (now (cells .entry)) (now (cells .exit)) r) ⌝ }
 {
     let a = model_records::attribute_at(model, at);
     filling::put_attribute(a, rest, start, undefined, cells, s)
@@ -108,7 +84,7 @@ fn end_row(rest: &[u8], s: Filling) -> RowOut
     }
 }
 
-// Two undefined bytes stood before: the pairs of the attribute that are left and those of the records from a byte on are undefined.
+// Two undefined bytes stood before: the attribute's pairs left and those of the records from a byte on are undefined.
 fn undefine_rest(
     model: &[u8],
     at: usize,
@@ -117,9 +93,11 @@ fn undefine_rest(
     cells: &mut [i64],
     s: Filling,
 ) -> RowOut
-    requires { ⌜ AttributesFrom (now model) at ⌝ }
+    requires { ⌜ AttributesHere (modelAt (now model)) (now model) at ⌝ }
     requires { ⌜ (s .at ≤ length (now rest)) × (s .place + 1 < 2 ^ 64) × (s .used + (left + left) ≤ at + at) ⌝ }
-    ensures { λ r. ⌜ ((start : ℕ) → Ends (covering start (now (rest .entry)) s left (pairsAt (now (model .entry)) at)) (2 * length (now (model .entry))) (s .used) (now (cells .entry)) (now (cells .exit)) r) ⌝ }
+    ensures { λ r. ⌜ ((start : ℕ) → let b = now (model .entry) in
+        Ends (covering start (now (rest .entry)) s left (pairsAt b at)) (2 * length b) (s .used)
+        (now (cells .entry)) (now (cells .exit)) r) ⌝ }
 {
     if has_mandatory(model, at) {
         return RowOut::No(12, s.place);
@@ -128,15 +106,15 @@ fn undefine_rest(
     match base::fields::next_field(&rest[from..]) {
         Next::Field { start, len } => RowOut::No(11, s.place + 1),
         Next::Nothing => {
-            let pairs = left + pair_count(model, at);
+            let pairs = left + counts::count_pairs(model, at);
             storing::put_zeros(cells, s.used, pairs);
             RowOut::Full(s.used + 2 * pairs)
         }
     }
 }
 
-// The fields of an OBJE line behind its identification, as pairs behind the row's first three cells. The part of the cells that
-// starts there is lent on to the field writers.
+// The fields of an OBJE line behind its identification, as pairs behind the row's first three cells. The part of the
+// cells that starts there is lent on to the field writers.
 pub fn row_fields(
     model: &[u8],
     at: usize,
@@ -145,9 +123,11 @@ pub fn row_fields(
     undefined: u8,
     cells: &mut [i64],
 ) -> RowOut
-    requires { ⌜ AttributesFrom (now model) at ⌝ }
+    requires { ⌜ AttributesHere (modelAt (now model)) (now model) at ⌝ }
     requires { ⌜ start + length (now rest) < 2 ^ 62 ⌝ }
-    ensures { λ r. ⌜ Ends (pairCells undefined true 3 (pairsAt (now (model .entry)) at) (fieldsOf start (now (rest .entry)))) (2 * length (now (model .entry))) 0 (now (cells .entry)) (now (cells .exit)) r ⌝ }
+    ensures { λ r. ⌜ (let b = now (model .entry) in
+        Ends (pairCells undefined true 3 (pairsAt b at) (fieldsOf start (now (rest .entry)))) (2 * length b) 0
+        (now (cells .entry)) (now (cells .exit)) r) ⌝ }
 {
     let mut here = at;
     let mut s = Filling {
@@ -156,7 +136,7 @@ pub fn row_fields(
         used: 0,
         before: true,
     };
-    while model_records::kind_at(model, here) == 5 {
+    while model_records::kind_at(model, here) == ATTRIBUTE {
         let next = model_records::next_at(model, here);
         match put_record(model, here, rest, start, undefined, cells, s) {
             Filled::On(t) => {

@@ -2,7 +2,7 @@
 ghost use mathlib.Core.Path.{_≡_};
 ghost use mathlib.Core.Bool.{true, false, _||_};
 ghost use mathlib.Core.List.{[], _∷_};
-ghost use Prim.Native.Nat.{ℕ, _+_, _*_, _-_, _≤_, _<_, _^_, min};
+ghost use Prim.Native.Nat.{ℕ, _+_, _*_, _-_, _≤_, _<_, _^_};
 ghost use lib.Dec.{leb, ltb};
 ghost use lib.IntN.{pos};
 ghost use lib.ListN.{length, take, set};
@@ -12,17 +12,17 @@ ghost use Rattle.meaning.specs.Row.{pairCells};
 ghost use Rattle.meaning.specs.Reading.{stretch, objectsOf, isUsed};
 ghost use Rattle.meaning.specs.Lines.{storeRow};
 ghost use Rattle.model_records.specs.Records.{modelAt, pairsAt};
+ghost use Rattle.model_records.specs.Standing.{AttributesHere};
 ghost use Rattle.value_read.specs.Meant.{fieldOf};
 ghost use Rattle.table_index.specs.Index.{hashOf, insertOf};
 ghost use Rattle.table_index.specs.Holds.{Held};
-ghost use Rattle.read_state.specs.Holds.{TableHolds};
-ghost use Rattle.read_objects.specs.Fields.{AttributesFrom};
+ghost use Rattle.read_objects.specs.Tables.{TableHolds};
 ghost use Rattle.read_objects.specs.Rows.{Fills, Behind, Adds};
+use crate::OpenTable;
 use crate::rows::RowOut;
 use base::numbers;
 use read_state::State;
 use read_state::Step;
-use read_state::TableHere;
 
 // An identification: where it starts in the text, its length, and its hash.
 pub struct Name {
@@ -31,7 +31,7 @@ pub struct Name {
     pub hash: u64,
 }
 
-// The fields behind the identification, as pairs behind the place of the row's first three cells, as far as there is room.
+// The fields behind the identification, as pairs behind the place of the row's first three cells, where there is room.
 fn fill_row(
     model: &[u8],
     at: usize,
@@ -41,10 +41,12 @@ fn fill_row(
     cells: &mut [i64],
     used: usize,
 ) -> RowOut
-    requires { ⌜ AttributesFrom (now model) at ⌝ }
+    requires { ⌜ AttributesHere (modelAt (now model)) (now model) at ⌝ }
     requires { ⌜ start + length (now rest) < 2 ^ 62 ⌝ }
     requires { ⌜ used ≤ length (now cells) ⌝ }
-    ensures { λ r. ⌜ Fills (pairCells undefined true 3 (pairsAt (now (model .entry)) at) (fieldsOf start (now (rest .entry)))) (2 * length (now (model .entry))) (used + 3) (now (cells .entry)) (now (cells .exit)) r ⌝ }
+    ensures { λ r. ⌜ (let b = now (model .entry) in
+        Fills (pairCells undefined true 3 (pairsAt b at) (fieldsOf start (now (rest .entry)))) (2 * length b) (used + 3)
+        (now (cells .entry)) (now (cells .exit)) r) ⌝ }
 {
     let from = numbers::least_of(used + 3, cells.len());
     crate::rows::row_fields(model, at, rest, start, undefined, &mut cells[from..])
@@ -85,8 +87,10 @@ fn add_row(
     requires { ⌜ (object < length (now rows)) × (at + 3 ≤ length (now cells)) ⌝ }
     requires { ⌜ (table < 2 ^ 63) × (name .start < 2 ^ 63) × (name .size < 2 ^ 63) × (name .hash < 4294967296) ⌝ }
     ensures listed { λ _. ⌜ now (rows .exit) ≡ set (now (rows .entry)) object at ⌝ }
-    ensures stored { λ _. ⌜ now (cells .exit) ≡ sets (now (cells .entry)) at (pos table ∷ pos (name .start) ∷ pos (name .size) ∷ []) ⌝ }
-    ensures linked { λ _. ⌜ now (index .exit) ≡ insertOf (now (index .entry)) (length (now (rows .entry))) object (name .hash) ⌝ }
+    ensures stored { λ _. ⌜
+        now (cells .exit) ≡ sets (now (cells .entry)) at (pos table ∷ pos (name .start) ∷ pos (name .size) ∷ []) ⌝ }
+    ensures linked { λ _. ⌜
+        now (index .exit) ≡ insertOf (now (index .entry)) (length (now (rows .entry))) object (name .hash) ⌝ }
 {
     put_head(cells, at, table, name.start, name.size);
     rows[object] = at as u64;
@@ -94,12 +98,13 @@ fn add_row(
 }
 
 // The state behind a row of so many cells.
-fn state_behind(model: &[u8], here: TableHere, s: State, size: usize) -> State
+fn state_behind(model: &[u8], here: OpenTable, s: State, size: usize) -> State
     requires { ⌜ TableHolds (modelAt (now model)) (now model) here ⌝ }
-    requires { ⌜ (s .rows + 1 < 2 ^ 64) × (s .cells + size < 2 ^ 64) × (3 + 2 * length (pairsAt (now model) (here .at)) ≤ size) ⌝ }
+    requires { ⌜ (s .rows + 1 < 2 ^ 64) × (s .cells + size < 2 ^ 64)
+        × (3 + 2 * length (pairsAt (now model) (here .at)) ≤ size) ⌝ }
     ensures { λ r. ⌜ Behind (now (model .entry)) here s size r ⌝ }
 {
-    let due = read_polylines::due_lines(model, here, here.at, s.cells + 3, s.points);
+    let due = read_polylines::due_lines(model, here.table, here.at, s.cells + 3, s.points);
     State {
         due,
         rows: s.rows + 1,
@@ -108,7 +113,7 @@ fn state_behind(model: &[u8], here: TableHere, s: State, size: usize) -> State
     }
 }
 
-// The row of a new identification: its fields from the identification's end to the line's, then 16, then the row joins the table.
+// The row of a new identification: its fields from there to the line's end, then 16, then the row joins the table.
 pub fn store_row(
     model: &[u8],
     text: &[u8],
@@ -117,14 +122,23 @@ pub fn store_row(
     rows: &mut [u64],
     cells: &mut [i64],
     index: &mut [u64],
-    here: TableHere,
+    here: OpenTable,
     s: State,
     name: Name,
 ) -> Step
     requires { ⌜ TableHolds (modelAt (now model)) (now model) here ⌝ }
     requires { ⌜ (name .start + name .size ≤ end) × (end ≤ length (now text)) × (length (now text) < 2 ^ 62) ⌝ }
     requires { ⌜ (length (now model) ≤ 65536) × (s .cells ≤ length (now cells)) × (name .hash < 4294967296) ⌝ }
-    ensures { λ r. ⌜ ((seed : ℕ) → Held seed (now (text .entry)) (s .rows) (s .cells) (now (rows .entry)) (now (cells .entry)) (now (index .entry)) → isUsed (stretch (now (text .entry)) (name .start) (name .size)) (objectsOf (now (text .entry)) (take (s .cells) (now (cells .entry))) (take (s .rows) (now (rows .entry)))) ≡ false → name .hash ≡ hashOf seed (stretch (now (text .entry)) (name .start) (name .size)) → Adds (now (model .entry)) (now (text .entry)) seed s (λ rooms c. storeRow (modelAt (now (model .entry))) rooms (now (text .entry)) (here .table) (fieldOf (name .start) (stretch (now (text .entry)) (name .start) (name .size))) c (pairCells undefined true 3 (pairsAt (now (model .entry)) (here .at)) (fieldsOf (name .start + name .size) (stretch (now (text .entry)) (name .start + name .size) (end - (name .start + name .size)))))) (now (rows .entry)) (now (rows .exit)) (now (cells .entry)) (now (cells .exit)) (now (index .entry)) (now (index .exit)) r) ⌝ }
+    ensures { λ r. ⌜ ((seed : ℕ) → let b = now (model .entry) in let t = now (text .entry) in
+        let i = stretch t (name .start) (name .size) in let from = name .start + name .size in
+        Held seed t (s .rows) (s .cells) (now (rows .entry)) (now (cells .entry)) (now (index .entry))
+        → isUsed i (objectsOf t (take (s .cells) (now (cells .entry))) (take (s .rows) (now (rows .entry)))) ≡ false
+        → name .hash ≡ hashOf seed i
+        → Adds b t seed s
+        (λ rooms c. storeRow (modelAt b) rooms t (here .table) (fieldOf (name .start) i) c
+        (pairCells undefined true 3 (pairsAt b (here .at)) (fieldsOf from (stretch t from (end - from)))))
+        (now (rows .entry)) (now (rows .exit)) (now (cells .entry)) (now (cells .exit))
+        (now (index .entry)) (now (index .exit)) r) ⌝ }
 {
     let from = name.start + name.size;
     match fill_row(

@@ -1,18 +1,18 @@
 -- A point's fields, one after the other. Assumes nothing.
-use Prim.Native.Nat.{ℕ, zero, suc, _+_, _*_, _-_, _≤_, _<_}
+use Prim.Native.Nat.{ℕ, suc, _+_, _-_, _≤_, _<_}
 use native.Mathlib.Nat.{add-assoc, add-zero}
 use native.Mathlib.Numerals.{add-one}
 use native.Mathlib.Omega.{arith}
-use mathlib.Core.Path.{_≡_, refl, sym, ap, _∙_, subst}
+use mathlib.Core.Path.{_≡_, refl, sym, _∙_}
 use mathlib.Core.Bool.{Bool, true, false, _||_}
 use mathlib.Core.List.{List, [], _∷_, _++_, append-nil}
 use lib.IntN.{ℤ, pos}
-use lib.ListN.{length, take, drop, getD, set, length-drop, length-set}
+use lib.ListN.{length, take, drop, getD, set}
 use lib.Seq.{sets, drop-drop, take-suc-set}
 use Rattle.meaning.specs.Bytes.{refuse}
 use Rattle.meaning.specs.Model as meaning
-use Rattle.meaning.specs.Field.{Field, fieldsOf}
-use Rattle.meaning.specs.Value.{Value, pair, wrong, numberOf, isUndefined, isUndefinedTwice}
+use Rattle.meaning.specs.Field.{fieldsOf}
+use Rattle.meaning.specs.Value.{pair, wrong, numberOf}
 use Rattle.meaning.specs.Row.{Cells, cells, refused, putNumber, componentValues, pointCells}
 use Rattle.model_records.specs.declared.Component.{Component}
 use Rattle.model_records.specs.Components.{componentOf, listOf}

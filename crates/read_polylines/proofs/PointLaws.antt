@@ -23,13 +23,13 @@ use Rattle.model_records.specs.declared.Attribute.{Attribute}
 use Rattle.model_records.specs.Records.{modelAt}
 use Rattle.model_records.specs.Attributes.{Decoded}
 use Rattle.read_state.specs.declared.LineState.{LineState}
-use Rattle.read_state.specs.declared.Underway.{Underway}
-use Rattle.read_state.specs.declared.Due.the-variants.{LineOf}
+use Rattle.read_state.specs.declared.OpenLine.{OpenLine}
+use Rattle.read_state.specs.declared.Due.the-variants as due
 use Rattle.read_state.specs.declared.State.{State}
 use Rattle.read_state.specs.declared.Step.{Step}
 use Rattle.read_state.specs.declared.Step.the-variants.{Go, No}
 use Rattle.read_state.specs.Meaning.{lineStateOf, dueOf, contentOf, stepOf}
-use Rattle.read_state.specs.Holds.{LineHolds, Holds}
+use Rattle.read_state.specs.Holds.{LineHolds}
 use Rattle.read_polylines.specs.Ways.{wayOf, Does}
 use Rattle.read_polylines.specs.Points.{movedTo, pointAdded, Stores, Joins}
 use Rattle.read_polylines.proofs.Ways.{due-way, refused-here}
@@ -51,23 +51,23 @@ unfolding pointCells
 point-size kind values = ap suc (length-take-le 3 (values ++ replicate 3 (pos 0)) (rw (length-append values (replicate 3 (pos 0))) (omega arith)))
 
 -- cells stored behind those that count
-pub taken-more : (l vs : List ℤ) (i k : ℕ) → k ≡ i + length vs → k ≤ length l → take k (sets l i vs) ≡ take i l ++ vs
+taken-more : (l vs : List ℤ) (i k : ℕ) → k ≡ i + length vs → k ≤ length l → take k (sets l i vs) ≡ take i l ++ vs
 taken-more l vs i k e h =
     rw (sets-eq vs l i (omega arith))
     (take-at (take i l ++ vs) (drop (i + length vs) l) k (length-append (take i l) vs ∙ rw (length-take-le i l (omega arith)) (sym e)))
 
 -- ## The state behind the point
 
-module _ (b : List ℕ) (u : Underway) (s : State) where
+module _ (b : List ℕ) (u : OpenLine) (s : State) where
   pub does-same : (meant meant′ : Content → lines.Step) (cells points cells′ points′ : List ℤ) (r : Step) → ((c : Content) → meant c ≡ meant′ c) → Does b u s meant cells points cells′ points′ r → Does b u s meant′ cells points cells′ points′ r
   does-same meant meant′ cells points cells′ points′ r e d = record { step = λ k marks rows. d .step k marks rows ∙ e _; holds = d .holds }
 
   module _ (next : LineState) where
     moved-holds : (m : Model) (rows : List ℕ) (n used points points′ : ℕ) → points ≤ points′ → LineHolds m b rows n used points u → LineHolds m b rows n used points′ (movedTo next u)
-    moved-holds m rows n used points points′ g l = record { here = l .here; standing = l .standing; kind = l .kind; line = l .line; behindRows = l .behindRows; fits = l .fits; first = omega (arith, l .first) }
+    moved-holds m rows n used points points′ g l = record { table = l .table; attributes = l .attributes; kind = l .kind; line = l .line; behindRows = l .behindRows; fits = l .fits; first = omega (arith, l .first) }
 
     module _ (a : Attribute) (d : Decoded b (u .at) a) (l : LineHolds (modelAt b) b [] 0 (s .cells) (s .points) u) where
-      due-moved : dueOf b (LineOf (movedTo next u)) ≡ lineOf (withState (lineStateOf next) (wayOf b a u))
+      due-moved : dueOf b (due.Line (movedTo next u)) ≡ lineOf (withState (lineStateOf next) (wayOf b a u))
       due-moved = due-way (modelAt b) b [] 0 (s .cells) (s .points) (movedTo next u) (moved-holds (modelAt b) [] 0 (s .cells) (s .points) (s .points) (omega arith) l) a d
 
       module _ (rooms : Rooms) (text : List ℕ) (kind : ℕ) (cells points : List ℤ) (er : rooms .points ≡ length points) (fits : 4 * s .points ≤ length points) where

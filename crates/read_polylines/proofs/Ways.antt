@@ -20,16 +20,16 @@ use Rattle.meaning.specs.Lines.{Step, go, no, bare, attributeLine, lineDue}
 use Rattle.model_records.specs.Components.{componentsOf}
 use Rattle.model_records.specs.declared.Attribute.{Attribute}
 use Rattle.model_records.specs.Records.{modelAt, payloadAt, nextAt, pairsAt}
-use Rattle.model_records.specs.Standing.{Standing, AttributeNext}
+use Rattle.model_records.specs.Standing.{AttributeNext, AttributesHere}
 use Rattle.model_records.specs.Attributes.{typeOf, Decoded}
 use Rattle.model_records.proofs.Standing.{attribute-here}
 use Rattle.table_index.proofs.Kept.{beside-behind, held-pair}
-use Rattle.read_state.specs.declared.Underway.{Underway}
+use Rattle.read_state.specs.declared.OpenLine.{OpenLine}
 use Rattle.read_state.specs.declared.State.{State}
-use Rattle.read_state.specs.declared.Due.the-variants.{LineOf}
+use Rattle.read_state.specs.declared.Due.the-variants as due
 use Rattle.read_state.specs.declared.Step as state
 use Rattle.read_state.specs.declared.Step.the-variants.{Go, No}
-use Rattle.read_state.specs.Meaning.{lineStateOf, linesAt, underwayOf, dueOf, contentOf}
+use Rattle.read_state.specs.Meaning.{lineStateOf, linesAt, openLineOf, dueOf, contentOf}
 use Rattle.read_state.specs.Holds.{LineHolds, Laid, Holds}
 use Rattle.read_frame.specs.Heads.{HeadOf}
 use Rattle.read_frame.specs.declared.codes.Head.{Head}
@@ -54,15 +54,15 @@ more-one (f ∷ fs) = behind-more (f ∷ fs) 0 (omega arith)
 
 -- ## The record of the line attribute under way
 
-module _ (m : Model) (b rows : List ℕ) (n used points : ℕ) (u : Underway) (h : LineHolds m b rows n used points u) where
-  record-here : AttributeNext m b (u .at) (u .here .topic + 1) (u .here .table + 1)
-  record-here = attribute-here m b (u .at) _ _ (h .standing) (h .kind)
+module _ (m : Model) (b rows : List ℕ) (n used points : ℕ) (u : OpenLine) (h : LineHolds m b rows n used points u) where
+  record-here : AttributeNext m b (u .at) (h .attributes .topics) (h .attributes .tables)
+  record-here = attribute-here m b (u .at) _ _ (h .attributes .standing) (h .kind)
 
-  pub next-standing : Standing m b (nextAt b (u .at)) (u .here .topic + 1) (u .here .table + 1)
-  next-standing = record-here .next
+  pub next-here : AttributesHere m b (nextAt b (u .at))
+  next-here = record { topics = _; tables = _; standing = record-here .next }
 
   -- it has one pair
-  pub next-size : 2 * length (pairsAt b (u .at)) ≡ 2 + 2 * length (pairsAt b (nextAt b (u .at)))
+  next-size : 2 * length (pairsAt b (u .at)) ≡ 2 + 2 * length (pairsAt b (nextAt b (u .at)))
   unfolding pairsOf pairsOfType attributeOf model.typeOf choose
   next-size = rw (record-here .attributes, h .line) (omega arith)
 
@@ -70,8 +70,8 @@ module _ (m : Model) (b rows : List ℕ) (n used points : ℕ) (u : Underway) (h
   next-fits = omega (arith, next-size, h .fits)
 
   -- the same, whatever the rows, and where points were added
-  pub without-rows : LineHolds m b [] 0 used points u
-  without-rows = record { here = h .here; standing = h .standing; kind = h .kind; line = h .line; behindRows = λ o l. absurd (omega arith); fits = h .fits; first = h .first }
+  without-rows : LineHolds m b [] 0 used points u
+  without-rows = record { table = h .table; attributes = h .attributes; kind = h .kind; line = h .line; behindRows = λ o l. absurd (omega arith); fits = h .fits; first = h .first }
 
   -- the attribute of its record
   module _ (a : Attribute) (d : Decoded b (u .at) a) where
@@ -83,8 +83,8 @@ module _ (m : Model) (b rows : List ℕ) (n used points : ℕ) (u : Underway) (h
     unfolding pairsOf pairsOfType lineAttributes
     lines-here = rw (record-here .attributes, line-type, sym (d .optional))
 
-    pub due-way : dueOf b (LineOf u) ≡ lineOf (wayOf b a u)
-    unfolding dueOf underwayOf
+    pub due-way : dueOf b (due.Line u) ≡ lineOf (wayOf b a u)
+    unfolding dueOf openLineOf
     due-way = rw lines-here
 
 -- ## What a code alone makes of it
@@ -120,8 +120,8 @@ module _ (m : Model) (rooms : Rooms) (text : List ℕ) (w : meaning.Underway) (f
 -- ## The state behind it
 
 -- behind an undefined line
-pub behind-same : (b : List ℕ) (a : Attribute) (u : Underway) (s r : State) → Behind b u s (u .first) r → (meant : Content → Step) (cells points : List ℤ)
-    → ((c : Content) → go (dueLines (u .here .table) (u .first) (wayOf b a u .others)) c ≡ meant c) → Does b u s meant cells points cells points (Go r)
+pub behind-same : (b : List ℕ) (a : Attribute) (u : OpenLine) (s r : State) → Behind b u s (u .first) r → (meant : Content → Step) (cells points : List ℤ)
+    → ((c : Content) → go (dueLines (u .table) (u .first) (wayOf b a u .others)) c ≡ meant c) → Does b u s meant cells points cells points (Go r)
 behind-same b a u s r h meant cells points e = record {
   step = λ k marks rows. rw (h .due, h .rows, h .cells, h .points) (e (contentOf k s marks rows cells points));
   holds = λ text seed marks rows index l held. record {
@@ -157,8 +157,8 @@ laid-pair m n used rows cells x v w behind d = record {
         ∙ getD-set-other cells x (getD rows o 0) v (pos 0) (λ q. omega (arith, behind o l))
 
 -- behind the end of a line
-pub behind-pair : (b : List ℕ) (a : Attribute) (u : Underway) (s r : State) → Behind b u s (s .points) r → (meant : Content → Step) (cells points : List ℤ) → u .cell + 1 < s .cells → 4 * s .points ≤ length points
-    → ((c : Content) → go (dueLines (u .here .table) (pointCount c) (wayOf b a u .others)) (withLine (wayOf b a u) c) ≡ meant c)
+pub behind-pair : (b : List ℕ) (a : Attribute) (u : OpenLine) (s r : State) → Behind b u s (s .points) r → (meant : Content → Step) (cells points : List ℤ) → u .cell + 1 < s .cells → 4 * s .points ≤ length points
+    → ((c : Content) → go (dueLines (u .table) (pointCount c) (wayOf b a u .others)) (withLine (wayOf b a u) c) ≡ meant c)
     → Does b u s meant cells points (set (set cells (u .cell) (pos (1 + (s .points - u .first)))) (u .cell + 1) (pos (u .first))) points (Go r)
 unfolding withLine
 behind-pair b a u s r h meant cells points inside fits e = record {
@@ -179,7 +179,7 @@ behind-pair b a u s r h meant cells points inside fits e = record {
 
 -- ## A refusal
 
-pub refused-here : (b : List ℕ) (u : Underway) (s : State) (meant : Content → Step) (cells points : List ℤ) (number field : ℕ) → ((c : Content) → no number field ≡ meant c) → Does b u s meant cells points cells points (No number field)
+pub refused-here : (b : List ℕ) (u : OpenLine) (s : State) (meant : Content → Step) (cells points : List ℤ) (number field : ℕ) → ((c : Content) → no number field ≡ meant c) → Does b u s meant cells points cells points (No number field)
 refused-here b u s meant cells points number field e = record { step = λ k marks rows. e (contentOf k s marks rows cells points); holds = λ text seed marks rows index l held. tt }
 
 -- ## A line by its move
@@ -188,26 +188,26 @@ pub unexpected-line : (m : Model) (rooms : Rooms) (text : List ℕ) (w : meaning
 unfolding attributeLine
 unexpected-line m rooms text w fs c = refl
 
-pub by-move : (b : List ℕ) (u : Underway) (s : State) (m : Model) (rooms : Rooms) (text : List ℕ) (w : meaning.Underway) (fs : List Field) (cells points cells′ points′ : List ℤ) (move move′ : meaning.Move) → move ≡ move′
+pub by-move : (b : List ℕ) (u : OpenLine) (s : State) (m : Model) (rooms : Rooms) (text : List ℕ) (w : meaning.Underway) (fs : List Field) (cells points cells′ points′ : List ℤ) (move move′ : meaning.Move) → move ≡ move′
     → (r : state.Step) → Does b u s (λ c. attributeLine m rooms text w fs c move) cells points cells′ points′ r → Does b u s (λ c. attributeLine m rooms text w fs c move′) cells points cells′ points′ r
 by-move b u s m rooms text w fs cells points cells′ points′ move move′ e r d = subst (λ (x : meaning.Move). Does b u s (λ c. attributeLine m rooms text w fs c x) cells points cells′ points′ r) e d
 
 -- a line of what is due is a line of the line attribute under way
-pub due-line : (b : List ℕ) (a : Attribute) (u : Underway) (s : State) → LineHolds (modelAt b) b [] 0 (s .cells) (s .points) u → Decoded b (u .at) a
+pub due-line : (b : List ℕ) (a : Attribute) (u : OpenLine) (s : State) → LineHolds (modelAt b) b [] 0 (s .cells) (s .points) u → Decoded b (u .at) a
     → (rooms : Rooms) (text l : List ℕ) (fs : List Field) (cells points cells′ points′ : List ℤ) (r : state.Step)
     → Does b u s (λ c. attributeLine (modelAt b) rooms text (wayOf b a u) fs c (meaning.move (lineStateOf (u .state)) (meaning.lineCodeOf fs))) cells points cells′ points′ r
-    → Does b u s (λ c. lineDue (modelAt b) rooms text (dueOf b (LineOf u)) l fs c) cells points cells′ points′ r
+    → Does b u s (λ c. lineDue (modelAt b) rooms text (dueOf b (due.Line u)) l fs c) cells points cells′ points′ r
 unfolding lineDue
 due-line b a u s h d rooms text l fs cells points cells′ points′ r x = subst (λ (y : meaning.Due). Does b u s (λ c. lineDue (modelAt b) rooms text y l fs c) cells points cells′ points′ r) (sym (due-way (modelAt b) b [] 0 (s .cells) (s .points) u h a d)) x
 
 -- ## What a caller has
 
 -- between two lines a line attribute is under way
-pub line-held : (b text : List ℕ) (seed : ℕ) (s : State) (marks rows : List ℕ) (cells points : List ℤ) (index : List ℕ) (u : Underway) → s .due ≡ LineOf u → Holds (modelAt b) b text seed s marks rows cells points index
+pub line-held : (b text : List ℕ) (seed : ℕ) (s : State) (marks rows : List ℕ) (cells points : List ℤ) (index : List ℕ) (u : OpenLine) → s .due ≡ due.Line u → Holds (modelAt b) b text seed s marks rows cells points index
     → LineHolds (modelAt b) b rows (s .rows) (s .cells) (s .points) u
 line-held b text seed s marks rows cells points index u e h = rw e at (h .due)
 
-pub given : (b text : List ℕ) (seed : ℕ) (s : State) (marks rows : List ℕ) (cells points : List ℤ) (index : List ℕ) (u : Underway) (undefined : ℕ) → s .due ≡ LineOf u → modelAt b .undefined ≡ undefined → Holds (modelAt b) b text seed s marks rows cells points index
+pub given : (b text : List ℕ) (seed : ℕ) (s : State) (marks rows : List ℕ) (cells points : List ℤ) (index : List ℕ) (u : OpenLine) (undefined : ℕ) → s .due ≡ due.Line u → modelAt b .undefined ≡ undefined → Holds (modelAt b) b text seed s marks rows cells points index
     → Given b undefined u s cells points
 given b text seed s marks rows cells points index u undefined e f h = record {
   line = without-rows (modelAt b) b rows (s .rows) (s .cells) (s .points) u (line-held b text seed s marks rows cells points index u e h);

@@ -17,13 +17,17 @@ use Rattle.read_polylines.specs.declared.point_fields.PointAnswer.the-va
 pub record ValueGot (u : ℕ) (c : Component) (rest : List ℕ) (v : ℤ) (end : ℕ) : Type 0 where
   pub within : end ≤ length rest
   pub meant : (start place : ℕ) (cs : List Component)
-      → componentValues u place (c ∷ cs) (fieldsOf start rest) ≡ prefixed (v ∷ []) (componentValues u (place + 1) cs (fieldsOf (start + end) (drop end rest)))
+      → componentValues u place (c ∷ cs) (fieldsOf start rest)
+      ≡ prefixed (v ∷ []) (componentValues u (place + 1) cs (fieldsOf (start + end) (drop end rest)))
 
 abbrev pub GetsValue : ℕ → Component → List ℕ → got.Got → Type 0
 GetsValue u c rest (gets.Value v end) = ValueGot u c rest v end
-GetsValue u c rest (gets.No k) = (start place : ℕ) (cs : List Component) → componentValues u place (c ∷ cs) (fieldsOf start rest) ≡ refused k place
+GetsValue u c rest (gets.No k) = (start place : ℕ) (cs : List Component)
+    → componentValues u place (c ∷ cs) (fieldsOf start rest) ≡ refused k place
 
 -- the values of a point whose fields begin at place 2: as many as there are components
 abbrev pub ReadsPoint : ℕ → List Component → List ℕ → ℕ → List ℤ → PointAnswer → Type 0
-ReadsPoint u cs rest count values Read = ((start : ℕ) → componentValues u 2 cs (fieldsOf start rest) ≡ cells (take count values)) × (length values ≡ 3)
-ReadsPoint u cs rest count values (No k f) = (start : ℕ) → componentValues u 2 cs (fieldsOf start rest) ≡ refused k f
+ReadsPoint u cs rest count values Read =
+    ((start : ℕ) → componentValues u 2 cs (fieldsOf start rest) ≡ cells (take count values)) × (length values ≡ 3)
+ReadsPoint u cs rest count values (No k f) =
+    (start : ℕ) → componentValues u 2 cs (fieldsOf start rest) ≡ refused k f

@@ -9,66 +9,59 @@ ghost use Rattle.meaning.specs.Reading.{dueLines, Rooms, move};
 ghost use Rattle.meaning.specs.Lines.{attributeLine, lineDue};
 ghost use Rattle.model_records.specs.Attributes.{Decoded};
 ghost use Rattle.model_records.specs.Records.{modelAt, pairsAt};
-ghost use Rattle.model_records.specs.Standing.{Standing};
-ghost use Rattle.read_state.specs.declared.Due.the-variants.{LineOf};
+ghost use Rattle.model_records.specs.Standing.{AttributesHere};
+ghost use Rattle.read_state.specs.declared.Due.the-variants.{Line};
 ghost use Rattle.read_state.specs.Meaning.{lineStateOf, lineCodeOf, dueOf, linesAt};
-ghost use Rattle.read_state.specs.Holds.{TableHolds, DueHolds};
-ghost use Rattle.read_polylines.specs.Cells.{pairCells};
+ghost use Rattle.read_state.specs.Holds.{DueHolds};
 ghost use Rattle.read_polylines.specs.Ways.{wayOf, Given, Does};
 
 pub mod moves;
 pub mod point_fields;
 pub mod points;
 
+use model_records::ATTRIBUTE;
 use model_records::Attribute;
+use model_records::counts;
 use read_state::Due;
 use read_state::LineCode;
 use read_state::LineState;
 use read_state::Move;
+use read_state::OpenLine;
 use read_state::State;
 use read_state::Step;
-use read_state::TableHere;
-use read_state::Underway;
-
-// The cells of the pairs of an attribute, by the number of its type.
-fn count_cells(kind: u8) -> usize
-    ensures { λ r. ⌜ r ≡ pairCells kind ⌝ }
-{
-    match kind {
-        2 => 4,
-        3 => 6,
-        _ => 2,
-    }
-}
 
 // The next line attribute among the attribute records from `at` on, whose first pair is at `cell`, or the next object.
-pub fn due_lines(model: &[u8], here: TableHere, at: usize, cell: usize, first: usize) -> Due
-    requires { ⌜ TableHolds (modelAt (now model)) (now model) here ⌝ }
-    requires { ⌜ Standing (modelAt (now model)) (now model) at (here .topic + 1) (here .table + 1) ⌝ }
+pub fn due_lines(model: &[u8], table: usize, at: usize, cell: usize, first: usize) -> Due
+    requires { ⌜ table < length (modelAt (now model) .tables) ⌝ }
+    requires { ⌜ AttributesHere (modelAt (now model)) (now model) at ⌝ }
     requires { ⌜ cell + 2 * length (pairsAt (now model) at) < 2 ^ 64 ⌝ }
-    ensures due { λ r. ⌜ dueOf (now (model .entry)) r ≡ dueLines (here .table) first (linesAt (now (model .entry)) at cell) ⌝ }
-    ensures holds { λ r. ⌜ ((rows : List ℕ) (n used points : ℕ) → ((o : ℕ) → o < n → getD rows o 0 + 2 < cell) → cell + 2 * length (pairsAt (now (model .entry)) at) ≤ used → first ≤ points → DueHolds (modelAt (now (model .entry))) (now (model .entry)) rows n used points r) ⌝ }
+    ensures due { λ r. ⌜
+        dueOf (now (model .entry)) r ≡ dueLines table first (linesAt (now (model .entry)) at cell) ⌝ }
+    ensures holds { λ r. ⌜ ((rows : List ℕ) (n used points : ℕ) → let b = now (model .entry) in
+        ((o : ℕ) → o < n → getD rows o 0 + 2 < cell) → cell + 2 * length (pairsAt b at) ≤ used → first ≤ points
+        → DueHolds (modelAt b) b rows n used points r) ⌝ }
 {
     let mut byte = at;
     let mut pair = cell;
-    while model_records::kind_at(model, byte) == 5 {
+    while model_records::kind_at(model, byte) == ATTRIBUTE {
         let kind = model[byte + 5];
         if kind == 8 {
-            return Due::LineOf(Underway {
-                here,
+            return Due::Line(OpenLine {
+                table,
                 state: LineState::Unstarted,
                 first,
                 at: byte,
                 cell: pair,
             });
         }
-        pair += count_cells(kind);
+        let counts = counts::count_of(kind);
+        pair += 2 * counts.pairs;
         byte = model_records::next_at(model, byte);
     }
-    Due::ObjectOf(here)
+    Due::Object(table)
 }
 
-// A line of the line attribute under way, by its code and the rest of the line behind it; a is the attribute of its record.
+// A line of the line attribute under way, by its code and the rest behind it; a is the attribute of its record.
 fn move_line(
     model: &[u8],
     a: Attribute,
@@ -77,12 +70,18 @@ fn move_line(
     undefined: u8,
     cells: &mut [i64],
     points: &mut [i64],
-    u: Underway,
+    u: OpenLine,
     s: State,
 ) -> Step
     requires { ⌜ Given (now model) undefined u s (now cells) (now points) ⌝ }
     requires { ⌜ Decoded (now model) (u .at) a ⌝ }
-    ensures { λ r. ⌜ ((rooms : Rooms) (text : List ℕ) (fs : List Field) (start : ℕ) → rooms .points ≡ length (now (points .entry)) → drop 1 fs ≡ fieldsOf start (now (rest .entry)) → meaning.lineCodeOf fs ≡ lineCodeOf code → Does (now (model .entry)) u s (λ c. attributeLine (modelAt (now (model .entry))) rooms text (wayOf (now (model .entry)) a u) fs c (move (lineStateOf (u .state)) (meaning.lineCodeOf fs))) (now (cells .entry)) (now (points .entry)) (now (cells .exit)) (now (points .exit)) r) ⌝ }
+    ensures { λ r. ⌜ ((rooms : Rooms) (text : List ℕ) (fs : List Field) (start : ℕ) → let b = now (model .entry) in
+        rooms .points ≡ length (now (points .entry)) → drop 1 fs ≡ fieldsOf start (now (rest .entry))
+        → meaning.lineCodeOf fs ≡ lineCodeOf code
+        → Does b u s
+        (λ c. attributeLine (modelAt b) rooms text (wayOf b a u) fs c
+        (move (lineStateOf (u .state)) (meaning.lineCodeOf fs)))
+        (now (cells .entry)) (now (points .entry)) (now (cells .exit)) (now (points .exit)) r) ⌝ }
 {
     let state = u.state;
     match state.step(code) {
@@ -110,11 +109,15 @@ pub fn attribute_line(
     undefined: u8,
     cells: &mut [i64],
     points: &mut [i64],
-    u: Underway,
+    u: OpenLine,
     s: State,
 ) -> Step
     requires { ⌜ Given (now model) undefined u s (now cells) (now points) ⌝ }
-    ensures { λ r. ⌜ ((rooms : Rooms) (text : List ℕ) (start : ℕ) → rooms .points ≡ length (now (points .entry)) → Does (now (model .entry)) u s (λ c. lineDue (modelAt (now (model .entry))) rooms text (dueOf (now (model .entry)) (LineOf u)) (now (l .entry)) (fieldsOf start (now (l .entry))) c) (now (cells .entry)) (now (points .entry)) (now (cells .exit)) (now (points .exit)) r) ⌝ }
+    ensures { λ r. ⌜ ((rooms : Rooms) (text : List ℕ) (start : ℕ) → let b = now (model .entry) in
+        rooms .points ≡ length (now (points .entry))
+        → Does b u s
+        (λ c. lineDue (modelAt b) rooms text (dueOf b (Line u)) (now (l .entry)) (fieldsOf start (now (l .entry))) c)
+        (now (cells .entry)) (now (points .entry)) (now (cells .exit)) (now (points .exit)) r) ⌝ }
 {
     let at = u.at;
     let head = read_frame::codes::head_of(l);

@@ -12,33 +12,33 @@ ghost use Rattle.model_records.specs.Records.{modelAt};
 ghost use Rattle.read_state.specs.Meaning.{lineCodeOf};
 ghost use Rattle.read_polylines.specs.Codes.{codeOf};
 ghost use Rattle.read_polylines.specs.Ways.{wayOf, Ready, Behind, Does};
+use read_frame::codes;
 use read_state::LineCode;
+use read_state::OpenLine;
 use read_state::State;
 use read_state::Step;
-use read_state::Underway;
 
 // The code of a line, by the number of its code.
 pub fn name_code(number: u8) -> LineCode
     ensures { λ r. ⌜ lineCodeOf r ≡ codeOf number ⌝ }
 {
     match number {
-        9 => LineCode::Stpt,
-        10 => LineCode::Lipt,
-        11 => LineCode::Arcp,
-        12 => LineCode::Elin,
+        codes::STPT => LineCode::Stpt,
+        codes::LIPT => LineCode::Lipt,
+        codes::ARCP => LineCode::Arcp,
+        codes::ELIN => LineCode::Elin,
         _ => LineCode::Other,
     }
 }
 
 // The state behind the last line of the line attribute under way: the next one has this first point.
-fn behind_line(model: &[u8], u: Underway, s: State, first: usize) -> State
+fn behind_line(model: &[u8], u: OpenLine, s: State, first: usize) -> State
     requires { ⌜ Ready (now model) u s ⌝ }
     ensures { λ r. ⌜ Behind (now (model .entry)) u s first r ⌝ }
 {
     let at = u.at;
-    let here = u.here;
     let next = model_records::next_at(model, at);
-    let due = crate::due_lines(model, here, next, u.cell + 2, first);
+    let due = crate::due_lines(model, u.table, next, u.cell + 2, first);
     State {
         due,
         rows: s.rows,
@@ -48,9 +48,13 @@ fn behind_line(model: &[u8], u: Underway, s: State, first: usize) -> State
 }
 
 // "ELIN alone is an undefined line".
-pub fn undefined_line(model: &[u8], optional: bool, rest: &[u8], u: Underway, s: State) -> Step
+pub fn undefined_line(model: &[u8], optional: bool, rest: &[u8], u: OpenLine, s: State) -> Step
     requires { ⌜ Ready (now model) u s ⌝ }
-    ensures { λ r. ⌜ ((a : Attribute) (rooms : Rooms) (text : List ℕ) (fs : List Field) (start : ℕ) (cells points : List ℤ) → a .optional ≡ optional → drop 1 fs ≡ fieldsOf start (now (rest .entry)) → Does (now (model .entry)) u s (λ c. attributeLine (modelAt (now (model .entry))) rooms text (wayOf (now (model .entry)) a u) fs c undefinedLine) cells points cells points r) ⌝ }
+    ensures { λ r. ⌜ ((a : Attribute) (rooms : Rooms) (text : List ℕ) (fs : List Field) (start : ℕ)
+        (cells points : List ℤ) → let b = now (model .entry) in
+        a .optional ≡ optional → drop 1 fs ≡ fieldsOf start (now (rest .entry))
+        → Does b u s (λ c. attributeLine (modelAt b) rooms text (wayOf b a u) fs c undefinedLine)
+        cells points cells points r) ⌝ }
 {
     if !optional {
         return Step::No(12, 1);
@@ -65,17 +69,22 @@ pub fn undefined_line(model: &[u8], optional: bool, rest: &[u8], u: Underway, s:
 fn put_line(cells: &mut [i64], cell: usize, count: usize, first: usize)
     requires { ⌜ cell + 1 < length (now cells) ⌝ }
     requires { ⌜ (count < 2 ^ 61) × (first < 2 ^ 61) ⌝ }
-    ensures { λ _. ⌜ now (cells .exit) ≡ set (set (now (cells .entry)) cell (pos (1 + count))) (cell + 1) (pos first) ⌝ }
+    ensures { λ _. ⌜
+        now (cells .exit) ≡ set (set (now (cells .entry)) cell (pos (1 + count))) (cell + 1) (pos first) ⌝ }
 {
     cells[cell] = (1 + count) as i64;
     cells[cell + 1] = first as i64;
 }
 
 // ELIN behind the last point of a line.
-pub fn end_line(model: &[u8], rest: &[u8], cells: &mut [i64], u: Underway, s: State) -> Step
+pub fn end_line(model: &[u8], rest: &[u8], cells: &mut [i64], u: OpenLine, s: State) -> Step
     requires { ⌜ Ready (now model) u s ⌝ }
     requires { ⌜ s .cells ≤ length (now cells) ⌝ }
-    ensures { λ r. ⌜ ((a : Attribute) (rooms : Rooms) (text : List ℕ) (fs : List Field) (start : ℕ) (points : List ℤ) → 4 * s .points ≤ length points → drop 1 fs ≡ fieldsOf start (now (rest .entry)) → Does (now (model .entry)) u s (λ c. attributeLine (modelAt (now (model .entry))) rooms text (wayOf (now (model .entry)) a u) fs c ended) (now (cells .entry)) points (now (cells .exit)) points r) ⌝ }
+    ensures { λ r. ⌜ ((a : Attribute) (rooms : Rooms) (text : List ℕ) (fs : List Field) (start : ℕ)
+        (points : List ℤ) → let b = now (model .entry) in
+        4 * s .points ≤ length points → drop 1 fs ≡ fieldsOf start (now (rest .entry))
+        → Does b u s (λ c. attributeLine (modelAt b) rooms text (wayOf b a u) fs c ended)
+        (now (cells .entry)) points (now (cells .exit)) points r) ⌝ }
 {
     if !read_frame::lines::is_bare(rest) {
         return Step::No(11, 2);

@@ -1,11 +1,9 @@
 // A point: the values of its line's fields, and its four cells.
 ghost use mathlib.Core.Path.{_≡_};
-ghost use Prim.Native.Nat.{ℕ, _+_, _≤_};
-ghost use lib.IntN.{ℤ};
+ghost use Prim.Native.Nat.{_+_, _≤_};
 ghost use lib.ListN.{length, take};
 ghost use lib.Seq.{sets};
-ghost use Rattle.meaning.specs.Field.{fieldsOf};
-ghost use Rattle.meaning.specs.Row.{componentValues, pointCells};
+ghost use Rattle.meaning.specs.Row.{pointCells};
 ghost use Rattle.model_records.specs.Components.{componentOf, componentsOf};
 ghost use Rattle.read_polylines.specs.PointFields.{GetsValue, ReadsPoint};
 use base::fields::Next;
@@ -54,7 +52,8 @@ fn get_value(rest: &[u8], undefined: u8, component: Component) -> Got
 // The values of a point's fields, which follow its line's code.
 pub fn point_values(rest: &[u8], undefined: u8, components: Components) -> PointOut
     requires { ⌜ (components .count ≤ 3) × (length (components .items) ≡ 3) ⌝ }
-    ensures { λ r. ⌜ ReadsPoint undefined (componentsOf components) (now (rest .entry)) (components .count) (r .values) (r .answer) ⌝ }
+    ensures { λ r. ⌜ ReadsPoint undefined (componentsOf components) (now (rest .entry)) (components .count)
+        (r .values) (r .answer) ⌝ }
 {
     let count = components.count;
     let items = components.items;

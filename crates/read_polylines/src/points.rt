@@ -22,9 +22,9 @@ use model_records::Components;
 use read_state::Due;
 use read_state::LineCode;
 use read_state::LineState;
+use read_state::OpenLine;
 use read_state::State;
 use read_state::Step;
-use read_state::Underway;
 
 // A point joins the table where there is room for it; u has the line state behind it.
 fn store_point(
@@ -32,12 +32,13 @@ fn store_point(
     kind: u8,
     values: [i64; 3],
     count: usize,
-    u: Underway,
+    u: OpenLine,
     s: State,
 ) -> Step
     requires { ⌜ (2 ≤ count) × (count ≤ 3) × (length values ≡ 3) ⌝ }
     requires { ⌜ 4 * s .points ≤ length (now points) ⌝ }
-    ensures { λ r. ⌜ Stores (pointCells kind (take count values)) u s (now (points .entry)) (now (points .exit)) r ⌝ }
+    ensures { λ r. ⌜
+        Stores (pointCells kind (take count values)) u s (now (points .entry)) (now (points .exit)) r ⌝ }
 {
     let at = 4 * s.points;
     if points.len() - at < 4 {
@@ -45,7 +46,7 @@ fn store_point(
     }
     crate::point_fields::put_point(points, at, kind, values, count);
     Step::Go(State {
-        due: Due::LineOf(u),
+        due: Due::Line(u),
         rows: s.rows,
         cells: s.cells,
         points: s.points + 1,
@@ -59,12 +60,13 @@ fn read_point(
     undefined: u8,
     points: &mut [i64],
     kind: u8,
-    u: Underway,
+    u: OpenLine,
     s: State,
 ) -> Step
     requires { ⌜ (2 ≤ components .count) × (components .count ≤ 3) × (length (components .items) ≡ 3) ⌝ }
     requires { ⌜ 4 * s .points ≤ length (now points) ⌝ }
-    ensures { λ r. ⌜ ((start : ℕ) → Joins kind u s (now (points .entry)) (now (points .exit)) r (componentValues undefined 2 (componentsOf components) (fieldsOf start (now (rest .entry))))) ⌝ }
+    ensures { λ r. ⌜ ((start : ℕ) → Joins kind u s (now (points .entry)) (now (points .exit)) r
+        (componentValues undefined 2 (componentsOf components) (fieldsOf start (now (rest .entry))))) ⌝ }
 {
     let count = components.count;
     let out = crate::point_fields::point_values(rest, undefined, components);
@@ -85,21 +87,25 @@ pub fn point_line(
     points: &mut [i64],
     kind: u8,
     next: LineState,
-    u: Underway,
+    u: OpenLine,
     s: State,
 ) -> Step
     requires { ⌜ (2 ≤ a .components .count) × (a .components .count ≤ 3) × (length (a .components .items) ≡ 3) ⌝ }
     requires { ⌜ 4 * s .points ≤ length (now points) ⌝ }
-    ensures { λ r. ⌜ ((b text : List ℕ) (rooms : Rooms) (fs : List Field) (start : ℕ) (cells : List ℤ) → Decoded b (u .at) a → LineHolds (modelAt b) b [] 0 (s .cells) (s .points) u → modelAt b .undefined ≡ undefined → rooms .points ≡ length (now (points .entry)) → drop 1 fs ≡ fieldsOf start (now (rest .entry)) → meaning.lineCodeOf fs ≡ lineCodeOf code → Does b u s (λ c. attributeLine (modelAt b) rooms text (wayOf b a u) fs c (point kind (lineStateOf next))) cells (now (points .entry)) cells (now (points .exit)) r) ⌝ }
+    ensures { λ r. ⌜ ((b text : List ℕ) (rooms : Rooms) (fs : List Field) (start : ℕ) (cells : List ℤ)
+        → Decoded b (u .at) a → LineHolds (modelAt b) b [] 0 (s .cells) (s .points) u
+        → modelAt b .undefined ≡ undefined → rooms .points ≡ length (now (points .entry))
+        → drop 1 fs ≡ fieldsOf start (now (rest .entry)) → meaning.lineCodeOf fs ≡ lineCodeOf code
+        → Does b u s (λ c. attributeLine (modelAt b) rooms text (wayOf b a u) fs c (point kind (lineStateOf next)))
+        cells (now (points .entry)) cells (now (points .exit)) r) ⌝ }
 {
     let state = u.state;
     if state.forbids(code, a.number) {
         return Step::No(18, 1);
     }
     let components = a.components;
-    let here = u.here;
-    let moved = Underway {
-        here,
+    let moved = OpenLine {
+        table: u.table,
         state: next,
         first: u.first,
         at: u.at,

@@ -6,7 +6,7 @@ use mathlib.Core.Bool.{Bool}
 use mathlib.Core.List.{List, _++_}
 use mathlib.Core.Logic.{inl}
 use lib.IntN.{ℤ}
-use lib.ListN.{length, drop, length-drop}
+use lib.ListN.{drop, length-drop}
 use lib.Seq.{getD-drop}
 use Rattle.meaning.specs.Bytes.{choose, byteAt, u16At}
 use Rattle.meaning.specs.Model.{Model, found, missing, targetOf, typeOf, componentsOf, attributeOf}

@@ -1,4 +1,3 @@
 pub mod Named
-pub mod Walk
 pub mod Attributes
 pub mod Resolving

@@ -1,15 +1,15 @@
 -- The pair of a reference, by what is found. Assumes nothing.
-use Prim.Native.Nat.{ℕ, suc, _+_, _-_, _≤_, _<_}
+use Prim.Native.Nat.{ℕ, _+_, _-_, _<_}
 use native.Mathlib.Omega.{arith}
-use mathlib.Core.Path.{_≡_, refl, sym, ap, _∙_}
+use mathlib.Core.Path.{_≡_, refl}
 use mathlib.Core.Bool.{Bool, true, false, _&&_}
 use mathlib.Core.List.{List, [], _∷_}
-use lib.ListN.{length, set, take}
+use lib.ListN.{length, set}
 use lib.IntN.{ℤ, pos}
 use lib.Dec.{eqb}
 use borrow.Author.Tests.{eq-eqb, ne-eqb}
 use Rattle.meaning.specs.Bytes.{choose}
-use Rattle.meaning.specs.Model.{Found, found, missing}
+use Rattle.meaning.specs.Model.{found, missing}
 use Rattle.meaning.specs.Value.{sameIdentification}
 use Rattle.meaning.specs.Reading.{Object, stretch, cellAt}
 use Rattle.meaning.specs.Table.{findObject, resolved, unresolved, putReference, resolvePair}

@@ -14,14 +14,14 @@ use Rattle.meaning.specs.Model.{Found, found, missing, targetOf, Attribute, Tab
 use Rattle.meaning.specs.Row.{Pair, OfAttribute, OfComponent, OfLine, pairsOf}
 use Rattle.meaning.specs.Reading.{Object, stretch, cellAt, objectAt, objectsOf}
 use Rattle.meaning.specs.Table.{Resolved, resolved, unresolved, afterResolved, findObject, putReference, resolvePair, resolvePairs, resolveRows}
-use Rattle.model_records.specs.Records.{kindAt, payloadAt, nextAt, pairsAt}
-use Rattle.model_records.specs.Standing.{Standing, AttributeHere, AttributeNext}
+use Rattle.model_records.specs.Records.{kindAt, payloadAt, nextAt, attributesAt, pairsAt}
+use Rattle.model_records.specs.Places.{attributesPlace, tablePlace, TableRecord, Noted}
+use Rattle.model_records.specs.Standing.{AttributeHere, AttributeNext, AttributesHere}
 use Rattle.model_records.proofs.Standing.{attribute-here, no-attribute}
 use Rattle.model_records.proofs.Types.{parts-room}
 use Rattle.table_index.specs.Holds.{Held}
 use Rattle.table_index.proofs.Kept.{beside-in, held-pair, held-beside, objects-beside}
 use Rattle.read_state.specs.Holds.{Laid}
-use Rattle.read_references.specs.Placed.{PlaceOf, Placed}
 use Rattle.read_references.specs.declared.Resolved as declared
 use Rattle.read_references.specs.declared.Resolved.the-variants.{All, Unresolved}
 use Rattle.read_references.specs.Resolved.{resolvedOf, PairHere, Going, InRow, RowHere}
@@ -63,7 +63,7 @@ module _ (seed : ℕ) (text rows : List ℕ) (n : ℕ) (index : List ℕ) (cells
   going-start h = record { held = h; size = refl; objects = refl }
 
   module _ (o cell k : ℕ) (some : 1 ≤ k) (cs : List ℤ) (g : Going seed text rows n index cells₀ cs) (r : InRow rows n o cell k (length cells₀)) where
-    pub pair-here : PairHere rows n cell cs
+    pair-here : PairHere rows n cell cs
     pair-here = record {
       inside = omega (arith, r .inside, g .size);
       first = beside-in seed text n (length cells₀) rows cs index (g .held) o cell (r .object) (r .behind) (λ p a b. omega (arith, r .later p a b));
@@ -87,7 +87,7 @@ module _ (seed : ℕ) (text rows : List ℕ) (n : ℕ) (index : List ℕ) (cells
     going-put object field missing ds e = absurd (never-both object field ds e)
 
     -- past a pair
-    pub pair-going : (os : List Object) (object field : ℕ) (t : Found) (ds : List ℤ) → resolvePair text os object field cell t cs ≡ resolved ds → Going seed text rows n index cells₀ ds
+    pair-going : (os : List Object) (object field : ℕ) (t : Found) (ds : List ℤ) → resolvePair text os object field cell t cs ≡ resolved ds → Going seed text rows n index cells₀ ds
     unfolding resolvePair choose
     pair-going os object field missing ds e = rw (sym (same-cells cs ds e)) g
     pair-going os object field (found t) ds e = go (eqb (cellAt cs cell) 0) e
@@ -97,7 +97,7 @@ module _ (seed : ℕ) (text rows : List ℕ) (n : ℕ) (index : List ℕ) (cells
         go false h = going-put object field _ ds h
 
   -- past the pairs of a row
-  pub pairs-going : (os : List Object) (object o : ℕ) (ps : List Pair) (field cell : ℕ) (cs ds : List ℤ) → Going seed text rows n index cells₀ cs → InRow rows n o cell (length ps) (length cells₀)
+  pairs-going : (os : List Object) (object o : ℕ) (ps : List Pair) (field cell : ℕ) (cs ds : List ℤ) → Going seed text rows n index cells₀ cs → InRow rows n o cell (length ps) (length cells₀)
       → resolvePairs text os object field cell ps cs ≡ resolved ds → Going seed text rows n index cells₀ ds
   unfolding resolvePairs
   pairs-going os object o [] field cell cs ds g r e = rw (sym (same-cells cs ds e)) g
@@ -125,7 +125,7 @@ module _ (seed : ℕ) (text rows : List ℕ) (n : ℕ) (index : List ℕ) (cells
   object-at : (o : ℕ) (d : Object) (es : List ℤ) → o < n → getD (objectsOf text es (take n rows)) o d ≡ objectAt text es (getD rows o 0)
   object-at o d es l = object-of text es (take n rows) o d (rw (length-take-le n rows in-rows) l) ∙ ap (objectAt text es) (getD-take n rows o 0 l)
 
-  pub table-kept : (o : ℕ) → o < n → cellAt cs (getD rows o 0) ≡ cellAt cells₀ (getD rows o 0)
+  table-kept : (o : ℕ) → o < n → cellAt cs (getD rows o 0) ≡ cellAt cells₀ (getD rows o 0)
   unfolding objectAt
   table-kept o l =
       let d : Object = objectAt text cells₀ 0 in
@@ -135,9 +135,7 @@ module _ (seed : ℕ) (text rows : List ℕ) (n : ℕ) (index : List ℕ) (cells
 
 -- resolved up to the attribute record at this byte: what is left means what the whole meant
 pub record AttributesLeft (m : Model) (b : List ℕ) (seed : ℕ) (text rows : List ℕ) (n : ℕ) (index : List ℕ) (o first : ℕ) (cells₀ : List ℤ) (at field cell : ℕ) (cells : List ℤ) : Type 0 where
-  pub topics : ℕ
-  pub tables : ℕ
-  pub standing : Standing m b at topics tables
+  pub attributes : AttributesHere m b at
   pub going : Going seed text rows n index cells₀ cells
   pub row : InRow rows n o cell (length (pairsAt b at)) (length cells₀)
   pub fields : field ≤ cell
@@ -153,9 +151,7 @@ module _ (m : Model) (b : List ℕ) (seed : ℕ) (text rows : List ℕ) (n : ℕ
   pub attributes-start : Held seed text n (length cells₀) rows cells₀ index → RowHere m b rows n o first (length cells₀) → (cell : ℕ) → cell ≡ getD rows o 0 + 3
       → AttributesLeft m b seed text rows n index o first cells₀ first 3 cell cells₀
   attributes-start h r cell e = record {
-    topics = r .topics;
-    tables = r .tables;
-    standing = r .standing;
+    attributes = r .attributes;
     going = going-start seed text rows n index cells₀ h;
     row = rw e (r .row);
     fields = omega arith;
@@ -166,11 +162,11 @@ module _ (m : Model) (b : List ℕ) (seed : ℕ) (text rows : List ℕ) (n : ℕ
     -- no attribute record more
     pub attributes-end : (kindAt b at ≡ 5 → ⊥) → resolved cs ≡ whole
     unfolding resolvePairs pairsOf
-    attributes-end d = rw (no-attribute m b at (i .topics) (i .tables) (i .standing) d) at (i .same)
+    attributes-end d = rw (no-attribute m b at (i .attributes .topics) (i .attributes .tables) (i .attributes .standing) d) at (i .same)
 
     module _ (e : kindAt b at ≡ 5) where
-      abbrev a : AttributeNext m b at (i .topics) (i .tables)
-      a = attribute-here m b at (i .topics) (i .tables) (i .standing) e
+      abbrev a : AttributeNext m b at (i .attributes .topics) (i .attributes .tables)
+      a = attribute-here m b at (i .attributes .topics) (i .attributes .tables) (i .attributes .standing) e
 
       pub attribute-good : AttributeHere b at
       attribute-good = a .good
@@ -182,15 +178,15 @@ module _ (m : Model) (b : List ℕ) (seed : ℕ) (text rows : List ℕ) (n : ℕ
       attribute-pair =
           let c : Counted (byteAt b (at + 5)) (fieldsOf (byteAt b (at + 5))) (pairCount (byteAt b (at + 5))) = record { fields = refl; pairs = refl } in
           pair-here seed text rows n index cells₀ o cell (length (pairsAt b at))
-          (omega (arith, pairs-more m b at (i .topics) (i .tables) a _ _ c, field-most m b at (i .topics) (i .tables) a _ _ c .1))
+          (omega (arith, pairs-more m b at (i .attributes .topics) (i .attributes .tables) a _ _ c, field-most m b at (i .attributes .topics) (i .attributes .tables) a _ _ c .1))
           cs (i .going) (i .row)
 
     module _ (e : kindAt b at ≡ 5) (f p : ℕ) (c : Counted (byteAt b (at + 5)) f p) where
       more : length (pairsAt b at) ≡ p + length (pairsAt b (nextAt b at))
-      more = pairs-more m b at (i .topics) (i .tables) (a e) f p c
+      more = pairs-more m b at (i .attributes .topics) (i .attributes .tables) (a e) f p c
 
       few : (f ≤ p) × (1 ≤ p)
-      few = field-most m b at (i .topics) (i .tables) (a e) f p c
+      few = field-most m b at (i .attributes .topics) (i .attributes .tables) (a e) f p c
 
       -- its fields and cells are there
       pub attribute-room : (field + f ≤ length cells₀) × (cell + 2 * p ≤ length cells₀)
@@ -198,15 +194,13 @@ module _ (m : Model) (b : List ℕ) (seed : ℕ) (text rows : List ℕ) (n : ℕ
 
       turned : resolvePairs text os o field cell (pairsAt b at) cs
           ≡ afterResolved (resolvePair text (objectsOf text cs (take n rows)) o field cell (targetOf (attributeOf at (payloadAt b at) .type)) cs) (λ ds. resolvePairs text os o (field + f) (cell + 2 * p) (pairsAt b (nextAt b at)) ds)
-      turned = rw (i .going .objects) (attribute-turn m b at (i .topics) (i .tables) (a e) f p c text os o field cell cs)
+      turned = rw (i .going .objects) (attribute-turn m b at (i .attributes .topics) (i .attributes .tables) (a e) f p c text os o field cell cs)
 
       -- its pair is resolved
       pub attributes-on : (ds : List ℤ) → resolved ds ≡ resolvePair text (objectsOf text cs (take n rows)) o field cell (targetOf (attributeOf at (payloadAt b at) .type)) cs
           → AttributesLeft m b seed text rows n index o first cells₀ (nextAt b at) (field + f) (cell + 2 * p) ds
       attributes-on ds r = record {
-        topics = i .topics;
-        tables = i .tables;
-        standing = a e .next;
+        attributes = record { topics = i .attributes .topics; tables = i .attributes .tables; standing = a e .next };
         going = pair-going seed text rows n index cells₀ o cell (length (pairsAt b at)) (omega (arith, more, few .1)) cs (i .going) (i .row) (objectsOf text cs (take n rows)) o field (targetOf (attributeOf at (payloadAt b at) .type)) ds (sym r);
         row = in-row-on rows n o cell (length (pairsAt b at)) (length cells₀) p (length (pairsAt b (nextAt b at))) more (i .row);
         fields = omega (arith, few .0, i .fields);
@@ -243,27 +237,24 @@ module _ (m : Model) (b places : List ℕ) (seed : ℕ) (text rows : List ℕ) (
         let e : drop o (take n rows) ≡ [] = drop-of-length-le (take n rows) {i = o} (omega (arith, length-take-le n rows (in-rows seed text rows n index cells₀ cs (i .going)))) in
         rw e at (i .same)
 
-    module _ (l : o < n) (laid : Laid m n (length cells₀) rows cells₀) (placed : Placed m b places) where
+    module _ (l : o < n) (laid : Laid m n (length cells₀) rows cells₀) {k : ℕ} (placed : Noted m b places k (length (m .tables))) where
       kept : cellAt cs (getD rows o 0) ≡ cellAt cells₀ (getD rows o 0)
       kept = table-kept seed text rows n index cells₀ cs (i .going) o l
 
       pub table-in : cellAt cs (getD rows o 0) < length (m .tables)
       table-in = omega (arith, kept, laid .table o l)
 
-      pub row-in : getD rows o 0 < length cs
-      row-in = omega (arith, i .going .held .within o l, i .going .size)
+      place : TableRecord m b (cellAt cs (getD rows o 0)) (tablePlace places (cellAt cs (getD rows o 0)))
+      place = placed .table (cellAt cs (getD rows o 0)) table-in
 
-      place : (at : ℕ) → at ≡ getD places (cellAt cs (getD rows o 0)) 0 → PlaceOf m b (cellAt cs (getD rows o 0)) at
-      place at e = rw e (placed .place (cellAt cs (getD rows o 0)) table-in)
+      attributes-are : (at : ℕ) → at ≡ attributesPlace b places (cellAt cs (getD rows o 0)) → attributesAt b at ≡ tableAt (m .tables) (cellAt cs (getD rows o 0)) .attributes
+      attributes-are at e = rw e (place .attributes)
 
-      pub row-here : (at : ℕ) → at ≡ getD places (cellAt cs (getD rows o 0)) 0 → RowHere m b rows n o at (length cs)
+      pub row-here : (at : ℕ) → at ≡ attributesPlace b places (cellAt cs (getD rows o 0)) → RowHere m b rows n o at (length cs)
       row-here at e =
-          let p = place at e in
-          let s : length (pairsAt b at) ≡ length (pairsOf (tableAt (m .tables) (cellAt cells₀ (getD rows o 0)) .attributes)) = ap (λ (l : List Attribute). length (pairsOf l)) (p .attributes) ∙ ap (λ (t : ℕ). length (pairsOf (tableAt (m .tables) t .attributes))) kept in
+          let s : length (pairsAt b at) ≡ length (pairsOf (tableAt (m .tables) (cellAt cells₀ (getD rows o 0)) .attributes)) = ap (λ (l : List Attribute). length (pairsOf l)) (attributes-are at e) ∙ ap (λ (t : ℕ). length (pairsOf (tableAt (m .tables) t .attributes))) kept in
           record {
-            topics = tableAt (m .tables) (cellAt cs (getD rows o 0)) .topic + 1;
-            tables = cellAt cs (getD rows o 0) + 1;
-            standing = p .standing;
+            attributes = rw e (record { topics = tableAt (m .tables) (cellAt cs (getD rows o 0)) .topic + 1; tables = cellAt cs (getD rows o 0) + 1; standing = place .standing });
             row = record {
               object = l;
               behind = omega arith;
@@ -272,18 +263,18 @@ module _ (m : Model) (b places : List ℕ) (seed : ℕ) (text rows : List ℕ) (
             };
           }
 
-      row-turn : (at : ℕ) → at ≡ getD places (cellAt cs (getD rows o 0)) 0 → resolveRows text objects (m .tables) o (drop o (take n rows)) cs
+      row-turn : (at : ℕ) → at ≡ attributesPlace b places (cellAt cs (getD rows o 0)) → resolveRows text objects (m .tables) o (drop o (take n rows)) cs
           ≡ afterResolved (resolvePairs text (objectsOf text cs (take n rows)) o 3 (getD rows o 0 + 3) (pairsAt b at) cs) (λ ds. resolveRows text objects (m .tables) (o + 1) (drop (o + 1) (take n rows)) ds)
       unfolding resolveRows
       row-turn at e =
           let lt : o < length (take n rows) = rw (length-take-le n rows (in-rows seed text rows n index cells₀ cs (i .going))) l in
           let split : drop o (take n rows) ≡ getD rows o 0 ∷ drop (o + 1) (take n rows) = rw (add-one o) (drop-cons (take n rows) o 0 lt ∙ ap (λ (x : ℕ). x ∷ drop (suc o) (take n rows)) (getD-take n rows o 0 l)) in
           ap (λ (r : List ℕ). resolveRows text objects (m .tables) o r cs) split
-          ∙ ap (λ (l : List Attribute). afterResolved (resolvePairs text objects o 3 (getD rows o 0 + 3) (pairsOf l) cs) (λ ds. resolveRows text objects (m .tables) (o + 1) (drop (o + 1) (take n rows)) ds)) (sym (place at e .attributes))
+          ∙ ap (λ (l : List Attribute). afterResolved (resolvePairs text objects o 3 (getD rows o 0 + 3) (pairsOf l) cs) (λ ds. resolveRows text objects (m .tables) (o + 1) (drop (o + 1) (take n rows)) ds)) (sym (attributes-are at e))
           ∙ ap (λ (x : List Object). afterResolved (resolvePairs text x o 3 (getD rows o 0 + 3) (pairsAt b at) cs) (λ ds. resolveRows text objects (m .tables) (o + 1) (drop (o + 1) (take n rows)) ds)) (sym (i .going .objects))
 
       -- its row is resolved
-      pub rows-on : (at : ℕ) → at ≡ getD places (cellAt cs (getD rows o 0)) 0 → (ds : List ℤ) → resolved ds ≡ resolvePairs text (objectsOf text cs (take n rows)) o 3 (getD rows o 0 + 3) (pairsAt b at) cs
+      pub rows-on : (at : ℕ) → at ≡ attributesPlace b places (cellAt cs (getD rows o 0)) → (ds : List ℤ) → resolved ds ≡ resolvePairs text (objectsOf text cs (take n rows)) o 3 (getD rows o 0 + 3) (pairsAt b at) cs
           → RowsLeft (m .tables) seed text rows n index cells₀ (o + 1) ds
       rows-on at e ds r = record {
         going = pairs-going seed text rows n index cells₀ _ o o (pairsAt b at) 3 (getD rows o 0 + 3) cs ds (i .going) (rw (i .going .size) at (row-here at e .row)) (sym r);
@@ -292,6 +283,6 @@ module _ (m : Model) (b places : List ℕ) (seed : ℕ) (text rows : List ℕ) (
       }
 
       -- a reference of it names no object
-      pub rows-stop : (at : ℕ) → at ≡ getD places (cellAt cs (getD rows o 0)) 0 → (object field : ℕ) → unresolved object field ≡ resolvePairs text (objectsOf text cs (take n rows)) o 3 (getD rows o 0 + 3) (pairsAt b at) cs
+      pub rows-stop : (at : ℕ) → at ≡ attributesPlace b places (cellAt cs (getD rows o 0)) → (object field : ℕ) → unresolved object field ≡ resolvePairs text (objectsOf text cs (take n rows)) o 3 (getD rows o 0 + 3) (pairsAt b at) cs
           → unresolved object field ≡ answer
       rows-stop at e object field r = ap (λ (x : Resolved). afterResolved x (λ es. resolveRows text objects (m .tables) (o + 1) (drop (o + 1) (take n rows)) es)) r ∙ sym (row-turn at e) ∙ i .same

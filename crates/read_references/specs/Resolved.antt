@@ -2,15 +2,13 @@
 use Prim.Native.Nat.{ℕ, _+_, _*_, _≤_, _<_}
 use mathlib.Core.Path.{_≡_}
 use mathlib.Core.List.{List}
-use lib.Dec.{eqb}
 use lib.IntN.{ℤ}
 use lib.ListN.{length, getD, take}
-use Rattle.meaning.specs.Bytes.{choose}
 use Rattle.meaning.specs.Model.{Model}
-use Rattle.meaning.specs.Reading.{stretch, objectsOf}
+use Rattle.meaning.specs.Reading.{objectsOf}
 use Rattle.meaning.specs.Table as table
 use Rattle.model_records.specs.Records.{pairsAt}
-use Rattle.model_records.specs.Standing.{Standing}
+use Rattle.model_records.specs.Standing.{AttributesHere}
 use Rattle.table_index.specs.Holds.{Held, Beside}
 use Rattle.read_references.specs.declared.Resolved.{Resolved}
 use Rattle.read_references.specs.declared.Resolved.the-variants.{All, Unresolved}
@@ -40,7 +38,5 @@ pub record InRow (rows : List ℕ) (n o cell pairs size : ℕ) : Type 0 where
 
 -- the attribute records of the table of object o begin at this byte
 pub record RowHere (m : Model) (b rows : List ℕ) (n o at size : ℕ) : Type 0 where
-  pub topics : ℕ
-  pub tables : ℕ
-  pub standing : Standing m b at topics tables
+  pub attributes : AttributesHere m b at
   pub row : InRow rows n o (getD rows o 0 + 3) (length (pairsAt b at)) size

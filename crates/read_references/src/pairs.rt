@@ -1,14 +1,13 @@
 // The pair of a reference.
 ghost use mathlib.Core.Path.{_≡_};
-ghost use Prim.Native.Nat.{_+_, _<_, min};
+ghost use Prim.Native.Nat.{_+_, _<_};
 ghost use lib.IntN.{pos};
 ghost use lib.ListN.{length, set, take};
 ghost use Rattle.meaning.specs.Model.{found};
-ghost use Rattle.meaning.specs.Reading.{objectsOf, cellAt};
+ghost use Rattle.meaning.specs.Reading.{objectsOf};
 ghost use Rattle.meaning.specs.Table.{resolvePair};
 ghost use Rattle.table_index.specs.Holds.{Known};
 ghost use Rattle.read_references.specs.Resolved.{resolvedOf, PairHere};
-ghost use Rattle.table.specs.Stretches.{Cut};
 use crate::Resolved;
 use table_index::Found;
 
@@ -22,7 +21,7 @@ fn put_reference(cells: &mut [i64], cell: usize, o: usize)
     cells[cell + 1] = o as i64;
 }
 
-// Where this object's field is a reference to a table: nothing where it is undefined, else the number of the object that it names.
+// This object's field is a reference to a table: nothing where it is undefined, else the number of the object it names.
 pub fn resolve_pair(
     text: &[u8],
     rows: &[u64],
@@ -38,7 +37,9 @@ pub fn resolve_pair(
     requires { ⌜ Known seed (now text) (now rows) (now cells) (now index) objects ⌝ }
     requires { ⌜ PairHere (now rows) objects cell (now cells) ⌝ }
     requires { ⌜ objects < 9223372036854775808 ⌝ }
-    ensures { λ r. ⌜ resolvedOf r (now (cells .exit)) ≡ resolvePair (now (text .entry)) (objectsOf (now (text .entry)) (now (cells .entry)) (take objects (now (rows .entry)))) object field cell (found table) (now (cells .entry)) ⌝ }
+    ensures { λ r. ⌜ (let t = now (text .entry) in let cs = now (cells .entry) in
+        resolvedOf r (now (cells .exit))
+        ≡ resolvePair t (objectsOf t cs (take objects (now (rows .entry)))) object field cell (found table) cs) ⌝ }
 {
     let a = table::cells::size_at(cells, cell);
     if a == 0 {

@@ -1,20 +1,22 @@
 // The references of a row, and of all rows.
 ghost use mathlib.Core.Path.{_≡_};
-ghost use Prim.Native.Nat.{_+_, _≤_, _<_};
+ghost use Prim.Native.Nat.{_+_, _<_};
 ghost use lib.ListN.{length, getD, take};
 ghost use Rattle.meaning.specs.Model.{targetOf, attributeOf};
 ghost use Rattle.meaning.specs.Reading.{objectsOf};
 ghost use Rattle.meaning.specs.Table.{resolvePair, resolvePairs, resolveRows};
 ghost use Rattle.model_records.specs.Records.{modelAt, payloadAt, pairsAt};
+ghost use Rattle.model_records.specs.Places.{Placed};
 ghost use Rattle.model_records.specs.Standing.{AttributeHere};
 ghost use Rattle.table_index.specs.Holds.{Known, Held};
 ghost use Rattle.read_state.specs.Holds.{Laid};
-ghost use Rattle.read_references.specs.Placed.{Placed};
 ghost use Rattle.read_references.specs.Resolved.{resolvedOf, PairHere, RowHere};
-ghost use Rattle.model_records.specs.Counts.{Counted};
 use crate::Resolved;
 use crate::pairs;
+use model_records::ATTRIBUTE;
 use model_records::counts;
+use model_records::places;
+use model_records::places::Shape;
 
 // The attribute of the record at a byte, where it is a reference: this object's pair at this cell.
 fn resolve_attribute(
@@ -34,7 +36,10 @@ fn resolve_attribute(
     requires { ⌜ Known seed (now text) (now rows) (now cells) (now index) objects ⌝ }
     requires { ⌜ PairHere (now rows) objects cell (now cells) ⌝ }
     requires { ⌜ objects < 9223372036854775808 ⌝ }
-    ensures { λ r. ⌜ resolvedOf r (now (cells .exit)) ≡ resolvePair (now (text .entry)) (objectsOf (now (text .entry)) (now (cells .entry)) (take objects (now (rows .entry)))) object field cell (targetOf (attributeOf at (payloadAt (now (model .entry)) at) .type)) (now (cells .entry)) ⌝ }
+    ensures { λ r. ⌜ (let t = now (text .entry) in let cs = now (cells .entry) in
+        resolvedOf r (now (cells .exit))
+        ≡ resolvePair t (objectsOf t cs (take objects (now (rows .entry)))) object field cell
+        (targetOf (attributeOf at (payloadAt (now (model .entry)) at) .type)) cs) ⌝ }
 {
     if model[at + 5] != 1 {
         return Resolved::All;
@@ -69,14 +74,17 @@ fn resolve_row(
     requires { ⌜ Held seed (now text) objects (length (now cells)) (now rows) (now cells) (now index) ⌝ }
     requires { ⌜ RowHere (modelAt (now model)) (now model) (now rows) objects object first (length (now cells)) ⌝ }
     requires { ⌜ objects < 9223372036854775808 ⌝ }
-    ensures { λ r. ⌜ resolvedOf r (now (cells .exit)) ≡ resolvePairs (now (text .entry)) (objectsOf (now (text .entry)) (now (cells .entry)) (take objects (now (rows .entry)))) object 3 (getD (now (rows .entry)) object 0 + 3) (pairsAt (now (model .entry)) first) (now (cells .entry)) ⌝ }
+    ensures { λ r. ⌜ (let t = now (text .entry) in let cs = now (cells .entry) in
+        resolvedOf r (now (cells .exit))
+        ≡ resolvePairs t (objectsOf t cs (take objects (now (rows .entry)))) object 3
+        (getD (now (rows .entry)) object 0 + 3) (pairsAt (now (model .entry)) first) cs) ⌝ }
 {
     let mut at = first;
     let mut field = 3;
     let mut cell = rows[object] as usize + 3;
     loop {
         let kind = model_records::kind_at(model, at);
-        if kind != 5 {
+        if kind != ATTRIBUTE {
             return Resolved::All;
         }
         let done = resolve_attribute(
@@ -102,26 +110,30 @@ fn resolve_row(
     }
 }
 
-// The rows in order; `places` says where the attribute records of each table begin.
+// The rows in order.
 pub fn resolve_references(
     model: &[u8],
-    text: &[u8],
     places: &[usize],
+    shape: Shape,
+    text: &[u8],
     rows: &[u64],
     cells: &mut [i64],
     index: &[u64],
     objects: usize,
     seed: u64,
 ) -> Resolved
+    requires { ⌜ Placed (now model) shape (now places) ⌝ }
     requires { ⌜ Held seed (now text) objects (length (now cells)) (now rows) (now cells) (now index) ⌝ }
     requires { ⌜ Laid (modelAt (now model)) objects (length (now cells)) (now rows) (now cells) ⌝ }
-    requires { ⌜ Placed (modelAt (now model)) (now model) (now places) ⌝ }
-    requires { ⌜ length (modelAt (now model) .tables) ≤ length (now places) ⌝ }
-    ensures { λ r. ⌜ resolvedOf r (now (cells .exit)) ≡ resolveRows (now (text .entry)) (objectsOf (now (text .entry)) (now (cells .entry)) (take objects (now (rows .entry)))) (modelAt (now (model .entry)) .tables) 0 (take objects (now (rows .entry))) (now (cells .entry)) ⌝ }
+    ensures { λ r. ⌜ (let t = now (text .entry) in let cs = now (cells .entry) in
+        resolvedOf r (now (cells .exit))
+        ≡ resolveRows t (objectsOf t cs (take objects (now (rows .entry)))) (modelAt (now (model .entry)) .tables) 0
+        (take objects (now (rows .entry))) cs) ⌝ }
 {
     let mut object = 0;
     while object < objects {
         let table = table::cells::size_at(cells, rows[object] as usize);
+        let first = places::attributes_at(model, places, shape, table);
         let done = resolve_row(
             model,
             text,
@@ -130,7 +142,7 @@ pub fn resolve_references(
             index,
             objects,
             seed,
-            places[table],
+            first,
             object,
         );
         if let Resolved::Unresolved(o, f) = done {

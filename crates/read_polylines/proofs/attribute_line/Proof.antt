@@ -13,7 +13,7 @@ head-of-requires : tie.Need-head-of-requires
 head-of-requires c κs = search needs
 
 attribute-at-requires : tie.Need-attribute-at-requires
-attribute-at-requires c κs = let l = c .before .before .before .pre .line in attribute-here _ _ _ _ _ (l .standing) (l .kind) .good
+attribute-at-requires c κs = let l = c .before .before .before .pre .line in attribute-here _ _ _ _ _ (l .attributes .standing) (l .kind) .good
 
 name-code-requires : tie.Need-name-code-requires
 name-code-requires c κs = search needs

@@ -1,6 +1,5 @@
 -- `read_objects::end_row` meets its contract. Assumes nothing.
-use Prim.Native.Nat.{ℕ}
-use mathlib.Core.Path.{_≡_, refl, sym, ap, _∙_, subst}
+use mathlib.Core.Path.{refl, subst}
 use lib.ListN.{drop}
 use Rattle.base.specs.Fields.{NextField}
 use Rattle.base.proofs.Fill.{to-end}

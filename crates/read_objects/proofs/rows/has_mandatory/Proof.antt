@@ -1,18 +1,17 @@
 -- `read_objects::has_mandatory` meets its contract. Assumes nothing.
-use Prim.Native.Nat.{ℕ, _+_, _-_, _≤_, _<_}
+use Prim.Native.Nat.{_-_}
 use native.Mathlib.Omega.{arith}
-use mathlib.Core.Path.{_≡_, refl, sym, ap, _∙_, subst}
-use mathlib.Core.Bool.{true, false}
+use mathlib.Core.Path.{_≡_, refl, sym, _∙_}
 use lib.ListN.{length}
 use Rattle.meaning.specs.Row.{hasMandatory}
-use Rattle.model_records.specs.Records.{kindAt, nextAt, pairsAt}
-use Rattle.read_objects.specs.Fields.{AttributesFrom}
-use Rattle.read_objects.proofs.Records.{counted, record-here, good-here, next-from, no-record, mandatory-turn, mandatory-found, mandatory-end}
+use Rattle.model_records.specs.Records.{modelAt, pairsAt}
+use Rattle.model_records.specs.Standing.{AttributesHere}
+use Rattle.read_objects.proofs.Records.{counted, record-here, good-here, next-from, mandatory-turn, mandatory-found, mandatory-end}
 use Rattle.read_objects.proofs.rows.has_mandatory.Statement.{statement}
 use Rattle.read_objects.proofs.rows.has_mandatory.Tie as tie
 
 abbrev Inv-loop : tie.InvT-loop
-Inv-loop model at here₀ here = AttributesFrom model here × (hasMandatory (pairsAt model here) ≡ hasMandatory (pairsAt model at))
+Inv-loop model at here₀ here = AttributesHere (modelAt model) model here × (hasMandatory (pairsAt model here) ≡ hasMandatory (pairsAt model at))
 
 abbrev μ-loop : tie.MeasureT-loop
 μ-loop model at here₀ here = length model - here

@@ -1,8 +1,6 @@
 -- `read_objects::is_mandatory` meets its contract. Assumes nothing.
-use Prim.Native.Nat.{ℕ, _≤_}
 use native.Mathlib.Omega.{arith}
 use mathlib.Core.Logic.{inl, inr}
-use mathlib.Core.Path.{_≡_}
 use Rattle.read_objects.proofs.Records.{mandatory-field, mandatory-line}
 use Rattle.read_objects.proofs.rows.is_mandatory.Statement.{statement}
 use Rattle.read_objects.proofs.rows.is_mandatory.Tie as tie

@@ -1,10 +1,7 @@
 -- `read_objects::put_record` meets its contract. Assumes nothing.
-use Prim.Native.Nat.{ℕ}
-use native.Mathlib.Omega.{arith}
-use mathlib.Core.Path.{_≡_, refl, sym, ap, _∙_, subst}
-use Rattle.meaning.specs.Row.{Pair, pairsOfType}
+use mathlib.Core.Path.{_≡_}
+use Rattle.meaning.specs.Row.{pairsOfType}
 use Rattle.model_records.specs.Attributes.{typeOf}
-use Rattle.read_fields.specs.Filled.{goingOver}
 use Rattle.read_objects.specs.Fields.{recordPairs}
 use Rattle.read_objects.proofs.Records.{counted, decoded-pairs}
 use borrow.Author.Needs.{needs}

@@ -1,17 +1,17 @@
 -- `read_objects::row_fields` meets its contract. Assumes nothing.
-use Prim.Native.Nat.{ℕ, _+_, _*_, _-_, _≤_, _<_}
+use Prim.Native.Nat.{_*_, _-_, _≤_}
 use borrow.Author.Needs.{needs}
 use native.Mathlib.Omega.{arith}
-use mathlib.Core.Path.{_≡_, refl, sym, ap, _∙_, subst}
+use mathlib.Core.Path.{refl, sym, _∙_, subst}
 use mathlib.Core.Bool.{true}
-use mathlib.Core.List.{List}
-use lib.ListN.{drop, length}
+use lib.ListN.{length}
 use Rattle.meaning.specs.Field.{fieldsOf}
 use Rattle.meaning.specs.Row.{pairCells}
-use Rattle.model_records.specs.Records.{kindAt, nextAt, pairsAt}
+use Rattle.model_records.specs.Records.{modelAt, pairsAt}
 use Rattle.read_fields.specs.Filled.{Steps, Fills, goingOver}
-use Rattle.read_objects.specs.Fields.{AttributesFrom, recordPairs}
-use Rattle.read_fields.proofs.Steps.{none, wider}
+use Rattle.model_records.specs.Standing.{AttributesHere}
+use Rattle.read_objects.specs.Fields.{recordPairs}
+use Rattle.read_fields.proofs.Steps.{wider}
 use Rattle.read_fields.proofs.Steps as steps
 use Rattle.read_objects.proofs.Records.{record-here, good-here, next-from}
 use Rattle.read_objects.proofs.Ends.{fromRecord, row-start, row-end, row-on, row-rest, row-no}
@@ -19,7 +19,7 @@ use Rattle.read_objects.proofs.rows.row_fields.Statement.{statement}
 use Rattle.read_objects.proofs.rows.row_fields.Tie as tie
 
 abbrev Inv-loop : tie.InvT-loop
-Inv-loop model at rest start undefined cells₀ here₀ s₀ cells here s = AttributesFrom model here × (at ≤ here) × Steps rest (2 * (here - at)) (λ ps. pairCells undefined true 3 (pairsAt model at) (fieldsOf start rest)) (fromRecord undefined start rest model here s) s₀ s cells₀ cells
+Inv-loop model at rest start undefined cells₀ here₀ s₀ cells here s = AttributesHere (modelAt model) model here × (at ≤ here) × Steps rest (2 * (here - at)) (λ ps. pairCells undefined true 3 (pairsAt model at) (fieldsOf start rest)) (fromRecord undefined start rest model here s) s₀ s cells₀ cells
 
 abbrev μ-loop : tie.MeasureT-loop
 μ-loop model at rest start undefined cells₀ here₀ s₀ cells here s = length model - here

@@ -1,7 +1,7 @@
 -- `read_objects::undefine_rest` meets its contract. Assumes nothing.
-use Prim.Native.Nat.{ℕ, _+_, _*_, _≤_}
+use Prim.Native.Nat.{_*_}
 use native.Mathlib.Omega.{arith}
-use mathlib.Core.Path.{_≡_, refl, sym, ap, _∙_, subst}
+use mathlib.Core.Path.{sym, _∙_, subst}
 use lib.ListN.{drop, length}
 use Rattle.base.specs.Fields.{NextField}
 use Rattle.base.proofs.Fill.{to-end}
@@ -38,8 +38,8 @@ add-t18 c = search needs
 enum-told : tie.Need-enum-told
 enum-told c = search needs
 
-pair-count-requires : tie.Need-pair-count-requires
-pair-count-requires c κs = search needs
+count-pairs-requires : tie.Need-count-pairs-requires
+count-pairs-requires c κs = search needs
 
 add-pairs : tie.Need-add-pairs
 add-pairs c = search needs
@@ -61,8 +61,8 @@ same-length c = search needs
 
 returns-3 : tie.Need-returns-3
 returns-3 c =
-    zeros-end (c .before .before .before .before .before .before .before .before .before .before .before .before .before .args .rest .now) (c .before .before .before .before .before .before .before .before .before .before .before .before .before .args .s) (c .before .before .before .before .before .before .before .before .before .before .before .before .before .args .left) (pairsAt (c .before .before .before .before .before .before .before .before .before .before .before .before .before .args .model .now) (c .before .before .before .before .before .before .before .before .before .before .before .before .before .args .at)) (2 * length (c .before .before .before .before .before .before .before .before .before .before .before .before .before .args .model .now)) (c .before .before .before .before .pair-count .result) (c .before .before .before .before .before .before .before .before .before .before .before .before .before .args .cells .now) (c .before .before .put-zeros .last .0) (sym (c .before .before .before .before .before .before .before .before .before .before .has-mandatory .ensures) ∙ c .before .before .before .before .before .before .before .before .before .if1 .left) (subst (NextField (drop (c .before .before .before .before .before .before .before .before .before .before .before .before .before .args .s .at) (c .before .before .before .before .before .before .before .before .before .before .before .before .before .args .rest .now))) (c .before .before .before .before .before .enum-told .given .1) (rw (to-end (c .before .before .before .before .before .before .before .before .before .before .before .before .before .args .rest .now) (c .before .before .before .before .before .before .before .before .before .before .before .before .before .args .s .at)) at (c .before .before .before .before .before .before .before .next-field .ensures)))
-    (c .before .before .before .before .pair-count .ensures .0) (omega (arith, c .before .before .before .before .pair-count .ensures .1, c .before .before .before .before .before .before .before .before .before .before .before .before .before .pre .1)) (c .before .before .put-zeros .ensures)
+    zeros-end (c .before .before .before .before .before .before .before .before .before .before .before .before .before .args .rest .now) (c .before .before .before .before .before .before .before .before .before .before .before .before .before .args .s) (c .before .before .before .before .before .before .before .before .before .before .before .before .before .args .left) (pairsAt (c .before .before .before .before .before .before .before .before .before .before .before .before .before .args .model .now) (c .before .before .before .before .before .before .before .before .before .before .before .before .before .args .at)) (2 * length (c .before .before .before .before .before .before .before .before .before .before .before .before .before .args .model .now)) (c .before .before .before .before .count-pairs .result) (c .before .before .before .before .before .before .before .before .before .before .before .before .before .args .cells .now) (c .before .before .put-zeros .last .0) (sym (c .before .before .before .before .before .before .before .before .before .before .has-mandatory .ensures) ∙ c .before .before .before .before .before .before .before .before .before .if1 .left) (subst (NextField (drop (c .before .before .before .before .before .before .before .before .before .before .before .before .before .args .s .at) (c .before .before .before .before .before .before .before .before .before .before .before .before .before .args .rest .now))) (c .before .before .before .before .before .enum-told .given .1) (rw (to-end (c .before .before .before .before .before .before .before .before .before .before .before .before .before .args .rest .now) (c .before .before .before .before .before .before .before .before .before .before .before .before .before .args .s .at)) at (c .before .before .before .before .before .before .before .next-field .ensures)))
+    (c .before .before .before .before .count-pairs .ensures .0) (omega (arith, c .before .before .before .before .count-pairs .ensures .1, c .before .before .before .before .before .before .before .before .before .before .before .before .before .pre .1)) (c .before .before .put-zeros .ensures)
 
 pub undefine-rest-spec : {M : Type 1} → statement M
 undefine-rest-spec =
@@ -77,7 +77,7 @@ undefine-rest-spec =
     enum-known-start
     add-t18
     enum-told
-    pair-count-requires
+    count-pairs-requires
     add-pairs
     put-zeros-requires
     mul-t19

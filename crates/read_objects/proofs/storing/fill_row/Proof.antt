@@ -4,8 +4,8 @@ use borrow.Author.Needs.{needs}
 use Rattle.read_objects.proofs.storing.fill_row.Statement.{statement}
 use Rattle.read_objects.proofs.storing.fill_row.Tie as tie
 
-add-least : tie.Need-add-least
-add-least c = search needs
+add-least-of : tie.Need-add-least-of
+add-least-of c = search needs
 
 least-of-requires : tie.Need-least-of-requires
 least-of-requires c κs = search needs
@@ -35,7 +35,7 @@ pub fill-row-spec : {M : Type 1} → statement M
 fill-row-spec =
     tie.close
     (tie.spec
-    add-least
+    add-least-of
     least-of-requires
     mul-row-fields
     sub-row-fields

@@ -3,21 +3,21 @@ use borrow.Author.Needs.{needs}
 use native.Mathlib.Omega.{arith}
 use mathlib.Core.Path.{refl}
 use Rattle.model_records.proofs.Standing.{here}
-use Rattle.read_polylines.proofs.Ways.{next-standing, next-fits}
+use Rattle.read_polylines.proofs.Ways.{next-here, next-fits}
 use Rattle.read_polylines.proofs.moves.behind_line.Statement.{statement}
 use Rattle.read_polylines.proofs.moves.behind_line.Tie as tie
 
 next-at-requires : tie.Need-next-at-requires
-next-at-requires c κs = here _ _ _ _ _ (c .before .before .pre .line .standing) .room
+next-at-requires c κs = here _ _ _ _ _ (c .before .pre .line .attributes .standing) .room
 
 add-due-lines : tie.Need-add-due-lines
 add-due-lines c = search needs
 
 due-lines-requires : tie.Need-due-lines-requires
 due-lines-requires c κs =
-    let p = c .before .before .before .before .pre in
+    let p = c .before .before .before .pre in
     let n = c .before .next-at .ensures in
-    (p .line .here, (rw n (next-standing _ _ _ _ _ _ _ (p .line)), rw n (omega (arith, next-fits _ _ _ _ _ _ _ (p .line), p .cells))))
+    (p .line .table, (rw n (next-here _ _ _ _ _ _ _ (p .line)), rw n (omega (arith, next-fits _ _ _ _ _ _ _ (p .line), p .cells))))
 
 returns : tie.Need-returns
 returns c =

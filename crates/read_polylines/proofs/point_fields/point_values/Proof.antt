@@ -1,14 +1,14 @@
 -- `read_polylines::point_values` meets its contract. Assumes nothing.
-use Prim.Native.Nat.{ℕ, _+_, _-_, _≤_}
+use Prim.Native.Nat.{_-_, _≤_}
 use borrow.Author.Needs.{needs}
 use native.Mathlib.Omega.{arith}
-use mathlib.Core.Path.{_≡_, refl, sym, ap, _∙_, subst}
+use mathlib.Core.Path.{_≡_, refl, subst}
 use lib.ListN.{length, take, drop, length-drop, length-set}
 use lib.IntN.{pos}
 use mathlib.Core.List.{[], _∷_}
 use mir.Syntax.{w64}
 use mir.ValLaws.{toZ-ofZ}
-use Rattle.model_records.specs.Components.{componentOf, listOf}
+use Rattle.model_records.specs.Components.{listOf}
 use Rattle.base.specs.Fields.{NextField}
 use Rattle.base.proofs.Fill.{to-end}
 use Rattle.read_polylines.specs.PointFields.{GetsValue}

@@ -31,9 +31,9 @@ same-length c = search needs
 
 returns-2 : tie.Need-returns-2
 returns-2 c =
-    let q = c .before .before .before .before .before .before .before .before in
+    let q = c .before .before .before .before .before .before .before in
     let g = q .args in
-    let e = sym (c .before .before .before .before .before .before .forbids .ensures) ∙ c .before .before .before .before .before .if1 .left in
+    let e = sym (c .before .before .before .before .before .forbids .ensures) ∙ c .before .before .before .before .if1 .left in
     λ b text rooms fs start cells d l un er dr co.
     does-same b (g .u) (g .s) _ _ cells _ cells _ _
     (λ x. permitted-point (modelAt b) rooms text (wayOf b (g .a) (g .u)) fs x (g .kind) (lineStateOf (g .next)) (rw co e))

@@ -30,7 +30,7 @@ loop-holds : tie.Need-loop-holds Inv-loop μ-loop
 loop-holds c = let s = c .before .before .before .before .before in attributes-start _ _ _ _ _ _ _ _ _ _ (s .pre .0) (s .pre .1 .0) _ refl
 
 kind-at-requires : tie.Need-kind-at-requires Inv-loop μ-loop
-kind-at-requires c κs = here _ _ _ _ _ (c .loop .inv .standing) .room
+kind-at-requires c κs = here _ _ _ _ _ (c .loop .inv .attributes .standing) .room
 
 same-length : tie.Need-same-length Inv-loop μ-loop
 same-length c = omega (arith, c .before .before .loop .inv .going .size)
@@ -76,10 +76,10 @@ add-cell-2 : tie.Need-add-cell-2 Inv-loop μ-loop
 add-cell-2 c = omega (arith, attribute-room _ _ _ _ _ _ _ _ _ _ _ _ _ _ (c .before .before .before .before .before .before .before .before .before .before .before .loop .inv) (sym (c .before .before .before .before .before .before .before .before .before .before .kind-at .ensures) ∙ c .before .before .before .before .before .before .before .before .before .if1 .left) _ _ (c .before .before .count-of .ensures) .1, c .before .before .before .before .before .before .before .before .before .before .before .before .before .before .before .before .before .good .1 .1 .1 .0)
 
 next-at-requires : tie.Need-next-at-requires Inv-loop μ-loop
-next-at-requires c κs = here _ _ _ _ _ (c .before .before .before .before .before .before .before .before .before .before .before .loop .inv .standing) .room
+next-at-requires c κs = here _ _ _ _ _ (c .before .before .before .before .before .before .before .before .before .before .before .loop .inv .attributes .standing) .room
 
 loop-less : tie.Need-loop-less Inv-loop μ-loop
-loop-less c = omega (arith, here _ _ _ _ _ (c .before .before .before .before .before .before .before .before .before .before .before .before .loop .inv .standing) .fits, c .next-at .ensures)
+loop-less c = omega (arith, here _ _ _ _ _ (c .before .before .before .before .before .before .before .before .before .before .before .before .loop .inv .attributes .standing) .fits, c .next-at .ensures)
 
 loop-again : tie.Need-loop-again Inv-loop μ-loop
 loop-again c = let i = c .before .before .before .before .before .before .before .before .before .before .before .before .loop .inv in
