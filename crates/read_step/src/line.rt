@@ -24,7 +24,7 @@ use read_frame::codes;
 use read_frame::lines;
 use read_frame::tables;
 use read_frame::topics;
-use read_objects::storing::OpenTable;
+use read_objects::OpenTable;
 use read_state::Due;
 use read_state::FrameDue;
 use read_state::Moved;
