@@ -15,9 +15,10 @@ use Rattle.meaning.specs.Reading.{Content}
 use Rattle.meaning.specs.Writing.{Lent, countsFit, contentOf}
 use Rattle.meaning.specs.Judge.{isMark, judgeTables, judgeRows, judge}
 use Rattle.meaning.proofs.Tests.Refuse.{holds}
-use Rattle.read_references.specs.Placed.{Placed}
+use Rattle.model_records.specs.Places.{Placed}
+use Rattle.model_records.specs.declared.places.Shape.{Shape}
+use Rattle.write_judge.specs.Marks.{Judging}
 use Rattle.write_judge.specs.Meant.{contentFrom}
-use Rattle.write_judge.specs.Rows.{Judging}
 use Rattle.write_judge.specs.Tables.{lentOf, judgeUsed}
 
 -- ## Counts
@@ -82,12 +83,6 @@ module _ (m : Model) (text marks rows : List ℕ) (cells points : List ℤ) (obj
   pub fit-counts : Fit ≡ true → (count ≤ length marks) × (objects ≤ length rows) × (cellCount ≤ length cells) × (4 * pointCount ≤ length points)
   fit-counts h = (leb-true _ _ (holds _ 0 h), leb-true _ _ (holds _ 1 h), leb-true _ _ (holds _ 2 h), leb-true _ _ (holds _ 3 h))
 
-  -- what judging rows needs
-  pub whole-judging : Fit ≡ true → (b places : List ℕ) (topics tables : ℕ) → count ≡ topics + tables → topics ≡ length (m .topics) → tables ≡ length (m .tables) → Placed m b places → length (m .tables) ≤ length places
-      → Judging m b topics tables places (take count marks)
-  whole-judging h b places topics tables ec et es p f = record {
-    placed = p;
-    placesFit = f;
-    tables-are = es;
-    marksFor = record { topics-are = et; room = (let z = length-take-le count marks (fit-counts h .0) in omega arith) };
-  }
+  -- what judging needs
+  pub whole-judging : Fit ≡ true → (b : List ℕ) (shape : Shape) (places : List ℕ) → Placed b shape places → count ≡ shape .topics + shape .tables → Judging b shape places (take count marks)
+  whole-judging h b shape places p ec = record { placed = p; marksRoom = (let z = length-take-le count marks (fit-counts h .0) in omega arith) }

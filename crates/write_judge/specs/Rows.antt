@@ -1,4 +1,4 @@
--- What judging rows needs and answers. Short names: m the model, b its bytes, o an object's number, p the place of its row.
+-- What judging rows needs and answers. Short names: m the model, o an object's number, p the place of its row.
 use Prim.Native.Nat.{ℕ, _+_, _*_, _≤_}
 use mathlib.Core.Path.{_≡_}
 use mathlib.Core.Bool.{Bool, false, not, _&&_}
@@ -11,27 +11,19 @@ use Rattle.meaning.specs.Bytes.{allOf}
 use Rattle.meaning.specs.Model.{Model}
 use Rattle.meaning.specs.Reading.{cellAt}
 use Rattle.meaning.specs.Judge.{judgeStretch, judgeRows}
+use Rattle.model_records.specs.declared.places.Shape.{Shape}
 use Rattle.table_index.specs.Holds.{Known}
-use Rattle.read_references.specs.Placed.{Placed}
-use Rattle.write_judge.specs.Marks.{MarksFor}
 use Rattle.write_judge.specs.Meant.{contentFrom}
 use Rattle.write_judge.specs.declared.rows.Place.{Place}
 use Rattle.write_judge.specs.declared.rows.Judged.{Judged}
 use Rattle.write_judge.specs.declared.rows.Judged.the-variants.{On, No}
 
--- where the attribute records of each table begin, and a mark for each topic and each table
-pub record Judging (m : Model) (b : List ℕ) (topics tables : ℕ) (places marks : List ℕ) : Type 0 where
-  pub placed : Placed m b places
-  pub placesFit : length (m .tables) ≤ length places
-  pub tables-are : tables ≡ length (m .tables)
-  pub marksFor : MarksFor m topics marks
-
 -- the first three rules of a row: its table is no earlier than the one before, is one of the model's, and is delivered
-unfoldable pub tableTests : (marks : List ℕ) → List ℤ → (topics tables least at : ℕ) → Bool
-tableTests marks cells topics tables least at = allOf
+unfoldable pub tableTests : Shape → (marks : List ℕ) → List ℤ → (least at : ℕ) → Bool
+tableTests shape marks cells least at = allOf
     (not (ltZ (getD cells at (pos 0)) (pos least))
-    ∷ ltZ (getD cells at (pos 0)) (pos tables)
-    ∷ not (eqb (getD marks (topics + cellAt cells at) 0) 0)
+    ∷ ltZ (getD cells at (pos 0)) (pos (shape .tables))
+    ∷ not (eqb (getD marks (shape .topics + cellAt cells at) 0) 0)
     ∷ [])
 
 -- the rules of its identification but that it is unique

@@ -9,14 +9,14 @@ ghost use Rattle.meaning.specs.Judge.{cellIs, judgeStretch};
 use base::bools;
 
 // Is a cell below a number?
-pub fn is_below(a: i64, n: usize) -> bool
+pub(crate) fn is_below(a: i64, n: usize) -> bool
     ensures { λ r. ⌜ r ≡ ltZ a (pos n) ⌝ }
 {
     if a < 0 { true } else { (a as usize) < n }
 }
 
 // Is a cell this number?
-pub fn is_number(a: i64, n: usize) -> bool
+pub(crate) fn is_number(a: i64, n: usize) -> bool
     ensures { λ r. ⌜ r ≡ cellIs a n ⌝ }
 {
     if is_below(a, n) {
@@ -39,7 +39,7 @@ fn judge_bytes(undefined: u8, bytes: &[u8]) -> bool
 }
 
 // "a stretch outside the lent text is 19": so many bytes of the text from a start on.
-pub fn judge_stretch(text: &[u8], undefined: u8, start: i64, size: usize) -> bool
+pub(crate) fn judge_stretch(text: &[u8], undefined: u8, start: i64, size: usize) -> bool
     ensures { λ r. ⌜ r ≡ judgeStretch undefined (now (text .entry)) start size ⌝ }
 {
     if is_below(start, 0) {

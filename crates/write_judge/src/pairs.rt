@@ -18,12 +18,14 @@ ghost use Rattle.model_records.specs.Standing.{AttributesHere};
 use crate::cells;
 use crate::points;
 use base::bools;
+use model_records::ATTRIBUTE;
 use model_records::Attribute;
 use model_records::Component;
 use model_records::Components;
+use model_records::counts;
 
 // The pairs are fine, with so many points before what follows; or one is not.
-pub enum Fine {
+pub(crate) enum Fine {
     At(usize),
     No,
 }
@@ -303,21 +305,8 @@ fn judge_attribute(
     }
 }
 
-// The cells of an attribute's pairs.
-fn count_cells(attribute: Attribute) -> usize
-    requires { ⌜ Counted attribute ⌝ }
-    ensures { λ r. ⌜ r ≡ 2 * length (pairsOfType (attribute .optional) (typeOf attribute)) ⌝ }
-{
-    let kind = attribute.kind;
-    match kind {
-        2 => 4,
-        3 => 6,
-        _ => 2,
-    }
-}
-
 // The pairs of a row from a cell on, behind so many points; its table's attribute records begin at the byte `first`.
-pub fn judge_pairs(
+pub(crate) fn judge_pairs(
     model: &[u8],
     first: usize,
     text: &[u8],
@@ -337,7 +326,7 @@ pub fn judge_pairs(
     let mut at = first;
     let mut here = cell;
     let mut before = k;
-    while model_records::kind_at(model, at) == 5 {
+    while model_records::kind_at(model, at) == ATTRIBUTE {
         let attribute = model_records::attribute_at(model, at);
         match judge_attribute(
             attribute,
@@ -356,7 +345,8 @@ pub fn judge_pairs(
                 return Fine::No;
             }
         }
-        here += count_cells(attribute);
+        let counts = counts::count_of(attribute.kind);
+        here += 2 * counts.pairs;
         at = model_records::next_at(model, at);
     }
     Fine::At(before)

@@ -19,7 +19,7 @@ use read_state::LineState;
 use read_state::Move;
 
 // A point is fine, with the line state behind it; or it is not.
-pub enum Passed {
+pub(crate) enum Passed {
     To(LineState),
     No,
 }
@@ -121,7 +121,7 @@ fn judge_point(
 }
 
 // "STPT, then one or more of LIPT or ARCP LIPT, then ELIN": so many points that end a line.
-pub fn judge_points(forms: usize, components: Components, points: &[i64], n: usize) -> bool
+pub(crate) fn judge_points(forms: usize, components: Components, points: &[i64], n: usize) -> bool
     requires { ⌜ (2 ≤ components .count) × (components .count ≤ 3) × (length (components .items) ≡ 3) ⌝ }
     requires { ⌜ 4 * n ≤ length (now points) ⌝ }
     ensures { λ r. ⌜ r ≡ judgePoints forms (componentsOf components) unstarted n (now (points .entry)) ⌝ }
