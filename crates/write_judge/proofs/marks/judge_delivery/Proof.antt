@@ -1,39 +1,35 @@
+-- `write_judge::marks::judge_delivery` meets its contract. Assumes nothing.
+use native.Mathlib.Omega.{arith}
 use borrow.Author.Needs.{needs}
+use Rattle.write_judge.proofs.Marking.{topic-room, delivery-turn}
 use Rattle.write_judge.proofs.marks.judge_delivery.Statement.{statement}
 use Rattle.write_judge.proofs.marks.judge_delivery.Tie as tie
-use Rattle.write_judge.proofs.marks.judge_delivery.Reads as reads
-use Rattle.write_judge.proofs.marks.judge_delivery.Lts as lts
-use Rattle.model_records.proofs.places.is_optional.Reads as is-optional-reads
-use Rattle.model_records.proofs.places.topic_of.Reads as topic-of-reads
-use Rattle.write_judge.proofs.marks.is_fine.Reads as is-fine-reads
 
--- src/marks.rt:47:9
 topic-of-requires : tie.Need-topic-of-requires
-topic-of-requires c κs = search needs
+topic-of-requires c κs = let s = c .before .before .before in (s .pre .0 .placed .noted .room, omega (arith, s .pre .1, s .pre .0 .placed .tableLimit))
 
--- src/marks.rt:48:9
 is-optional-requires : tie.Need-is-optional-requires
-is-optional-requires c κs = search needs
+is-optional-requires c κs = let s = c .before .before .before .before in (s .pre .0 .placed, s .pre .1)
 
--- src/marks.rt:49:19
 add-is-fine : tie.Need-add-is-fine
-add-is-fine c = search needs
+add-is-fine c = let s = c .before .before .before .before .before .before in omega (arith, s .pre .1, s .pre .0 .placed .tableLimit, s .pre .0 .placed .topicLimit)
 
--- src/marks.rt:49:13
 shared-slice-read-is-fine : tie.Need-shared-slice-read-is-fine
-shared-slice-read-is-fine c = search needs
+shared-slice-read-is-fine c = let s = c .before .before .before .before .before .before .before in omega (arith, s .pre .1, s .pre .0 .marksRoom)
 
--- src/marks.rt:49:43
 shared-slice-read-is-fine-2 : tie.Need-shared-slice-read-is-fine-2
-shared-slice-read-is-fine-2 c = ?
+shared-slice-read-is-fine-2 c =
+    let s = c .before .before .before .before .before .before .before .before in
+    rw (c .before .before .before .before .topic-of .ensures) (topic-room _ _ _ _ (s .pre .0) (s .args .t) (s .pre .1))
 
--- src/marks.rt:49:5
 is-fine-requires : tie.Need-is-fine-requires
 is-fine-requires c κs = search needs
 
--- src/marks.rt:41:1
 returns : tie.Need-returns
-returns c = ?
+returns c =
+    let s = c .before .before .before .before .before .before .before .before .before in
+    rw (c .is-fine .ensures, c .before .before .before .before .is-optional .ensures, c .before .before .before .before .before .topic-of .ensures)
+    (delivery-turn _ _ _ _ (s .pre .0) (s .args .t) (s .pre .1))
 
 pub judge-delivery-spec : {M : Type 1} → statement M
 judge-delivery-spec =

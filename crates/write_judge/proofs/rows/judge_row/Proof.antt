@@ -1,47 +1,56 @@
+-- `write_judge::rows::judge_row` meets its contract. Assumes nothing.
+use native.Mathlib.Omega.{arith}
+use mathlib.Core.Path.{sym, _∙_}
+use borrow.Author.Tests.{not-true, not-false}
+use Rattle.write_judge.proofs.Heads.{row-first, row-second, row-third, row-all, row-row, row-cells}
 use borrow.Author.Needs.{needs}
 use Rattle.write_judge.proofs.rows.judge_row.Statement.{statement}
 use Rattle.write_judge.proofs.rows.judge_row.Tie as tie
-use Rattle.write_judge.proofs.rows.judge_row.Reads as reads
-use Rattle.write_judge.proofs.rows.judge_row.Lts as lts
-use Rattle.write_judge.proofs.rows.add_name.Reads as add-name-reads
-use Rattle.write_judge.proofs.rows.end_of_row.Reads as end-of-row-reads
-use Rattle.write_judge.proofs.rows.judge_name.Reads as judge-name-reads
 
--- src/rows.rt:166:9
 end-of-row-requires : tie.Need-end-of-row-requires
-end-of-row-requires c κs = search needs
+end-of-row-requires c κs = let s = c .before .before .before .before .before .before in (s .pre .0, s .pre .1 .1 .2)
 
--- src/rows.rt:168:9
 returns : tie.Need-returns
-returns c = ?
+returns c =
+    let p = c .before .before .before .before .before .before .before .before .pre in
+    (row-first _ _ _ _ (p .0 .placed) _ _ _ _ _ _ (p .1 .1 .1) (p .1 .0 .listed) _ (c .before .end-of-row .ensures) (c .if1 .taken), λ q. absurd (omega arith))
 
--- src/rows.rt:170:9
 judge-name-requires : tie.Need-judge-name-requires
-judge-name-requires c κs = ?
+judge-name-requires c κs =
+    let p = c .before .before .before .before .before .before .before .before .pre in
+    row-cells _ _ _ _ (p .0 .placed) _ _ _ _ _ _ (p .1 .1 .1) (p .1 .0 .listed) _ (c .before .end-of-row .ensures) (c .if1 .left)
 
--- src/rows.rt:171:9
 returns-2 : tie.Need-returns-2
-returns-2 c = ?
+returns-2 c =
+    let p = c .before .before .before .before .before .before .before .before .before .before .pre in
+    (row-second _ _ _ _ (p .0 .placed) _ _ _ _ _ _ (p .1 .1 .1) (p .1 .0 .listed) (sym (c .before .judge-name .ensures) ∙ not-true (c .before .judge-name .result) (c .if2 .taken)), λ q. absurd (omega arith))
 
--- src/rows.rt:173:9
 add-name-requires : tie.Need-add-name-requires
-add-name-requires c κs = ?
+add-name-requires c κs =
+    let p = c .before .before .before .before .before .before .before .before .before .before .before .pre in
+    let y = sym (c .before .before .judge-name .ensures) ∙ not-false (c .before .before .judge-name .result) (c .before .if2 .left) in
+    (p .1 .0, (p .1 .1 .0, row-row _ _ _ _ (p .0 .placed) _ _ _ _ _ _ (p .1 .1 .1) (p .1 .0 .listed) _ (c .before .before .before .before .end-of-row .ensures) (c .before .before .before .if1 .left) y))
 
--- src/rows.rt:174:9
 same-length : tie.Need-same-length
 same-length c = search needs
 
--- src/rows.rt:174:9
 returns-3 : tie.Need-returns-3
-returns-3 c = ?
+returns-3 c =
+    let p = c .before .before .before .before .before .before .before .before .before .before .before .before .before .before .before .pre in
+    let y = sym (c .before .before .before .before .before .before .judge-name .ensures) ∙ not-false (c .before .before .before .before .before .before .judge-name .result) (c .before .before .before .before .before .if2 .left) in
+    let z = sym (c .before .before .before .add-name .ensures .0) ∙ not-true (c .before .before .before .add-name .result) (c .if3 .taken) in
+    (row-third _ _ _ _ (p .0 .placed) _ _ _ _ _ _ (p .1 .1 .1) (p .1 .0 .listed) y z, λ q. absurd (omega arith))
 
--- src/rows.rt:143:1
 same-length-2 : tie.Need-same-length-2
 same-length-2 c = search needs
 
--- src/rows.rt:143:1
 returns-4 : tie.Need-returns-4
-returns-4 c = ?
+returns-4 c =
+    let p = c .before .before .before .before .before .before .before .before .before .before .before .before .before .before .before .pre in
+    let y = sym (c .before .before .before .before .before .before .judge-name .ensures) ∙ not-false (c .before .before .before .before .before .before .judge-name .result) (c .before .before .before .before .before .if2 .left) in
+    let f = not-false (c .before .before .before .add-name .result) (c .if3 .left) in
+    let z = sym (c .before .before .before .add-name .ensures .0) ∙ f in
+    (row-all _ _ _ _ (p .0 .placed) _ _ _ _ _ _ (p .1 .1 .1) (p .1 .0 .listed) _ (c .before .before .before .before .before .before .before .before .end-of-row .ensures) y z, λ q. c .before .before .before .add-name .ensures .1 f)
 
 pub judge-row-spec : {M : Type 1} → statement M
 judge-row-spec =
