@@ -69,11 +69,9 @@ module _ (b : List ℕ) (at : ℕ) (a : Attribute) (h : AttributeHere b at) (d :
   pub own-count : length (pairsOfType (a .optional) (means.typeOf a)) ≡ pairCount (a .kind)
   unfolding attributeOf
   own-count =
-      rw (d .type, d .kind)
-      (omega
-      (arith,
-      length-append (pairsOfType (a .optional) (typeOf (byteAt (payloadAt b at) 1) (drop 2 (payloadAt b at)))) [],
-      count-type (a .optional) (drop 2 (payloadAt b at)) [] (byteAt (payloadAt b at) 1) (sized b at h)))
+      let q = drop 2 (payloadAt b at) in
+      let t = byteAt (payloadAt b at) 1 in
+      rw (d .type, d .kind) (omega (arith, length-append (pairsOfType (a .optional) (typeOf t q)) [], count-type (a .optional) q [] t (sized b at h)))
 
 -- ## The records from a byte on
 

@@ -10,7 +10,7 @@ use lib.Signed.{ltZ, nonNeg}
 use lib.ListN.{length, getD, take}
 use lib.Seq.{getD-take, length-take-le}
 use borrow.Author.Tests.{ltb-true, ltb-false, leb-true, le-leb, lt-leb, not-true}
-use Rattle.meaning.specs.Bytes.{choose, allOf, byteAt}
+use Rattle.meaning.specs.Bytes.{choose, allOf}
 use Rattle.meaning.specs.Model.{Model, tableAt}
 use Rattle.meaning.specs.Row.{pairsOf}
 use Rattle.meaning.specs.Reading.{stretch, cellAt, objectAt, objectsOf, isUsed}
@@ -69,7 +69,7 @@ module _ (shape : Shape) (marks : List ℕ) (cells : List ℤ) (least at : ℕ) 
   table-lt h k = below-is (getD cells at (pos 0)) (shape .tables) (least-pos (getD cells at (pos 0)) least (rw h) .0) k
 
   module _ (h : tableTests shape marks cells least at ≡ true) where
-    pub table-pos : T (nonNeg (getD cells at (pos 0)))
+    table-pos : T (nonNeg (getD cells at (pos 0)))
     unfolding tableTests
     table-pos = least-pos (getD cells at (pos 0)) least (holds _ 0 h) .0
 
@@ -117,7 +117,7 @@ module _ (text : List ℕ) (cells : List ℤ) (u at : ℕ) where
     unfolding nameTests
     stretch-fine = both (not (ltZ (getD cells (at + 2) (pos 0)) (pos 1))) _ h .1
 
-    pub start-pos : T (nonNeg (getD cells (at + 1) (pos 0)))
+    start-pos : T (nonNeg (getD cells (at + 1) (pos 0)))
     unfolding judgeStretch
     start-pos = least-pos (getD cells (at + 1) (pos 0)) 0 (holds _ 0 stretch-fine) .0
 
@@ -129,7 +129,7 @@ module _ (text : List ℕ) (cells : List ℤ) (u at : ℕ) where
     unfolding judgeStretch
     in-text = leb-true _ _ (holds _ 1 stretch-fine)
 
-    pub row-here : T (nonNeg (getD cells at (pos 0))) → at + 2 < length cells → Row text cells at
+    row-here : T (nonNeg (getD cells at (pos 0))) → at + 2 < length cells → Row text cells at
     row-here p l = record { in-cells = l; table-pos = p; start-pos = start-pos; length-pos = size-pos; in-text = in-text }
 
 -- an identification whose start is not below zero
@@ -137,7 +137,7 @@ name-bytes : (text : List ℕ) (a : ℤ) (size : ℕ) → T (nonNeg a) → stret
 name-bytes text (pos x) size p = stretch-pos text x size
 name-bytes text (negsuc x) size p = absurd p
 
-pub own-name : (text rows : List ℕ) (cells : List ℤ) (o at : ℕ) → getD rows o 0 ≡ at → T (nonNeg (getD cells (at + 1) (pos 0))) → identificationBytes text cells at ≡ identificationOf text rows cells o
+own-name : (text rows : List ℕ) (cells : List ℤ) (o at : ℕ) → getD rows o 0 ≡ at → T (nonNeg (getD cells (at + 1) (pos 0))) → identificationBytes text cells at ≡ identificationOf text rows cells o
 unfolding identificationBytes identificationOf
 own-name text rows cells o at e p = rw e (name-bytes text (getD cells (at + 1) (pos 0)) (cellAt cells (at + 2)) p)
 
@@ -149,7 +149,7 @@ objects-same text cells (row ∷ rows) h =
     let p : T (nonNeg (getD cells (row + 1) (pos 0))) = h 0 (omega arith) in
     rw (name-bytes text (getD cells (row + 1) (pos 0)) (cellAt cells (row + 2)) p, objects-same text cells rows (λ o l. h (suc o) (omega arith)))
 
-pub lent-same : (text rows : List ℕ) (cells : List ℤ) (n : ℕ) → Listed text rows cells n → lentObjects text cells (take n rows) ≡ objectsOf text cells (take n rows)
+lent-same : (text rows : List ℕ) (cells : List ℤ) (n : ℕ) → Listed text rows cells n → lentObjects text cells (take n rows) ≡ objectsOf text cells (take n rows)
 lent-same text rows cells n h = objects-same text cells (take n rows) (λ o l. each o (let z = length-take-le n rows (h .in-rows) in omega arith))
   where
     each : (o : ℕ) → o < n → T (nonNeg (getD cells (getD (take n rows) o 0 + 1) (pos 0)))
@@ -220,7 +220,7 @@ module _ (x y z j : Bool) (e : ℕ) (s : j ≡ (x && (y && z))) where
       go false h = h
 
 -- a row has an end only where its first rules hold
-pub end-told : (x : Bool) (e size r : ℕ) → r ≡ choose (x && leb e size) e 0 → (r ≡ 0 → ⊥) → (x ≡ true) × (e ≤ size) × (r ≡ e)
+end-told : (x : Bool) (e size r : ℕ) → r ≡ choose (x && leb e size) e 0 → (r ≡ 0 → ⊥) → (x ≡ true) × (e ≤ size) × (r ≡ e)
 unfolding choose
 end-told true e size r h n = go (leb e size) refl h
   where

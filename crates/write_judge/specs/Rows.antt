@@ -28,10 +28,13 @@ tableTests shape marks cells least at = allOf
 
 -- the rules of its identification but that it is unique
 unfoldable pub nameTests : (text : List ℕ) → List ℤ → (u at : ℕ) → Bool
-nameTests text cells u at = not (ltZ (getD cells (at + 2) (pos 0)) (pos 1)) && judgeStretch u text (getD cells (at + 1) (pos 0)) (cellAt cells (at + 2))
+nameTests text cells u at =
+    not (ltZ (getD cells (at + 2) (pos 0)) (pos 1))
+    && judgeStretch u text (getD cells (at + 1) (pos 0)) (cellAt cells (at + 2))
 
 -- the rows before object o are fine: they can be looked for, and its row may start at this place
-pub record AtRow (seed : ℕ) (text rows : List ℕ) (cells points : List ℤ) (index : List ℕ) (o : ℕ) (p : Place) : Type 0 where
+pub record AtRow (seed : ℕ) (text rows : List ℕ) (cells points : List ℤ) (index : List ℕ) (o : ℕ) (p : Place)
+    : Type 0 where
   pub known : Known seed text rows cells index o
   pub cellsFit : p .at ≤ length cells
   pub pointsFit : 4 * p .points ≤ length points

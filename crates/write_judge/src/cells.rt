@@ -2,7 +2,7 @@
 ghost use mathlib.Core.Path.{_≡_};
 ghost use mathlib.Core.Bool.{not};
 ghost use mathlib.Core.List.{[], _∷_};
-ghost use lib.IntN.{pos, natAbs};
+ghost use lib.IntN.{pos};
 ghost use lib.Signed.{ltZ};
 ghost use Rattle.meaning.specs.Bytes.{allOf, textByte, every, same};
 ghost use Rattle.meaning.specs.Judge.{cellIs, judgeStretch};
@@ -28,7 +28,9 @@ pub(crate) fn is_number(a: i64, n: usize) -> bool
 
 // Bytes of an identification or a text, and never "one or two undefined bytes".
 fn judge_bytes(undefined: u8, bytes: &[u8]) -> bool
-    ensures { λ r. ⌜ r ≡ allOf (every textByte (now (bytes .entry)) ∷ not (same (now (bytes .entry)) (undefined ∷ [])) ∷ not (same (now (bytes .entry)) (undefined ∷ undefined ∷ [])) ∷ []) ⌝ }
+    ensures { λ r. ⌜ (let b = now (bytes .entry) in
+        r ≡ allOf (every textByte b
+        ∷ not (same b (undefined ∷ [])) ∷ not (same b (undefined ∷ undefined ∷ [])) ∷ [])) ⌝ }
 {
     let once = value_read::stretches::is_undefined(undefined, bytes);
     let twice = value_read::stretches::is_undefined_twice(undefined, bytes);

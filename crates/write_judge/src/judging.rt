@@ -71,7 +71,7 @@ fn judge_used(
     )
 }
 
-// Whether some lines read as a table in buffers of any lengths, with any counts of objects, cells and points, under a good model.
+// Whether some lines read as a table in buffers of any lengths, with any counts of objects, cells and points.
 // The index is working room: what it holds does not matter, and is not told.
 pub fn judge(
     model: &[u8],

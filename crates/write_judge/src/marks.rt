@@ -41,7 +41,8 @@ fn is_fine(delivered: bool, in_topic: bool, optional: bool) -> bool
 fn judge_delivery(model: &[u8], places: &[usize], shape: Shape, marks: &[u8], t: usize) -> bool
     requires { ⌜ Judging (now model) shape (now places) (now marks) ⌝ }
     requires { ⌜ t < shape .tables ⌝ }
-    ensures { λ r. ⌜ (let from = tablesFrom (shape .topics) (now (marks .entry)) (modelAt (now (model .entry)) .tables) in
+    ensures { λ r. ⌜ (
+        let from = tablesFrom (shape .topics) (now (marks .entry)) (modelAt (now (model .entry)) .tables) in
         from t ≡ choose r (from (t + 1)) false) ⌝ }
 {
     let topic = places::topic_of(places, t);

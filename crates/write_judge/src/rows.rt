@@ -139,7 +139,7 @@ fn add_name(
     true
 }
 
-// The cell behind the row of this object, where the row is fine up to its pairs; else 0. A fine row goes into the index.
+// The cell behind the row of this object, where it is fine up to its pairs; else 0. A fine row goes into the index.
 fn judge_row(
     model: &[u8],
     places: &[usize],
@@ -158,8 +158,8 @@ fn judge_row(
     requires { ⌜ Known seed (now text) (now rows) (now cells) (now index) object ⌝ }
     requires { ⌜ (object < length (now rows)) × (getD (now rows) object 0 ≡ at) × (at ≤ length (now cells)) ⌝ }
     ensures end { λ r. ⌜ (let m = modelAt (now (model .entry)) in
-        r ≡ choose (judgeRow m (now (text .entry)) (contentFrom (now (marks .entry)) [] (now (cells .entry)) []) least at
-        (take object (now (rows .entry)))) (rowEnd m (now (cells .entry)) at) 0) ⌝ }
+        r ≡ choose (judgeRow m (now (text .entry)) (contentFrom (now (marks .entry)) [] (now (cells .entry)) [])
+        least at (take object (now (rows .entry)))) (rowEnd m (now (cells .entry)) at) 0) ⌝ }
     ensures known { λ r. ⌜ (0 < r →
         Known seed (now (text .entry)) (now (rows .entry)) (now (cells .entry)) (now (index .exit)) (object + 1)) ⌝ }
 {
@@ -197,8 +197,8 @@ fn judge_object(
     ensures { λ r. ⌜ (let from = rowsFrom (modelAt (now (model .entry))) (now (text .entry)) (now (marks .entry))
         (now (rows .entry)) (now (cells .entry)) (now (points .entry)) in
         Turned (from object place) (from (object + 1))
-        (AtRow seed (now (text .entry)) (now (rows .entry)) (now (cells .entry)) (now (points .entry)) (now (index .exit))
-        (object + 1)) r) ⌝ }
+        (AtRow seed (now (text .entry)) (now (rows .entry)) (now (cells .entry)) (now (points .entry))
+        (now (index .exit)) (object + 1)) r) ⌝ }
 {
     let at = place.at;
     if rows[object] as usize != at {

@@ -1,8 +1,6 @@
 -- `write_judge::rows::judge_table` meets its contract. Assumes nothing.
 use native.Mathlib.Omega.{arith}
-use Prim.Native.Nat.{_<_}
-use mathlib.Core.Path.{_≡_, sym, _∙_}
-use mathlib.Core.Bool.{true, false}
+use mathlib.Core.Path.{sym, _∙_}
 use borrow.Author.Tests.{not-true, not-false}
 use Rattle.write_judge.proofs.Heads.{table-early, table-none, table-marked, table-lt}
 use borrow.Author.Needs.{needs}
