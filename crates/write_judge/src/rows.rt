@@ -151,19 +151,20 @@ fn judge_row(
     index: &mut [u64],
     seed: u64,
     object: usize,
-    at: usize,
-    least: usize,
+    place: Place,
 ) -> usize
     requires { ⌜ Judging (now model) shape (now places) (now marks) ⌝ }
     requires { ⌜ Known seed (now text) (now rows) (now cells) (now index) object ⌝ }
-    requires { ⌜ (object < length (now rows)) × (getD (now rows) object 0 ≡ at) × (at ≤ length (now cells)) ⌝ }
+    requires { ⌜ (object < length (now rows)) × (getD (now rows) object 0 ≡ place .at)
+        × (place .at ≤ length (now cells)) ⌝ }
     ensures end { λ r. ⌜ (let m = modelAt (now (model .entry)) in
         r ≡ choose (judgeRow m (now (text .entry)) (contentFrom (now (marks .entry)) [] (now (cells .entry)) [])
-        least at (take object (now (rows .entry)))) (rowEnd m (now (cells .entry)) at) 0) ⌝ }
+        (place .least) (place .at) (take object (now (rows .entry)))) (rowEnd m (now (cells .entry)) (place .at)) 0) ⌝ }
     ensures known { λ r. ⌜ (0 < r →
         Known seed (now (text .entry)) (now (rows .entry)) (now (cells .entry)) (now (index .exit)) (object + 1)) ⌝ }
 {
-    let end = end_of_row(model, places, shape, marks, cells, at, least);
+    let at = place.at;
+    let end = end_of_row(model, places, shape, marks, cells, at, place.least);
     if end == 0 {
         return 0;
     }
@@ -215,8 +216,7 @@ fn judge_object(
         index,
         seed,
         object,
-        at,
-        place.least,
+        place,
     );
     if end == 0 {
         return Judged::No;
