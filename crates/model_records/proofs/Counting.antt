@@ -3,15 +3,17 @@ use Prim.Native.Nat.{ℕ, zero, suc, _+_, _≤_}
 use native.Mathlib.Omega.{arith}
 use mathlib.Core.Path.{_≡_, refl}
 use mathlib.Core.Bool.{Bool, true, false}
-use mathlib.Core.List.{List, _++_}
+use mathlib.Core.List.{List, [], _++_}
 use lib.Dec.{eqb}
-use lib.ListN.{length, drop}
+use lib.ListN.{length, drop, length-append}
 use Rattle.meaning.specs.Bytes.{choose, byteAt}
 use Rattle.meaning.specs.Model.{Model, typeOf, componentsOf, attributeOf}
 use Rattle.meaning.specs.Row.{Pair, componentPairs, pairsOfType, pairsOf}
 use Rattle.model_records.specs.Records.{kindAt, payloadAt, nextAt, pairsAt}
-use Rattle.model_records.specs.Standing.{Standing, AttributeNext, AttributesHere}
-use Rattle.model_records.specs.Attributes.{Sized}
+use Rattle.model_records.specs.Standing.{Standing, AttributeHere, AttributeNext, AttributesHere}
+use Rattle.model_records.specs.Attributes as means
+use Rattle.model_records.specs.Attributes.{Sized, Decoded}
+use Rattle.model_records.specs.declared.Attribute.{Attribute}
 use Rattle.model_records.specs.Counts.{fieldsOf, pairCount, Counted}
 use Rattle.model_records.proofs.Standing.{attribute-here, no-attribute}
 use Rattle.model_records.proofs.Types.{sized, type-at, parts-room}
@@ -60,6 +62,16 @@ module _ (m : Model) (b : List ℕ) (at k t : ℕ) (a : AttributeNext m b at k t
   field-most =
       let q = few (byteAt (payloadAt b at) 1) (drop 2 (payloadAt b at)) (sized b at (a .good)) in
       (omega (arith, counted .fields, counted .pairs), omega (arith, counted .pairs))
+
+-- ## The attribute that is decoded
+
+module _ (b : List ℕ) (at : ℕ) (a : Attribute) (h : AttributeHere b at) (d : Decoded b at a) where
+  pub own-count : length (pairsOfType (a .optional) (means.typeOf a)) ≡ pairCount (a .kind)
+  unfolding attributeOf
+  own-count =
+      let q = drop 2 (payloadAt b at) in
+      let t = byteAt (payloadAt b at) 1 in
+      rw (d .type, d .kind) (omega (arith, length-append (pairsOfType (a .optional) (typeOf t q)) [], count-type (a .optional) q [] t (sized b at h)))
 
 -- ## The records from a byte on
 

@@ -10,8 +10,8 @@ use lib.Signed.{ltZ, nonNeg}
 use lib.ListN.{length, getD, take}
 use lib.Seq.{getD-take, length-take-le}
 use borrow.Author.Tests.{ltb-true, ltb-false, leb-true, le-leb, lt-leb, not-true}
-use Rattle.meaning.specs.Bytes.{choose, allOf, byteAt}
-use Rattle.meaning.specs.Model.{Model}
+use Rattle.meaning.specs.Bytes.{choose, allOf}
+use Rattle.meaning.specs.Model.{Model, tableAt}
 use Rattle.meaning.specs.Row.{pairsOf}
 use Rattle.meaning.specs.Reading.{stretch, cellAt, objectAt, objectsOf, isUsed}
 use Rattle.meaning.specs.Writing.{stretchBytes, identificationBytes}
@@ -19,20 +19,16 @@ use Rattle.meaning.specs.Judge as judge
 use Rattle.meaning.specs.Judge.{judgeStretch, lentObjects, rowEnd, judgeRow}
 use Rattle.meaning.proofs.Tests.Refuse.{both, holds}
 use Rattle.meaning.proofs.Reading.Stretches.{stretch-pos}
-use Rattle.model_records.specs.Records.{kindAt, nextAt, pairsAt}
-use Rattle.model_records.specs.Standing.{Standing, AttributeNext}
-use Rattle.model_records.proofs.Standing.{attribute-here, no-attribute}
-use Rattle.model_records.proofs.Types.{parts-room}
+use Rattle.model_records.specs.Records.{modelAt, pairsAt}
+use Rattle.model_records.specs.Standing.{AttributesHere}
+use Rattle.model_records.specs.Places.{attributesPlace, Placed}
+use Rattle.model_records.specs.declared.places.Shape.{Shape}
 use Rattle.table_index.specs.Objects.{identificationOf, Row, Listed}
 use Rattle.table_index.specs.Index.{hashOf, insertOf}
 use Rattle.table_index.specs.Holds.{Known}
 use Rattle.table_index.proofs.More.{known-more}
-use Rattle.read_references.specs.Placed.{PlaceOf}
-use Rattle.model_records.specs.Counts.{pairCount, fieldsOf}
-use Rattle.model_records.proofs.Counting.{pairs-more}
 use Rattle.write_judge.specs.Meant.{contentFrom}
-use Rattle.model_records.specs.Standing.{AttributesHere}
-use Rattle.write_judge.specs.Rows.{Judging, tableTests, nameTests}
+use Rattle.write_judge.specs.Rows.{tableTests, nameTests}
 
 -- ## A cell and a number
 
@@ -47,12 +43,12 @@ below-is (negsuc x) n p h = absurd p
 
 -- ## The table
 
-module _ (marks : List ℕ) (cells : List ℤ) (topics tables least at : ℕ) where
-  pub table-early : ltZ (getD cells at (pos 0)) (pos least) ≡ true → false ≡ tableTests marks cells topics tables least at
+module _ (shape : Shape) (marks : List ℕ) (cells : List ℤ) (least at : ℕ) where
+  pub table-early : ltZ (getD cells at (pos 0)) (pos least) ≡ true → false ≡ tableTests shape marks cells least at
   unfolding tableTests allOf
   table-early h = rw h
 
-  pub table-none : ltZ (getD cells at (pos 0)) (pos tables) ≡ false → false ≡ tableTests marks cells topics tables least at
+  pub table-none : ltZ (getD cells at (pos 0)) (pos (shape .tables)) ≡ false → false ≡ tableTests shape marks cells least at
   unfolding tableTests allOf
   table-none h = rw h (first (not (ltZ (getD cells at (pos 0)) (pos least))))
     where
@@ -60,43 +56,35 @@ module _ (marks : List ℕ) (cells : List ℤ) (topics tables least at : ℕ) wh
       first true = refl
       first false = refl
 
-  pub table-marked : ltZ (getD cells at (pos 0)) (pos least) ≡ false → ltZ (getD cells at (pos 0)) (pos tables) ≡ true
-      → not (eqb (getD marks (topics + cellAt cells at) 0) 0) ≡ tableTests marks cells topics tables least at
+  pub table-marked : ltZ (getD cells at (pos 0)) (pos least) ≡ false → ltZ (getD cells at (pos 0)) (pos (shape .tables)) ≡ true
+      → not (eqb (getD marks (shape .topics + cellAt cells at) 0) 0) ≡ tableTests shape marks cells least at
   unfolding tableTests allOf
-  table-marked h k = rw (h, k) (last (not (eqb (getD marks (topics + cellAt cells at) 0) 0)))
+  table-marked h k = rw (h, k) (last (not (eqb (getD marks (shape .topics + cellAt cells at) 0) 0)))
     where
       last : (x : Bool) → x ≡ (x && true)
       last true = refl
       last false = refl
 
-  pub table-lt : ltZ (getD cells at (pos 0)) (pos least) ≡ false → ltZ (getD cells at (pos 0)) (pos tables) ≡ true → cellAt cells at < tables
-  table-lt h k = below-is (getD cells at (pos 0)) tables (least-pos (getD cells at (pos 0)) least (rw h) .0) k
+  pub table-lt : ltZ (getD cells at (pos 0)) (pos least) ≡ false → ltZ (getD cells at (pos 0)) (pos (shape .tables)) ≡ true → cellAt cells at < shape .tables
+  table-lt h k = below-is (getD cells at (pos 0)) (shape .tables) (least-pos (getD cells at (pos 0)) least (rw h) .0) k
 
-  module _ (h : tableTests marks cells topics tables least at ≡ true) where
-    pub table-pos : T (nonNeg (getD cells at (pos 0)))
+  module _ (h : tableTests shape marks cells least at ≡ true) where
+    table-pos : T (nonNeg (getD cells at (pos 0)))
     unfolding tableTests
     table-pos = least-pos (getD cells at (pos 0)) least (holds _ 0 h) .0
 
-    pub table-in : cellAt cells at < tables
+    pub table-in : cellAt cells at < shape .tables
     unfolding tableTests
-    table-in = below-is (getD cells at (pos 0)) tables table-pos (holds _ 1 h)
+    table-in = below-is (getD cells at (pos 0)) (shape .tables) table-pos (holds _ 1 h)
 
-module _ (m : Model) (b : List ℕ) (topics tables : ℕ) (places marks : List ℕ) (j : Judging m b topics tables places marks) where
-  pub marks-room : topics + tables ≤ length marks
-  marks-room = omega (arith, j .marksFor .topics-are, j .marksFor .room, j .tables-are)
+-- the attribute records of the row's table
+module _ (b : List ℕ) (shape : Shape) (places : List ℕ) (h : Placed b shape places) (cells : List ℤ) (at t : ℕ) (e : t ≡ cellAt cells at) (l : t < shape .tables)
+    (first : ℕ) (f : first ≡ attributesPlace b places t) where
+  pub row-attributes : AttributesHere (modelAt b) b first
+  row-attributes = rw f (record { topics = _; tables = _; standing = h .noted .table t l .standing })
 
-  module _ (cells : List ℤ) (at t : ℕ) (e : t ≡ cellAt cells at) (l : cellAt cells at < tables) where
-    pub place-in : t < length places
-    place-in = omega (arith, j .tables-are, j .placesFit)
-
-    pub row-place : PlaceOf m b (cellAt cells at) (getD places t 0)
-    row-place = rw e (j .placed .place (cellAt cells at) (omega (arith, j .tables-are)))
-
-    pub row-attributes : AttributesHere m b (getD places t 0)
-    row-attributes = record { topics = _; tables = _; standing = row-place .standing }
-
-    pub row-pairs : pairsAt b (getD places t 0) ≡ judge.pairsAt m cells at
-    row-pairs = ap pairsOf (row-place .attributes)
+  pub row-pairs : pairsAt b first ≡ judge.pairsAt (modelAt b) cells at
+  row-pairs = rw f (ap pairsOf (h .noted .table t l .attributes) ∙ ap (λ (n : ℕ). pairsOf (tableAt (modelAt b .tables) n .attributes)) e)
 
 -- ## The end of a row
 
@@ -129,7 +117,7 @@ module _ (text : List ℕ) (cells : List ℤ) (u at : ℕ) where
     unfolding nameTests
     stretch-fine = both (not (ltZ (getD cells (at + 2) (pos 0)) (pos 1))) _ h .1
 
-    pub start-pos : T (nonNeg (getD cells (at + 1) (pos 0)))
+    start-pos : T (nonNeg (getD cells (at + 1) (pos 0)))
     unfolding judgeStretch
     start-pos = least-pos (getD cells (at + 1) (pos 0)) 0 (holds _ 0 stretch-fine) .0
 
@@ -141,7 +129,7 @@ module _ (text : List ℕ) (cells : List ℤ) (u at : ℕ) where
     unfolding judgeStretch
     in-text = leb-true _ _ (holds _ 1 stretch-fine)
 
-    pub row-here : T (nonNeg (getD cells at (pos 0))) → at + 2 < length cells → Row text cells at
+    row-here : T (nonNeg (getD cells at (pos 0))) → at + 2 < length cells → Row text cells at
     row-here p l = record { in-cells = l; table-pos = p; start-pos = start-pos; length-pos = size-pos; in-text = in-text }
 
 -- an identification whose start is not below zero
@@ -149,7 +137,7 @@ name-bytes : (text : List ℕ) (a : ℤ) (size : ℕ) → T (nonNeg a) → stret
 name-bytes text (pos x) size p = stretch-pos text x size
 name-bytes text (negsuc x) size p = absurd p
 
-pub own-name : (text rows : List ℕ) (cells : List ℤ) (o at : ℕ) → getD rows o 0 ≡ at → T (nonNeg (getD cells (at + 1) (pos 0))) → identificationBytes text cells at ≡ identificationOf text rows cells o
+own-name : (text rows : List ℕ) (cells : List ℤ) (o at : ℕ) → getD rows o 0 ≡ at → T (nonNeg (getD cells (at + 1) (pos 0))) → identificationBytes text cells at ≡ identificationOf text rows cells o
 unfolding identificationBytes identificationOf
 own-name text rows cells o at e p = rw e (name-bytes text (getD cells (at + 1) (pos 0)) (cellAt cells (at + 2)) p)
 
@@ -161,7 +149,7 @@ objects-same text cells (row ∷ rows) h =
     let p : T (nonNeg (getD cells (row + 1) (pos 0))) = h 0 (omega arith) in
     rw (name-bytes text (getD cells (row + 1) (pos 0)) (cellAt cells (row + 2)) p, objects-same text cells rows (λ o l. h (suc o) (omega arith)))
 
-pub lent-same : (text rows : List ℕ) (cells : List ℤ) (n : ℕ) → Listed text rows cells n → lentObjects text cells (take n rows) ≡ objectsOf text cells (take n rows)
+lent-same : (text rows : List ℕ) (cells : List ℤ) (n : ℕ) → Listed text rows cells n → lentObjects text cells (take n rows) ≡ objectsOf text cells (take n rows)
 lent-same text rows cells n h = objects-same text cells (take n rows) (λ o l. each o (let z = length-take-le n rows (h .in-rows) in omega arith))
   where
     each : (o : ℕ) → o < n → T (nonNeg (getD cells (getD (take n rows) o 0 + 1) (pos 0)))
@@ -232,7 +220,7 @@ module _ (x y z j : Bool) (e : ℕ) (s : j ≡ (x && (y && z))) where
       go false h = h
 
 -- a row has an end only where its first rules hold
-pub end-told : (x : Bool) (e size r : ℕ) → r ≡ choose (x && leb e size) e 0 → (r ≡ 0 → ⊥) → (x ≡ true) × (e ≤ size) × (r ≡ e)
+end-told : (x : Bool) (e size r : ℕ) → r ≡ choose (x && leb e size) e 0 → (r ≡ 0 → ⊥) → (x ≡ true) × (e ≤ size) × (r ≡ e)
 unfolding choose
 end-told true e size r h n = go (leb e size) refl h
   where
@@ -241,13 +229,16 @@ end-told true e size r h n = go (leb e size) refl h
     go false q h = absurd (n h)
 end-told false e size r h n = absurd (n h)
 
-module _ (m : Model) (b : List ℕ) (topics tables : ℕ) (places marks : List ℕ) (j : Judging m b topics tables places marks)
-    (text rows : List ℕ) (cells : List ℤ) (o at least u : ℕ) (eu : u ≡ m .undefined) (er : getD rows o 0 ≡ at) (listed : Listed text rows cells o) where
+module _ (b : List ℕ) (shape : Shape) (places marks : List ℕ) (placed : Placed b shape places)
+    (text rows : List ℕ) (cells : List ℤ) (o at least : ℕ) (er : getD rows o 0 ≡ at) (listed : Listed text rows cells o) where
+  abbrev m : Model
+  m = modelAt b
+
   abbrev X : Bool
-  X = tableTests marks cells topics tables least at && leb (rowEnd m cells at) (length cells)
+  X = tableTests shape marks cells least at && leb (rowEnd m cells at) (length cells)
 
   abbrev Y : Bool
-  Y = nameTests text cells u at
+  Y = nameTests text cells (shape .undefined) at
 
   abbrev Z : Bool
   Z = not (isUsed (identificationBytes text cells at) (lentObjects text cells (take o rows)))
@@ -257,12 +248,12 @@ module _ (m : Model) (b : List ℕ) (topics tables : ℕ) (places marks : List �
 
   row-split : J ≡ (X && (Y && Z))
   unfolding judgeRow allOf tableTests nameTests
-  row-split = rw (j .marksFor .topics-are, j .tables-are, eu)
+  row-split = rw (placed .topics, placed .tables, placed .undefined)
       (seven (not (ltZ (getD cells at (pos 0)) (pos least))) (ltZ (getD cells at (pos 0)) (pos (length (m .tables)))) (not (eqb (getD marks (length (m .topics) + cellAt cells at) 0) 0)) (leb (rowEnd m cells at) (length cells))
       (not (ltZ (getD cells (at + 2) (pos 0)) (pos 1))) (judgeStretch (m .undefined) text (getD cells (at + 1) (pos 0)) (cellAt cells (at + 2))) Z)
 
   row-name : Y ≡ true → identificationBytes text cells at ≡ identificationOf text rows cells o
-  row-name h = own-name text rows cells o at er (start-pos text cells u at h)
+  row-name h = own-name text rows cells o at er (start-pos text cells (shape .undefined) at h)
 
   row-used : Y ≡ true → Z ≡ not (isUsed (identificationOf text rows cells o) (objectsOf text cells (take o rows)))
   row-used h = rw (row-name h, lent-same text rows cells o listed)
@@ -282,8 +273,8 @@ module _ (m : Model) (b : List ℕ) (topics tables : ℕ) (places marks : List �
   -- a row that has an end lies within the cells
   pub row-row : (r : ℕ) → r ≡ choose X (rowEnd m cells at) 0 → (r ≡ 0 → ⊥) → Y ≡ true → Row text cells (getD rows o 0)
   row-row r h n y =
-      let t = end-told (tableTests marks cells topics tables least at) (rowEnd m cells at) (length cells) r h n in
-      rw er (row-here text cells u at y (table-pos marks cells topics tables least at (t .0)) (omega (arith, t .1)))
+      let t = end-told (tableTests shape marks cells least at) (rowEnd m cells at) (length cells) r h n in
+      rw er (row-here text cells (shape .undefined) at y (table-pos shape marks cells least at (t .0)) (omega (arith, t .1)))
 
   pub row-cells : (r : ℕ) → r ≡ choose X (rowEnd m cells at) 0 → (r ≡ 0 → ⊥) → at + 2 < length cells
-  row-cells r h n = omega (arith, end-told (tableTests marks cells topics tables least at) (rowEnd m cells at) (length cells) r h n .1)
+  row-cells r h n = omega (arith, end-told (tableTests shape marks cells least at) (rowEnd m cells at) (length cells) r h n .1)

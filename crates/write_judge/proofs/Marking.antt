@@ -1,43 +1,27 @@
--- The marks of tables, by a walk over the records of a good model. Assumes nothing.
-use Prim.Native.Nat.{ℕ, _+_, _-_, _≤_, _<_}
+-- The marks of tables, by their numbers. Assumes nothing.
+use Prim.Native.Nat.{ℕ, _+_, _<_}
 use native.Mathlib.Omega.{arith}
 use native.Mathlib.Numerals.{add-one}
-use mathlib.Core.Path.{_≡_, refl, sym, ap}
+use mathlib.Core.Path.{_≡_, refl, sym}
 use mathlib.Core.Bool.{Bool, true, false, not, _&&_, _||_, true≢false, false≢true}
 use mathlib.Core.List.{List, [], _∷_}
 use lib.Dec.{eqb}
 use lib.ListN.{length, getD, drop, drop-of-length-le}
 use lib.Seq.{drop-cons}
-use borrow.Author.Tests.{eqb-true, eqb-false}
 use Rattle.meaning.specs.Bytes.{choose, allOf}
-use Rattle.meaning.specs.Model.{Table, Model, noTable, tableAt, flagOf}
+use Rattle.meaning.specs.Model.{Table, noTable, tableAt}
 use Rattle.meaning.specs.Reading.{Content}
 use Rattle.meaning.specs.Writing.{isDelivered}
 use Rattle.meaning.specs.Judge.{judgeTables}
-use Rattle.model_records.specs.Records.{kindAt, payloadAt, nextAt}
-use Rattle.model_records.specs.Standing.{Standing}
-use Rattle.model_records.proofs.Standing.{topic-here, table-here, attribute-here, not-others}
-use Rattle.write_judge.specs.Marks.{MarksFor, marksOnly, tablesFrom, isFine}
-
--- ## A walk over the records
-
-module _ (m : Model) (b : List ℕ) (at k t : ℕ) (s : Standing m b at k t) where
-  -- past a record that is not the last
-  pub walk-next : (kindAt b at ≡ 6 → ⊥) → Standing m b (nextAt b at) (choose (eqb (kindAt b at) 3) (k + 1) k) (choose (eqb (kindAt b at) 4) (t + 1) t)
-  unfolding choose
-  walk-next n = go (eqb (kindAt b at) 3) refl (eqb (kindAt b at) 4) refl (eqb (kindAt b at) 5) refl
-    where
-      go : (x : Bool) → eqb (kindAt b at) 3 ≡ x → (y : Bool) → eqb (kindAt b at) 4 ≡ y → (z : Bool) → eqb (kindAt b at) 5 ≡ z
-          → Standing m b (nextAt b at) (choose (eqb (kindAt b at) 3) (k + 1) k) (choose (eqb (kindAt b at) 4) (t + 1) t)
-      go true e y f z g = let q = eqb-true (kindAt b at) 3 e in rw q (topic-here m b at k t s q .next)
-      go false e true f z g = let q = eqb-true (kindAt b at) 4 f in rw q (table-here m b at k t s q .next)
-      go false e false f true g = let q = eqb-true (kindAt b at) 5 g in rw q (attribute-here m b at k t s q .next)
-      go false e false f false g = absurd (n (not-others m b at k t s (eqb-false (kindAt b at) 4 f) (eqb-false (kindAt b at) 5 g) (eqb-false (kindAt b at) 3 e)))
+use Rattle.model_records.specs.Records.{modelAt}
+use Rattle.model_records.specs.Places.{topicOf}
+use Rattle.model_records.specs.declared.places.Shape.{Shape}
+use Rattle.write_judge.specs.Marks.{Judging, marksOnly, tablesFrom, isFine}
 
 -- ## The judge of tables
 
 -- only the marks are looked at
-pub by-marks : (topics : ℕ) (c d : Content) → c .marks ≡ d .marks → (n : ℕ) (ts : List Table) → judgeTables topics c n ts ≡ judgeTables topics d n ts
+by-marks : (topics : ℕ) (c d : Content) → c .marks ≡ d .marks → (n : ℕ) (ts : List Table) → judgeTables topics c n ts ≡ judgeTables topics d n ts
 unfolding judgeTables
 by-marks topics c d e n [] = refl
 by-marks topics c d e n (t ∷ ts) = rw (by-marks topics c d e (n + 1) ts, e)
@@ -51,7 +35,7 @@ three false y z = refl
 
 module _ (topics : ℕ) (marks : List ℕ) (ts : List Table) (n : ℕ) where
   -- one table more
-  pub table-turn : n < length ts → tablesFrom topics marks ts n
+  table-turn : n < length ts → tablesFrom topics marks ts n
       ≡ choose (isFine (isDelivered (marksOnly marks) (topics + n)) (isDelivered (marksOnly marks) (tableAt ts n .topic)) (tableAt ts n .optional)) (tablesFrom topics marks ts (n + 1)) false
   unfolding tablesFrom judgeTables allOf isFine
   table-turn l =
@@ -64,26 +48,22 @@ module _ (topics : ℕ) (marks : List ℕ) (ts : List Table) (n : ℕ) where
   unfolding tablesFrom judgeTables
   tables-end e = rw (drop-of-length-le ts {i = n} (omega arith))
 
--- the record of a table: its mark and its topic's
-module _ (m : Model) (b : List ℕ) (at k t : ℕ) (s : Standing m b at k t) (e : kindAt b at ≡ 4) (topics : ℕ) (marks : List ℕ) (f : MarksFor m topics marks) where
-  pub record-room : (topics + t < length marks) × (1 ≤ k) × (k - 1 < length marks)
-  record-room = let h = table-here m b at k t s e in (omega (arith, h .inside, f .topics-are, f .room), h .begun, omega (arith, s .topicCount, h .begun, h .inside, f .room))
+-- the mark of a table of the model, and its topic's
+module _ (b : List ℕ) (shape : Shape) (places marks : List ℕ) (j : Judging b shape places marks) where
+  module _ (t : ℕ) (l : t < shape .tables) where
+    pub topic-room : topicOf places t < length marks
+    topic-room =
+        let r = j .placed .noted .table t l in
+        omega (arith, r .standing .topicCount, j .placed .noted .owner t l, j .placed .topics, j .marksRoom)
 
-  pub record-flag : at + 5 ≤ nextAt b at
-  record-flag = table-here m b at k t s e .flag
+    pub delivery-turn : tablesFrom (shape .topics) marks (modelAt b .tables) t
+        ≡ choose (isFine (not (eqb (getD marks (shape .topics + t) 0) 0)) (not (eqb (getD marks (topicOf places t) 0) 0)) (tableAt (modelAt b .tables) t .optional)) (tablesFrom (shape .topics) marks (modelAt b .tables) (t + 1)) false
+    delivery-turn = rw (j .placed .noted .owner t l) (table-turn (shape .topics) marks (modelAt b .tables) t (omega (arith, j .placed .tables)))
 
-  pub record-turn : tablesFrom topics marks (m .tables) t
-      ≡ choose (isFine (not (eqb (getD marks (topics + t) 0) 0)) (not (eqb (getD marks (k - 1) 0) 0)) (flagOf (payloadAt b at))) (tablesFrom topics marks (m .tables) (t + 1)) false
-  record-turn =
-      let h = table-here m b at k t s e in
-      let topic : tableAt (m .tables) t .topic ≡ k - 1 = ap (λ (x : Table). x .topic) (h .table) in
-      let optional : tableAt (m .tables) t .optional ≡ flagOf (payloadAt b at) = ap (λ (x : Table). x .optional) (h .table) in
-      rw (← topic, ← optional) (table-turn topics marks (m .tables) t (h .inside))
-
--- the judge of all tables, of a table with these marks
-pub all-tables : (topics : ℕ) (marks : List ℕ) (c : Content) (ts : List Table) → c .marks ≡ marks → tablesFrom topics marks ts 0 ≡ judgeTables topics c 0 ts
-unfolding tablesFrom
-all-tables topics marks c ts e = by-marks topics (marksOnly marks) c (sym e) 0 ts
+  -- all tables, of a table with these marks
+  pub all-tables : (c : Content) → c .marks ≡ marks → tablesFrom (shape .topics) marks (modelAt b .tables) 0 ≡ judgeTables (length (modelAt b .topics)) c 0 (modelAt b .tables)
+  unfolding tablesFrom
+  all-tables c e = rw (j .placed .topics) (by-marks (length (modelAt b .topics)) (marksOnly marks) c (sym e) 0 (modelAt b .tables))
 
 -- a table by whether it is delivered, and whether its topic is
 pub fine-delivered : (b o : Bool) → b ≡ isFine true b o

@@ -38,9 +38,6 @@ unfolding choose
 end-bad true e r l h n = absurd (omega arith)
 end-bad false e r l h n = refl
 
-stop-first : (y : Bool) → false ≡ (false && y)
-stop-first y = refl
-
 stop-second : (x y : Bool) → false ≡ (x && (false && y))
 stop-second true y = refl
 stop-second false y = refl
@@ -79,11 +76,11 @@ module _ (m : Model) (text marks rows : List ℕ) (cells points : List ℤ) wher
   unfolding judgeRow
   row-same o p = refl
 
-  pub rows-start : rowsFrom m text marks rows cells points 0 (record { least = 0; at = 0; points = 0 }) ≡ judgeRows m text c 0 0 0 [] rows
+  rows-start : rowsFrom m text marks rows cells points 0 (record { least = 0; at = 0; points = 0 }) ≡ judgeRows m text c 0 0 0 [] rows
   unfolding rowsFrom
   rows-start = refl
 
-  pub rows-end : (o : ℕ) (p : Place) → length rows ≤ o → rowsFrom m text marks rows cells points o p ≡ (eqb (p .at) (length cells) && eqb (4 * p .points) (length points))
+  rows-end : (o : ℕ) (p : Place) → length rows ≤ o → rowsFrom m text marks rows cells points o p ≡ (eqb (p .at) (length cells) && eqb (4 * p .points) (length points))
   unfolding rowsFrom judgeRows allOf
   rows-end o p l = rw (drop-of-length-le rows {i = o} l) (ap (λ (x : Bool). eqb (p .at) (length cells) && x) (sym (go-on (eqb (4 * p .points) (length points)))))
 

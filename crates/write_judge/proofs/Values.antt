@@ -10,7 +10,6 @@ use lib.IntN.{ℤ, pos, natAbs}
 use lib.Signed.{ltZ}
 use lib.ListN.{length, getD}
 use Rattle.meaning.specs.Bytes.{choose, allOf}
-use Rattle.meaning.specs.Model as model
 use Rattle.meaning.specs.Model.{AttributeType, Reference, Coordinate, Number, Text, Date, Enumeration, Line}
 use Rattle.meaning.specs.Value.{isDay}
 use Rattle.meaning.specs.Reading.{Content}

@@ -22,11 +22,12 @@ use Rattle.model_records.specs.declared.Component.{Component}
 use Rattle.model_records.specs.Components.{componentOf, listOf}
 use Rattle.model_records.specs.declared.Attribute.{Attribute}
 use Rattle.model_records.specs.Records.{modelAt, kindAt, nextAt, attributesAt, pairsAt}
-use Rattle.model_records.specs.Standing.{Standing, AttributeHere}
+use Rattle.model_records.specs.Standing.{Standing, AttributeHere, AttributesHere}
 use Rattle.model_records.specs.Attributes.{typeOf, Decoded}
+use Rattle.model_records.specs.Counts.{pairCount}
 use Rattle.model_records.proofs.Standing.{attribute-here, no-attribute}
+use Rattle.model_records.proofs.Counting.{own-count}
 use Rattle.write_judge.specs.Meant.{contentFrom, Counted}
-use Rattle.model_records.specs.Standing.{AttributesHere}
 use Rattle.write_judge.proofs.Signs.{alone}
 use Rattle.write_judge.proofs.Values.{type-coordinate, type-line}
 
@@ -186,12 +187,6 @@ module _ (a : Attribute) (h : Counted a) where
           let n = h .three (omega (arith, q)) in
           (omega arith, omega arith, rw (type-coordinate a l m) (coordinate-size (a .optional) (a .components .items) (a .components .count) (h .room) (omega arith) (omega arith)))
 
-  pub size-two : a .kind ≡ 2 → length (pairsOfType (a .optional) (typeOf a)) ≡ 2
-  size-two e = coordinate-counted (omega arith) (omega arith) .2 ∙ h .two e
-
-  pub size-three : a .kind ≡ 3 → length (pairsOfType (a .optional) (typeOf a)) ≡ 3
-  size-three e = coordinate-counted (omega arith) (omega arith) .2 ∙ h .three e
-
   pub line-pair : a .kind ≡ 8 → pairsOfType (a .optional) (typeOf a) ≡ OfLine (a .optional) (a .number) (listOf (take (a .components .count) (a .components .items))) ∷ []
   unfolding pairsOfType
   line-pair e = rw (type-line a e)
@@ -345,6 +340,12 @@ module _ (b : List ℕ) (u : ℕ) (text rows : List ℕ) (cells points : List �
         pub own-inside : here + 2 * length own + 2 * length (pairsAt b (nextAt b at)) ≤ length cells
         own-inside = omega (arith, i .inside, ap length pairs-here ∙ length-append own (pairsAt b (nextAt b at)))
 
+        own-size : length own ≡ pairCount (a .kind)
+        own-size = own-count b at a good-here d
+
+        pub count-inside : (count : ℕ) → count ≡ pairCount (a .kind) → here + 2 * count ≤ length cells
+        count-inside count ec = omega (arith, own-inside, own-size)
+
         turned : (marks : List ℕ) → judgePairs u text (contentFrom marks rows cells points) true k (pairsAt b first) (drop cell cells)
             ≡ afterFound (judgePairs u text (contentFrom marks rows cells points) true before own (drop here cells)) missing (λ n. judgePairs u text (contentFrom marks rows cells points) true n (pairsAt b (nextAt b at)) (drop (here + 2 * length own) cells))
         turned marks =
@@ -356,8 +357,8 @@ module _ (b : List ℕ) (u : ℕ) (text rows : List ℕ) (cells points : List �
         pairs-stop h marks = rw (turned marks, sym (h marks)) refl
 
         pub pairs-on : (n : ℕ) → ((marks : List ℕ) → found n ≡ judgePairs u text (contentFrom marks rows cells points) true before own (drop here cells))
-            → (size next : ℕ) → size ≡ 2 * length own → next ≡ nextAt b at → PairsLeft next (here + size) n
-        pairs-on n h size next es en = rw (es, en) (record {
+            → (count next : ℕ) → count ≡ pairCount (a .kind) → next ≡ nextAt b at → PairsLeft next (here + 2 * count) n
+        pairs-on n h count next ec en = rw (ec, ← own-size, en) (record {
           topics = i .topics;
           tables = i .tables;
           standing = attribute-here (modelAt b) b at (i .topics) (i .tables) (i .standing) e .next;

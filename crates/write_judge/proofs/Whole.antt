@@ -15,9 +15,11 @@ use Rattle.meaning.specs.Reading.{Content}
 use Rattle.meaning.specs.Writing.{Lent, countsFit, contentOf}
 use Rattle.meaning.specs.Judge.{isMark, judgeTables, judgeRows, judge}
 use Rattle.meaning.proofs.Tests.Refuse.{holds}
-use Rattle.read_references.specs.Placed.{Placed}
+use Rattle.model_records.specs.Records.{modelAt}
+use Rattle.model_records.specs.Places.{Placed}
+use Rattle.model_records.specs.declared.places.Shape.{Shape}
+use Rattle.write_judge.specs.Marks.{Judging}
 use Rattle.write_judge.specs.Meant.{contentFrom}
-use Rattle.write_judge.specs.Rows.{Judging}
 use Rattle.write_judge.specs.Tables.{lentOf, judgeUsed}
 
 -- ## Counts
@@ -45,14 +47,14 @@ module _ (m : Model) (text : List ℕ) (c : Content) where
   unfolding judgeUsed allOf
   used-marks h = rw h
 
-  module _ (topics : ℕ) (e : topics ≡ length (m .topics)) (g : every isMark (c .marks) ≡ true) where
-    pub used-tables : judgeTables topics c 0 (m .tables) ≡ false → false ≡ judgeUsed m text c
+  module _ (g : every isMark (c .marks) ≡ true) where
+    pub used-tables : judgeTables (length (m .topics)) c 0 (m .tables) ≡ false → false ≡ judgeUsed m text c
     unfolding judgeUsed allOf
-    used-tables h = rw (g, ← e, h)
+    used-tables h = rw (g, h)
 
-    pub used-rows : judgeTables topics c 0 (m .tables) ≡ true → judgeRows m text c 0 0 0 [] (c .rows) ≡ judgeUsed m text c
+    pub used-rows : judgeTables (length (m .topics)) c 0 (m .tables) ≡ true → judgeRows m text c 0 0 0 [] (c .rows) ≡ judgeUsed m text c
     unfolding judgeUsed allOf
-    used-rows h = rw (g, ← e, h) (last (judgeRows m text c 0 0 0 [] (c .rows)))
+    used-rows h = rw (g, h) (last (judgeRows m text c 0 0 0 [] (c .rows)))
 
 -- what a cleared index is
 pub cleared : (l : List ℕ) (n : ℕ) → l ≡ replicate n 0 → l ≡ replicate (length l) 0
@@ -60,34 +62,32 @@ cleared l n e = e ∙ ap (λ (k : ℕ). replicate k 0) (sym (ap length e ∙ len
 
 -- ## The whole
 
-module _ (m : Model) (text marks rows : List ℕ) (cells points : List ℤ) (objects cellCount pointCount count : ℕ) (e : count ≡ length (m .topics) + length (m .tables)) where
+module _ (b : List ℕ) (shape : Shape) (places : List ℕ) (placed : Placed b shape places)
+    (text marks rows : List ℕ) (cells points : List ℤ) (objects cellCount pointCount : ℕ) where
+  abbrev count : ℕ
+  count = shape .topics + shape .tables
+
   abbrev Fit : Bool
   Fit = allOf (leb count (length marks) ∷ leb objects (length rows) ∷ leb cellCount (length cells) ∷ leb (4 * pointCount) (length points) ∷ [])
 
   abbrev t : Lent
   t = lentOf text marks rows cells points objects cellCount pointCount
 
-  fit-is : Fit ≡ countsFit m t
+  fit-is : Fit ≡ countsFit (modelAt b) t
   unfolding countsFit
-  fit-is = rw e
+  fit-is = rw (placed .topics, placed .tables)
 
-  pub whole-none : Fit ≡ false → false ≡ judge m t
+  pub whole-none : Fit ≡ false → false ≡ judge (modelAt b) t
   unfolding judge allOf
   whole-none h = rw (← fit-is, h)
 
-  pub whole-used : Fit ≡ true → judgeUsed m text (contentFrom (take count marks) (take objects rows) (take cellCount cells) (take (4 * pointCount) points)) ≡ judge m t
+  pub whole-used : Fit ≡ true → judgeUsed (modelAt b) text (contentFrom (take count marks) (take objects rows) (take cellCount cells) (take (4 * pointCount) points)) ≡ judge (modelAt b) t
   unfolding judge judgeUsed allOf contentOf
-  whole-used h = rw (← fit-is, h, e)
+  whole-used h = rw (← fit-is, h, placed .topics, placed .tables)
 
   pub fit-counts : Fit ≡ true → (count ≤ length marks) × (objects ≤ length rows) × (cellCount ≤ length cells) × (4 * pointCount ≤ length points)
   fit-counts h = (leb-true _ _ (holds _ 0 h), leb-true _ _ (holds _ 1 h), leb-true _ _ (holds _ 2 h), leb-true _ _ (holds _ 3 h))
 
-  -- what judging rows needs
-  pub whole-judging : Fit ≡ true → (b places : List ℕ) (topics tables : ℕ) → count ≡ topics + tables → topics ≡ length (m .topics) → tables ≡ length (m .tables) → Placed m b places → length (m .tables) ≤ length places
-      → Judging m b topics tables places (take count marks)
-  whole-judging h b places topics tables ec et es p f = record {
-    placed = p;
-    placesFit = f;
-    tables-are = es;
-    marksFor = record { topics-are = et; room = (let z = length-take-le count marks (fit-counts h .0) in omega arith) };
-  }
+  -- what judging needs
+  pub whole-judging : Fit ≡ true → Judging b shape places (take count marks)
+  whole-judging h = record { placed = placed; marksRoom = (let z = length-take-le count marks (fit-counts h .0) in omega arith) }

@@ -6,14 +6,14 @@ use mathlib.Core.List.{List, [], _∷_}
 use lib.IntN.{ℤ}
 use lib.ListN.{length}
 use Rattle.meaning.specs.Bytes.{allOf}
-use Rattle.meaning.specs.Model.{Component, AttributeType, Reference, Coordinate, Number, Text, Date, Enumeration, Line, Model, Found, found, missing}
+use Rattle.meaning.specs.Model.{Component, Found, found, missing}
+use Rattle.meaning.specs.Model.{AttributeType, Reference, Coordinate, Number, Text, Date, Enumeration, Line}
 use Rattle.meaning.specs.Value.{within}
 use Rattle.meaning.specs.Reading as meaning
 use Rattle.meaning.specs.Reading.{Content, move, isForbidden}
 use Rattle.meaning.specs.Judge.{kindCodeOf, areWithin, afterPoint, judgeReference, judgeDate, judgeLeaf}
 use Rattle.read_state.specs.Meaning.{lineStateOf}
 use Rattle.model_records.specs.declared.Attribute.{Attribute}
-use Rattle.model_records.specs.Standing.{Standing}
 use Rattle.write_judge.specs.declared.pairs.Fine.{Fine}
 use Rattle.write_judge.specs.declared.pairs.Fine.the-variants as fine
 use Rattle.write_judge.specs.declared.points.Passed.{Passed}
@@ -25,7 +25,8 @@ passedThen (passed.To state) next = next (lineStateOf state)
 passedThen passed.No next = false
 
 -- a point by its four cells, from a line state on: where it is fine, what follows from the line state behind it
-unfoldable pub pointThen : (forms : ℕ) → List Component → meaning.LineState → (kind east north height : ℤ) → (meaning.LineState → Bool) → Bool
+unfoldable pub pointThen : (forms : ℕ) → List Component → meaning.LineState → (kind east north height : ℤ)
+    → (meaning.LineState → Bool) → Bool
 pointThen forms ks state kind east north height next =
     afterPoint (move state (kindCodeOf kind)) (λ behind. allOf
     (not (isForbidden forms state (kindCodeOf kind))
@@ -42,7 +43,8 @@ fineOf fine.No = missing
 abbrev pub contentFrom : (marks rows : List ℕ) (cells points : List ℤ) → Content
 contentFrom marks rows cells points = record { marks = marks; rows = rows; cells = cells; points = points }
 
--- the second cell of a pair whose first one is 1: "Reference: 1 and the number of the object. Number, date, enumeration: 1 and the value"
+-- the second cell of a pair whose first one is 1: "Reference: 1 and the number of the object.
+-- Number, date, enumeration: 1 and the value"
 unfoldable pub judgeSecond : Content → AttributeType → (b : ℤ) → Bool
 judgeSecond c (Reference target) b = judgeReference c target b
 judgeSecond c (Coordinate ks) b = false

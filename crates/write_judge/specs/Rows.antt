@@ -1,4 +1,4 @@
--- What judging rows needs and answers. Short names: m the model, b its bytes, o an object's number, p the place of its row.
+-- What judging rows needs and answers. Short names: m the model, o an object's number, p the place of its row.
 use Prim.Native.Nat.{ℕ, _+_, _*_, _≤_}
 use mathlib.Core.Path.{_≡_}
 use mathlib.Core.Bool.{Bool, false, not, _&&_}
@@ -11,35 +11,30 @@ use Rattle.meaning.specs.Bytes.{allOf}
 use Rattle.meaning.specs.Model.{Model}
 use Rattle.meaning.specs.Reading.{cellAt}
 use Rattle.meaning.specs.Judge.{judgeStretch, judgeRows}
+use Rattle.model_records.specs.declared.places.Shape.{Shape}
 use Rattle.table_index.specs.Holds.{Known}
-use Rattle.read_references.specs.Placed.{Placed}
-use Rattle.write_judge.specs.Marks.{MarksFor}
 use Rattle.write_judge.specs.Meant.{contentFrom}
 use Rattle.write_judge.specs.declared.rows.Place.{Place}
 use Rattle.write_judge.specs.declared.rows.Judged.{Judged}
 use Rattle.write_judge.specs.declared.rows.Judged.the-variants.{On, No}
 
--- where the attribute records of each table begin, and a mark for each topic and each table
-pub record Judging (m : Model) (b : List ℕ) (topics tables : ℕ) (places marks : List ℕ) : Type 0 where
-  pub placed : Placed m b places
-  pub placesFit : length (m .tables) ≤ length places
-  pub tables-are : tables ≡ length (m .tables)
-  pub marksFor : MarksFor m topics marks
-
 -- the first three rules of a row: its table is no earlier than the one before, is one of the model's, and is delivered
-unfoldable pub tableTests : (marks : List ℕ) → List ℤ → (topics tables least at : ℕ) → Bool
-tableTests marks cells topics tables least at = allOf
+unfoldable pub tableTests : Shape → (marks : List ℕ) → List ℤ → (least at : ℕ) → Bool
+tableTests shape marks cells least at = allOf
     (not (ltZ (getD cells at (pos 0)) (pos least))
-    ∷ ltZ (getD cells at (pos 0)) (pos tables)
-    ∷ not (eqb (getD marks (topics + cellAt cells at) 0) 0)
+    ∷ ltZ (getD cells at (pos 0)) (pos (shape .tables))
+    ∷ not (eqb (getD marks (shape .topics + cellAt cells at) 0) 0)
     ∷ [])
 
 -- the rules of its identification but that it is unique
 unfoldable pub nameTests : (text : List ℕ) → List ℤ → (u at : ℕ) → Bool
-nameTests text cells u at = not (ltZ (getD cells (at + 2) (pos 0)) (pos 1)) && judgeStretch u text (getD cells (at + 1) (pos 0)) (cellAt cells (at + 2))
+nameTests text cells u at =
+    not (ltZ (getD cells (at + 2) (pos 0)) (pos 1))
+    && judgeStretch u text (getD cells (at + 1) (pos 0)) (cellAt cells (at + 2))
 
 -- the rows before object o are fine: they can be looked for, and its row may start at this place
-pub record AtRow (seed : ℕ) (text rows : List ℕ) (cells points : List ℤ) (index : List ℕ) (o : ℕ) (p : Place) : Type 0 where
+pub record AtRow (seed : ℕ) (text rows : List ℕ) (cells points : List ℤ) (index : List ℕ) (o : ℕ) (p : Place)
+    : Type 0 where
   pub known : Known seed text rows cells index o
   pub cellsFit : p .at ≤ length cells
   pub pointsFit : 4 * p .points ≤ length points

@@ -4,16 +4,16 @@ ghost use mathlib.Core.List.{[], _∷_};
 ghost use Prim.Native.Nat.{_*_};
 ghost use lib.Dec.{leb};
 ghost use Rattle.meaning.specs.Bytes.{allOf};
-ghost use Rattle.meaning.specs.Check.{good, checkModel};
 ghost use Rattle.meaning.specs.Judge as meaning;
 ghost use Rattle.model_records.specs.Records.{modelAt};
-ghost use Rattle.model_records.specs.Standing.{Standing};
+ghost use Rattle.model_records.specs.Places.{Placed};
+ghost use Rattle.write_judge.specs.Marks.{Judging};
 ghost use Rattle.write_judge.specs.Meant.{contentFrom};
-ghost use Rattle.write_judge.specs.Rows.{Judging};
 ghost use Rattle.write_judge.specs.Tables.{lentOf, judgeUsed};
 use crate::marks;
 use crate::rows;
 use base::bools;
+use model_records::places::Shape;
 
 // "A count above a lent length .. is 19": counts beside lengths; a point is four cells.
 fn counts_fit(
@@ -26,7 +26,8 @@ fn counts_fit(
     points_used: usize,
     points: usize,
 ) -> bool
-    ensures { λ r. ⌜ r ≡ allOf (leb count marks ∷ leb objects rows ∷ leb «cells_used» cells ∷ leb (4 * «points_used») points ∷ []) ⌝ }
+    ensures { λ r. ⌜ r ≡ allOf
+        (leb count marks ∷ leb objects rows ∷ leb «cells_used» cells ∷ leb (4 * «points_used») points ∷ []) ⌝ }
 {
     let few = bools::both(cells_used <= cells, points_used <= points / 4);
     bools::both(count <= marks, bools::both(objects <= rows, few))
@@ -35,11 +36,9 @@ fn counts_fit(
 // A table whose buffers are exactly what is used of them.
 fn judge_used(
     model: &[u8],
-    first: usize,
-    text: &[u8],
     places: &[usize],
-    topics: usize,
-    tables: usize,
+    shape: Shape,
+    text: &[u8],
     marks: &[u8],
     rows: &[u64],
     cells: &[i64],
@@ -47,25 +46,22 @@ fn judge_used(
     index: &mut [u64],
     seed: u64,
 ) -> bool
-    requires { ⌜ checkModel (now model) ≡ good (modelAt (now model)) ⌝ }
-    requires { ⌜ Standing (modelAt (now model)) (now model) first 0 0 ⌝ }
-    requires { ⌜ Judging (modelAt (now model)) (now model) topics tables (now places) (now marks) ⌝ }
-    ensures { λ r. ⌜ r ≡ judgeUsed (modelAt (now (model .entry))) (now (text .entry)) (contentFrom (now (marks .entry)) (now (rows .entry)) (now (cells .entry)) (now (points .entry))) ⌝ }
+    requires { ⌜ Judging (now model) shape (now places) (now marks) ⌝ }
+    ensures { λ r. ⌜ r ≡ judgeUsed (modelAt (now (model .entry))) (now (text .entry))
+        (contentFrom (now (marks .entry)) (now (rows .entry)) (now (cells .entry)) (now (points .entry))) ⌝ }
 {
     if !marks::are_marks(marks) {
         return false;
     }
-    if !marks::judge_tables(model, first, topics, marks) {
+    if !marks::judge_tables(model, places, shape, marks) {
         return false;
     }
     table_index::clear(index);
     rows::judge_rows(
         model,
-        text,
-        model_records::undefined_of(model),
         places,
-        topics,
-        tables,
+        shape,
+        text,
         marks,
         rows,
         cells,
@@ -75,10 +71,12 @@ fn judge_used(
     )
 }
 
-// Whether some lines read as a table in buffers of any lengths, with any counts of objects, cells and points, under a good model.
+// Whether some lines read as a table in buffers of any lengths, with any counts of objects, cells and points.
 // The index is working room: what it holds does not matter, and is not told.
 pub fn judge(
     model: &[u8],
+    places: &[usize],
+    shape: Shape,
     text: &[u8],
     marks: &[u8],
     rows: &[u64],
@@ -90,14 +88,12 @@ pub fn judge(
     index: &mut [u64],
     seed: u64,
 ) -> bool
-    requires { ⌜ checkModel (now model) ≡ good (modelAt (now model)) ⌝ }
-    ensures { λ r. ⌜ r ≡ meaning.judge (modelAt (now (model .entry))) (lentOf (now (text .entry)) (now (marks .entry)) (now (rows .entry)) (now (cells .entry)) (now (points .entry)) objects «cells_used» «points_used») ⌝ }
+    requires { ⌜ Placed (now model) shape (now places) ⌝ }
+    ensures { λ r. ⌜ r ≡ meaning.judge (modelAt (now (model .entry)))
+        (lentOf (now (text .entry)) (now (marks .entry)) (now (rows .entry)) (now (cells .entry)) (now (points .entry))
+        objects «cells_used» «points_used») ⌝ }
 {
-    let mut places: [usize; 512] = [0; 512];
-    let first = model_records::first_record(model);
-    let topics = marks::count_topics(model, first);
-    let tables = read_references::places::place_tables(model, first, &mut places);
-    let count = topics + tables;
+    let count = shape.topics + shape.tables;
     if !counts_fit(
         count,
         marks.len(),
@@ -113,11 +109,9 @@ pub fn judge(
     let end = 4 * points_used;
     judge_used(
         model,
-        first,
+        places,
+        shape,
         text,
-        &places,
-        topics,
-        tables,
         &marks[..count],
         &rows[..objects],
         &cells[..cells_used],

@@ -9,7 +9,8 @@ ghost use Rattle.meaning.specs.Bytes.{choose};
 ghost use Rattle.meaning.specs.Model.{Coordinate, Number, Text};
 ghost use Rattle.meaning.specs.Row.{OfLine, componentPairs, pairsOfType};
 ghost use Rattle.meaning.specs.Reading.{Content};
-ghost use Rattle.meaning.specs.Judge.{cellIs, judgeUndefined, judgeDate, judgeLeaf, judgeReference, judgeValue, judgeComponent, judgeLine, fineIf, judgePair, judgePairs};
+ghost use Rattle.meaning.specs.Judge.{cellIs, judgeUndefined, judgeDate, judgeLeaf, judgeReference, judgeValue};
+ghost use Rattle.meaning.specs.Judge.{judgeComponent, judgeLine, fineIf, judgePair, judgePairs};
 ghost use Rattle.model_records.specs.Components.{componentOf, componentsOf};
 ghost use Rattle.model_records.specs.Records.{modelAt, pairsAt};
 ghost use Rattle.model_records.specs.Attributes.{typeOf};
@@ -18,12 +19,14 @@ ghost use Rattle.model_records.specs.Standing.{AttributesHere};
 use crate::cells;
 use crate::points;
 use base::bools;
+use model_records::ATTRIBUTE;
 use model_records::Attribute;
 use model_records::Component;
 use model_records::Components;
+use model_records::counts;
 
 // The pairs are fine, with so many points before what follows; or one is not.
-pub enum Fine {
+pub(crate) enum Fine {
     At(usize),
     No,
 }
@@ -60,7 +63,8 @@ fn judge_leaf(leaves: usize, b: i64) -> bool
 
 // "Reference: 1 and the number of the object", which is of the target's table.
 fn judge_reference(rows: &[u64], cells: &[i64], target: usize, b: i64) -> bool
-    ensures { λ r. ⌜ ((marks : List ℕ) (points : List ℤ) → r ≡ judgeReference (contentFrom marks (now (rows .entry)) (now (cells .entry)) points) target b) ⌝ }
+    ensures { λ r. ⌜ ((marks : List ℕ) (points : List ℤ) →
+        r ≡ judgeReference (contentFrom marks (now (rows .entry)) (now (cells .entry)) points) target b) ⌝ }
 {
     if cells::is_below(b, 0) {
         return false;
@@ -93,7 +97,8 @@ fn judge_text(text: &[u8], undefined: u8, longest: usize, a: i64, b: i64) -> boo
 // The second cell of a pair that begins with 1, by the number of its attribute's type.
 fn judge_second(attribute: Attribute, rows: &[u64], cells: &[i64], b: i64) -> bool
     requires { ⌜ length (attribute .components .items) ≡ 3 ⌝ }
-    ensures { λ r. ⌜ ((marks : List ℕ) (points : List ℤ) → r ≡ judgeSecond (contentFrom marks (now (rows .entry)) (now (cells .entry)) points) (typeOf attribute) b) ⌝ }
+    ensures { λ r. ⌜ ((marks : List ℕ) (points : List ℤ) →
+        r ≡ judgeSecond (contentFrom marks (now (rows .entry)) (now (cells .entry)) points) (typeOf attribute) b) ⌝ }
 {
     let kind = attribute.kind;
     let components = attribute.components;
@@ -118,7 +123,9 @@ fn judge_value(
     b: i64,
 ) -> bool
     requires { ⌜ length (attribute .components .items) ≡ 3 ⌝ }
-    ensures { λ r. ⌜ ((marks : List ℕ) (points : List ℤ) → r ≡ judgeValue undefined (now (text .entry)) (contentFrom marks (now (rows .entry)) (now (cells .entry)) points) (typeOf attribute) a b) ⌝ }
+    ensures { λ r. ⌜ ((marks : List ℕ) (points : List ℤ) →
+        let t = contentFrom marks (now (rows .entry)) (now (cells .entry)) points in
+        r ≡ judgeValue undefined (now (text .entry)) t (typeOf attribute) a b) ⌝ }
 {
     let kind = attribute.kind;
     match kind {
@@ -148,7 +155,10 @@ fn judge_own(
     b: i64,
 ) -> bool
     requires { ⌜ length (attribute .components .items) ≡ 3 ⌝ }
-    ensures { λ r. ⌜ ((marks : List ℕ) (points : List ℤ) → r ≡ choose (cellIs a 0) (judgeUndefined (attribute .optional) b) (judgeValue undefined (now (text .entry)) (contentFrom marks (now (rows .entry)) (now (cells .entry)) points) (typeOf attribute) a b)) ⌝ }
+    ensures { λ r. ⌜ ((marks : List ℕ) (points : List ℤ) →
+        let t = contentFrom marks (now (rows .entry)) (now (cells .entry)) points in
+        r ≡ choose (cellIs a 0) (judgeUndefined (attribute .optional) b)
+        (judgeValue undefined (now (text .entry)) t (typeOf attribute) a b)) ⌝ }
 {
     if cells::is_number(a, 0) {
         judge_undefined(attribute.optional, b)
@@ -173,7 +183,9 @@ fn judge_component(before: bool, component: Component, a: i64, b: i64) -> bool
 
 // The pair of a coordinate's first component.
 fn judge_first(optional: bool, component: Component, a: i64, b: i64) -> bool
-    ensures { λ r. ⌜ ((undefined : ℕ) (text : List ℕ) (c : Content) → r ≡ choose (cellIs a 0) (judgeUndefined optional b) (judgeValue undefined text c (Number (componentOf component)) a b)) ⌝ }
+    ensures { λ r. ⌜ ((undefined : ℕ) (text : List ℕ) (c : Content) →
+        r ≡ choose (cellIs a 0) (judgeUndefined optional b)
+        (judgeValue undefined text c (Number (componentOf component)) a b)) ⌝ }
 {
     if cells::is_number(a, 0) {
         judge_undefined(optional, b)
@@ -186,7 +198,9 @@ fn judge_first(optional: bool, component: Component, a: i64, b: i64) -> bool
 fn judge_third(components: Components, defined: bool, cells: &[i64], cell: usize) -> bool
     requires { ⌜ (2 ≤ components .count) × (components .count ≤ 3) × (length (components .items) ≡ 3) ⌝ }
     requires { ⌜ cell + 2 * (components .count - 2) ≤ length (now cells) ⌝ }
-    ensures { λ r. ⌜ ((undefined k : ℕ) (text : List ℕ) (c : Content) → fineIf r k ≡ judgePairs undefined text c defined k (componentPairs (drop 2 (componentsOf components))) (drop cell (now (cells .entry)))) ⌝ }
+    ensures { λ r. ⌜ ((undefined k : ℕ) (text : List ℕ) (c : Content) →
+        fineIf r k ≡ judgePairs undefined text c defined k (componentPairs (drop 2 (componentsOf components)))
+        (drop cell (now (cells .entry)))) ⌝ }
 {
     let items = components.items;
     if components.count == 3 {
@@ -200,7 +214,9 @@ fn judge_third(components: Components, defined: bool, cells: &[i64], cell: usize
 fn judge_further(components: Components, defined: bool, cells: &[i64], cell: usize) -> bool
     requires { ⌜ (2 ≤ components .count) × (components .count ≤ 3) × (length (components .items) ≡ 3) ⌝ }
     requires { ⌜ cell + 2 * (components .count - 1) ≤ length (now cells) ⌝ }
-    ensures { λ r. ⌜ ((undefined k : ℕ) (text : List ℕ) (c : Content) → fineIf r k ≡ judgePairs undefined text c defined k (componentPairs (drop 1 (componentsOf components))) (drop cell (now (cells .entry)))) ⌝ }
+    ensures { λ r. ⌜ ((undefined k : ℕ) (text : List ℕ) (c : Content) →
+        fineIf r k ≡ judgePairs undefined text c defined k (componentPairs (drop 1 (componentsOf components)))
+        (drop cell (now (cells .entry)))) ⌝ }
 {
     let items = components.items;
     let second = judge_component(defined, items[1], cells[cell], cells[cell + 1]);
@@ -212,7 +228,9 @@ fn judge_further(components: Components, defined: bool, cells: &[i64], cell: usi
 fn judge_coordinate(optional: bool, components: Components, cells: &[i64], cell: usize) -> bool
     requires { ⌜ (2 ≤ components .count) × (components .count ≤ 3) × (length (components .items) ≡ 3) ⌝ }
     requires { ⌜ cell + 2 * components .count ≤ length (now cells) ⌝ }
-    ensures { λ r. ⌜ ((undefined k : ℕ) (text : List ℕ) (c : Content) → fineIf r k ≡ judgePairs undefined text c true k (pairsOfType optional (Coordinate (componentsOf components))) (drop cell (now (cells .entry)))) ⌝ }
+    ensures { λ r. ⌜ ((undefined k : ℕ) (text : List ℕ) (c : Content) →
+        fineIf r k ≡ judgePairs undefined text c true k (pairsOfType optional (Coordinate (componentsOf components)))
+        (drop cell (now (cells .entry)))) ⌝ }
 {
     let items = components.items;
     let first = judge_first(optional, items[0], cells[cell], cells[cell + 1]);
@@ -232,7 +250,9 @@ fn judge_drawn(
 ) -> Fine
     requires { ⌜ (2 ≤ components .count) × (components .count ≤ 3) × (length (components .items) ≡ 3) ⌝ }
     requires { ⌜ 4 * k ≤ length (now points) ⌝ }
-    ensures { λ r. ⌜ ((marks rows : List ℕ) (cells : List ℤ) → fineOf r ≡ fineIf (judgeLine (contentFrom marks rows cells (now (points .entry))) k forms (componentsOf components) a b) (k + (natAbs a - 1))) ⌝ }
+    ensures { λ r. ⌜ ((marks rows : List ℕ) (cells : List ℤ) →
+        let t = contentFrom marks rows cells (now (points .entry)) in
+        fineOf r ≡ fineIf (judgeLine t k forms (componentsOf components) a b) (k + (natAbs a - 1))) ⌝ }
 {
     if cells::is_below(a, 2) {
         return Fine::No;
@@ -252,9 +272,12 @@ fn judge_drawn(
 
 // The pair of a line attribute.
 fn judge_line(attribute: Attribute, points: &[i64], k: usize, a: i64, b: i64) -> Fine
-    requires { ⌜ (2 ≤ attribute .components .count) × (attribute .components .count ≤ 3) × (length (attribute .components .items) ≡ 3) ⌝ }
+    requires { ⌜ (2 ≤ attribute .components .count) × (attribute .components .count ≤ 3)
+        × (length (attribute .components .items) ≡ 3) ⌝ }
     requires { ⌜ 4 * k ≤ length (now points) ⌝ }
-    ensures { λ r. ⌜ ((undefined : ℕ) (text marks rows : List ℕ) (cells : List ℤ) → fineOf r ≡ judgePair undefined text (contentFrom marks rows cells (now (points .entry))) true k (OfLine (attribute .optional) (attribute .number) (componentsOf (attribute .components))) a b) ⌝ }
+    ensures { λ r. ⌜ ((undefined : ℕ) (text marks rows : List ℕ) (cells : List ℤ) →
+        fineOf r ≡ judgePair undefined text (contentFrom marks rows cells (now (points .entry))) true k
+        (OfLine (attribute .optional) (attribute .number) (componentsOf (attribute .components))) a b) ⌝ }
 {
     let components = attribute.components;
     if cells::is_number(a, 0) {
@@ -278,7 +301,9 @@ fn judge_attribute(
     requires { ⌜ Counted attribute ⌝ }
     requires { ⌜ cell + 2 * length (pairsOfType (attribute .optional) (typeOf attribute)) ≤ length (now cells) ⌝ }
     requires { ⌜ 4 * k ≤ length (now points) ⌝ }
-    ensures { λ r. ⌜ ((marks : List ℕ) → fineOf r ≡ judgePairs undefined (now (text .entry)) (contentFrom marks (now (rows .entry)) (now (cells .entry)) (now (points .entry))) true k (pairsOfType (attribute .optional) (typeOf attribute)) (drop cell (now (cells .entry)))) ⌝ }
+    ensures { λ r. ⌜ ((marks : List ℕ) → fineOf r ≡ judgePairs undefined (now (text .entry))
+        (contentFrom marks (now (rows .entry)) (now (cells .entry)) (now (points .entry))) true k
+        (pairsOfType (attribute .optional) (typeOf attribute)) (drop cell (now (cells .entry)))) ⌝ }
 {
     let kind = attribute.kind;
     let components = attribute.components;
@@ -303,21 +328,8 @@ fn judge_attribute(
     }
 }
 
-// The cells of an attribute's pairs.
-fn count_cells(attribute: Attribute) -> usize
-    requires { ⌜ Counted attribute ⌝ }
-    ensures { λ r. ⌜ r ≡ 2 * length (pairsOfType (attribute .optional) (typeOf attribute)) ⌝ }
-{
-    let kind = attribute.kind;
-    match kind {
-        2 => 4,
-        3 => 6,
-        _ => 2,
-    }
-}
-
 // The pairs of a row from a cell on, behind so many points; its table's attribute records begin at the byte `first`.
-pub fn judge_pairs(
+pub(crate) fn judge_pairs(
     model: &[u8],
     first: usize,
     text: &[u8],
@@ -331,13 +343,15 @@ pub fn judge_pairs(
     requires { ⌜ AttributesHere (modelAt (now model)) (now model) first ⌝ }
     requires { ⌜ cell + 2 * length (pairsAt (now model) first) ≤ length (now cells) ⌝ }
     requires { ⌜ 4 * k ≤ length (now points) ⌝ }
-    ensures judged { λ r. ⌜ ((marks : List ℕ) → fineOf r ≡ judgePairs undefined (now (text .entry)) (contentFrom marks (now (rows .entry)) (now (cells .entry)) (now (points .entry))) true k (pairsAt (now (model .entry)) first) (drop cell (now (cells .entry)))) ⌝ }
+    ensures judged { λ r. ⌜ ((marks : List ℕ) → fineOf r ≡ judgePairs undefined (now (text .entry))
+        (contentFrom marks (now (rows .entry)) (now (cells .entry)) (now (points .entry))) true k
+        (pairsAt (now (model .entry)) first) (drop cell (now (cells .entry)))) ⌝ }
     ensures within { λ r. ⌜ ((n : ℕ) → r ≡ Fine.At n → 4 * n ≤ length (now (points .entry))) ⌝ }
 {
     let mut at = first;
     let mut here = cell;
     let mut before = k;
-    while model_records::kind_at(model, at) == 5 {
+    while model_records::kind_at(model, at) == ATTRIBUTE {
         let attribute = model_records::attribute_at(model, at);
         match judge_attribute(
             attribute,
@@ -356,7 +370,8 @@ pub fn judge_pairs(
                 return Fine::No;
             }
         }
-        here += count_cells(attribute);
+        let counts = counts::count_of(attribute.kind);
+        here += 2 * counts.pairs;
         at = model_records::next_at(model, at);
     }
     Fine::At(before)

@@ -19,7 +19,7 @@ use read_state::LineState;
 use read_state::Move;
 
 // A point is fine, with the line state behind it; or it is not.
-pub enum Passed {
+pub(crate) enum Passed {
     To(LineState),
     No,
 }
@@ -80,7 +80,8 @@ fn pass_point(
     height: i64,
 ) -> Passed
     requires { ⌜ (2 ≤ components .count) × (components .count ≤ 3) × (length (components .items) ≡ 3) ⌝ }
-    ensures { λ r. ⌜ ((next : meaning.LineState → Bool) → passedThen r next ≡ pointThen forms (componentsOf components) (lineStateOf state) kind east north height next) ⌝ }
+    ensures { λ r. ⌜ ((next : meaning.LineState → Bool) → passedThen r next ≡
+        pointThen forms (componentsOf components) (lineStateOf state) kind east north height next) ⌝ }
 {
     let code = code_of(kind);
     if state.forbids(code, forms) {
@@ -107,7 +108,9 @@ fn judge_point(
 ) -> Passed
     requires { ⌜ (2 ≤ components .count) × (components .count ≤ 3) × (length (components .items) ≡ 3) ⌝ }
     requires { ⌜ at + 4 ≤ length (now points) ⌝ }
-    ensures { λ r. ⌜ ((next : meaning.LineState → Bool) → passedThen r next ≡ pointThen forms (componentsOf components) (lineStateOf state) (getD (now (points .entry)) at (pos 0)) (getD (now (points .entry)) (at + 1) (pos 0)) (getD (now (points .entry)) (at + 2) (pos 0)) (getD (now (points .entry)) (at + 3) (pos 0)) next) ⌝ }
+    ensures { λ r. ⌜ ((next : meaning.LineState → Bool) → let p = now (points .entry) in
+        passedThen r next ≡ pointThen forms (componentsOf components) (lineStateOf state)
+        (getD p at (pos 0)) (getD p (at + 1) (pos 0)) (getD p (at + 2) (pos 0)) (getD p (at + 3) (pos 0)) next) ⌝ }
 {
     pass_point(
         forms,
@@ -121,7 +124,7 @@ fn judge_point(
 }
 
 // "STPT, then one or more of LIPT or ARCP LIPT, then ELIN": so many points that end a line.
-pub fn judge_points(forms: usize, components: Components, points: &[i64], n: usize) -> bool
+pub(crate) fn judge_points(forms: usize, components: Components, points: &[i64], n: usize) -> bool
     requires { ⌜ (2 ≤ components .count) × (components .count ≤ 3) × (length (components .items) ≡ 3) ⌝ }
     requires { ⌜ 4 * n ≤ length (now points) ⌝ }
     ensures { λ r. ⌜ r ≡ judgePoints forms (componentsOf components) unstarted n (now (points .entry)) ⌝ }

@@ -10,26 +10,28 @@ ghost use lib.ListN.{length, getD, take, replicate};
 ghost use Rattle.meaning.specs.Bytes.{choose};
 ghost use Rattle.meaning.specs.Reading.{objectsOf, isUsed};
 ghost use Rattle.meaning.specs.Judge.{rowEnd, judgeRow, judgeRows};
-ghost use Rattle.model_records.specs.Records.{modelAt, pairsAt};
+ghost use Rattle.model_records.specs.Records.{modelAt};
 ghost use Rattle.table_index.specs.Objects.{identificationOf, Row};
 ghost use Rattle.table_index.specs.Holds.{Known};
-ghost use Rattle.model_records.specs.Counts.{pairCount};
+ghost use Rattle.write_judge.specs.Marks.{Judging};
 ghost use Rattle.write_judge.specs.Meant.{contentFrom};
-ghost use Rattle.model_records.specs.Standing.{AttributesHere};
-ghost use Rattle.write_judge.specs.Rows.{Judging, AtRow, tableTests, nameTests, rowsFrom, Turned};
+ghost use Rattle.write_judge.specs.Rows.{AtRow, tableTests, nameTests, rowsFrom, Turned};
 use crate::cells;
 use crate::pairs;
 use crate::pairs::Fine;
+use model_records::counts;
+use model_records::places;
+use model_records::places::Shape;
 
 // Where the next row has to start, the count of points before it, and the least table that it may be of.
-pub struct Place {
+pub(crate) struct Place {
     pub least: usize,
     pub at: usize,
     pub points: usize,
 }
 
 // A row is fine, and the next one has its place; or it is not fine.
-pub enum Judged {
+pub(crate) enum Judged {
     On(Place),
     No,
 }
@@ -43,50 +45,44 @@ fn is_below_at(cells: &[i64], cell: usize, n: usize) -> bool
 }
 
 // The row's table: no earlier than the one before, and delivered.
-fn judge_table(
-    cells: &[i64],
-    at: usize,
-    least: usize,
-    topics: usize,
-    tables: usize,
-    marks: &[u8],
-) -> bool
+fn judge_table(shape: Shape, marks: &[u8], cells: &[i64], at: usize, least: usize) -> bool
     requires { ⌜ at < length (now cells) ⌝ }
-    requires { ⌜ topics + tables ≤ length (now marks) ⌝ }
-    ensures { λ r. ⌜ r ≡ tableTests (now (marks .entry)) (now (cells .entry)) topics tables least at ⌝ }
+    requires { ⌜ shape .topics + shape .tables ≤ length (now marks) ⌝ }
+    ensures { λ r. ⌜ r ≡ tableTests shape (now (marks .entry)) (now (cells .entry)) least at ⌝ }
 {
     if is_below_at(cells, at, least) {
         return false;
     }
-    if !is_below_at(cells, at, tables) {
+    if !is_below_at(cells, at, shape.tables) {
         return false;
     }
-    marks[topics + table::cells::size_at(cells, at)] != 0
+    marks[shape.topics + table::cells::size_at(cells, at)] != 0
 }
 
 // The cell behind the row, where it is of a table that may come here and lies within the cells; else 0.
 fn end_of_row(
     model: &[u8],
     places: &[usize],
-    topics: usize,
-    tables: usize,
+    shape: Shape,
     marks: &[u8],
     cells: &[i64],
     at: usize,
     least: usize,
 ) -> usize
-    requires { ⌜ Judging (modelAt (now model)) (now model) topics tables (now places) (now marks) ⌝ }
+    requires { ⌜ Judging (now model) shape (now places) (now marks) ⌝ }
     requires { ⌜ at ≤ length (now cells) ⌝ }
-    ensures { λ r. ⌜ r ≡ choose (tableTests (now (marks .entry)) (now (cells .entry)) topics tables least at && leb (rowEnd (modelAt (now (model .entry))) (now (cells .entry)) at) (length (now (cells .entry)))) (rowEnd (modelAt (now (model .entry))) (now (cells .entry)) at) 0 ⌝ }
+    ensures { λ r. ⌜ (let end = rowEnd (modelAt (now (model .entry))) (now (cells .entry)) at in
+        r ≡ choose (tableTests shape (now (marks .entry)) (now (cells .entry)) least at
+        && leb end (length (now (cells .entry)))) end 0) ⌝ }
 {
     if cells.len() - at < 3 {
         return 0;
     }
-    if !judge_table(cells, at, least, topics, tables, marks) {
+    if !judge_table(shape, marks, cells, at, least) {
         return 0;
     }
     let table = table::cells::size_at(cells, at);
-    let pairs = model_records::counts::count_pairs(model, places[table]);
+    let pairs = counts::count_pairs(model, places::attributes_at(model, places, shape, table));
     if (cells.len() - at - 3) / 2 < pairs {
         return 0;
     }
@@ -116,8 +112,11 @@ fn add_name(
 ) -> bool
     requires { ⌜ Known seed (now text) (now rows) (now cells) (now index) object ⌝ }
     requires { ⌜ (object < length (now rows)) × Row (now text) (now cells) (getD (now rows) object 0) ⌝ }
-    ensures unused { λ r. ⌜ r ≡ not (isUsed (identificationOf (now (text .entry)) (now (rows .entry)) (now (cells .entry)) object) (objectsOf (now (text .entry)) (now (cells .entry)) (take object (now (rows .entry))))) ⌝ }
-    ensures known { λ r. ⌜ (r ≡ true → Known seed (now (text .entry)) (now (rows .entry)) (now (cells .entry)) (now (index .exit)) (object + 1)) ⌝ }
+    ensures unused { λ r. ⌜ r ≡ not (isUsed
+        (identificationOf (now (text .entry)) (now (rows .entry)) (now (cells .entry)) object)
+        (objectsOf (now (text .entry)) (now (cells .entry)) (take object (now (rows .entry))))) ⌝ }
+    ensures known { λ r. ⌜ (r ≡ true →
+        Known seed (now (text .entry)) (now (rows .entry)) (now (cells .entry)) (now (index .exit)) (object + 1)) ⌝ }
 {
     let row = rows[object] as usize;
     let start = table::cells::size_at(cells, row + 1);
@@ -140,35 +139,36 @@ fn add_name(
     true
 }
 
-// The cell behind the row of this object, where the row is fine up to its pairs; else 0. A fine row goes into the index.
+// The cell behind the row of this object, where it is fine up to its pairs; else 0. A fine row goes into the index.
 fn judge_row(
     model: &[u8],
-    text: &[u8],
-    undefined: u8,
     places: &[usize],
-    topics: usize,
-    tables: usize,
+    shape: Shape,
+    text: &[u8],
     marks: &[u8],
     rows: &[u64],
     cells: &[i64],
     index: &mut [u64],
     seed: u64,
     object: usize,
-    at: usize,
-    least: usize,
+    place: Place,
 ) -> usize
-    requires { ⌜ Judging (modelAt (now model)) (now model) topics tables (now places) (now marks) ⌝ }
-    requires { ⌜ undefined ≡ modelAt (now model) .undefined ⌝ }
+    requires { ⌜ Judging (now model) shape (now places) (now marks) ⌝ }
     requires { ⌜ Known seed (now text) (now rows) (now cells) (now index) object ⌝ }
-    requires { ⌜ (object < length (now rows)) × (getD (now rows) object 0 ≡ at) × (at ≤ length (now cells)) ⌝ }
-    ensures end { λ r. ⌜ r ≡ choose (judgeRow (modelAt (now (model .entry))) (now (text .entry)) (contentFrom (now (marks .entry)) [] (now (cells .entry)) []) least at (take object (now (rows .entry)))) (rowEnd (modelAt (now (model .entry))) (now (cells .entry)) at) 0 ⌝ }
-    ensures known { λ r. ⌜ (0 < r → Known seed (now (text .entry)) (now (rows .entry)) (now (cells .entry)) (now (index .exit)) (object + 1)) ⌝ }
+    requires { ⌜ (object < length (now rows)) × (getD (now rows) object 0 ≡ place .at)
+        × (place .at ≤ length (now cells)) ⌝ }
+    ensures end { λ r. ⌜ (let m = modelAt (now (model .entry)) in
+        r ≡ choose (judgeRow m (now (text .entry)) (contentFrom (now (marks .entry)) [] (now (cells .entry)) [])
+        (place .least) (place .at) (take object (now (rows .entry)))) (rowEnd m (now (cells .entry)) (place .at)) 0) ⌝ }
+    ensures known { λ r. ⌜ (0 < r →
+        Known seed (now (text .entry)) (now (rows .entry)) (now (cells .entry)) (now (index .exit)) (object + 1)) ⌝ }
 {
-    let end = end_of_row(model, places, topics, tables, marks, cells, at, least);
+    let at = place.at;
+    let end = end_of_row(model, places, shape, marks, cells, at, place.least);
     if end == 0 {
         return 0;
     }
-    if !judge_name(text, undefined, cells, at) {
+    if !judge_name(text, shape.undefined, cells, at) {
         return 0;
     }
     if !add_name(text, rows, cells, index, seed, object) {
@@ -180,11 +180,9 @@ fn judge_row(
 // The row of this object and its pairs.
 fn judge_object(
     model: &[u8],
-    text: &[u8],
-    undefined: u8,
     places: &[usize],
-    topics: usize,
-    tables: usize,
+    shape: Shape,
+    text: &[u8],
     marks: &[u8],
     rows: &[u64],
     cells: &[i64],
@@ -194,11 +192,14 @@ fn judge_object(
     object: usize,
     place: Place,
 ) -> Judged
-    requires { ⌜ Judging (modelAt (now model)) (now model) topics tables (now places) (now marks) ⌝ }
-    requires { ⌜ undefined ≡ modelAt (now model) .undefined ⌝ }
+    requires { ⌜ Judging (now model) shape (now places) (now marks) ⌝ }
     requires { ⌜ object < length (now rows) ⌝ }
     requires { ⌜ AtRow seed (now text) (now rows) (now cells) (now points) (now index) object place ⌝ }
-    ensures { λ r. ⌜ Turned (rowsFrom (modelAt (now (model .entry))) (now (text .entry)) (now (marks .entry)) (now (rows .entry)) (now (cells .entry)) (now (points .entry)) object place) (rowsFrom (modelAt (now (model .entry))) (now (text .entry)) (now (marks .entry)) (now (rows .entry)) (now (cells .entry)) (now (points .entry)) (object + 1)) (AtRow seed (now (text .entry)) (now (rows .entry)) (now (cells .entry)) (now (points .entry)) (now (index .exit)) (object + 1)) r ⌝ }
+    ensures { λ r. ⌜ (let from = rowsFrom (modelAt (now (model .entry))) (now (text .entry)) (now (marks .entry))
+        (now (rows .entry)) (now (cells .entry)) (now (points .entry)) in
+        Turned (from object place) (from (object + 1))
+        (AtRow seed (now (text .entry)) (now (rows .entry)) (now (cells .entry)) (now (points .entry))
+        (now (index .exit)) (object + 1)) r) ⌝ }
 {
     let at = place.at;
     if rows[object] as usize != at {
@@ -206,19 +207,16 @@ fn judge_object(
     }
     let end = judge_row(
         model,
-        text,
-        undefined,
         places,
-        topics,
-        tables,
+        shape,
+        text,
         marks,
         rows,
         cells,
         index,
         seed,
         object,
-        at,
-        place.least,
+        place,
     );
     if end == 0 {
         return Judged::No;
@@ -226,9 +224,9 @@ fn judge_object(
     let table = table::cells::size_at(cells, at);
     match pairs::judge_pairs(
         model,
-        places[table],
+        places::attributes_at(model, places, shape, table),
         text,
-        undefined,
+        shape.undefined,
         rows,
         cells,
         points,
@@ -245,13 +243,11 @@ fn judge_object(
 }
 
 // All rows, over buffers that are exactly what is used of them, and an index of no object.
-pub fn judge_rows(
+pub(crate) fn judge_rows(
     model: &[u8],
-    text: &[u8],
-    undefined: u8,
     places: &[usize],
-    topics: usize,
-    tables: usize,
+    shape: Shape,
+    text: &[u8],
     marks: &[u8],
     rows: &[u64],
     cells: &[i64],
@@ -259,10 +255,11 @@ pub fn judge_rows(
     index: &mut [u64],
     seed: u64,
 ) -> bool
-    requires { ⌜ Judging (modelAt (now model)) (now model) topics tables (now places) (now marks) ⌝ }
-    requires { ⌜ undefined ≡ modelAt (now model) .undefined ⌝ }
+    requires { ⌜ Judging (now model) shape (now places) (now marks) ⌝ }
     requires { ⌜ now index ≡ replicate (length (now index)) 0 ⌝ }
-    ensures { λ r. ⌜ r ≡ judgeRows (modelAt (now (model .entry))) (now (text .entry)) (contentFrom (now (marks .entry)) (now (rows .entry)) (now (cells .entry)) (now (points .entry))) 0 0 0 [] (now (rows .entry)) ⌝ }
+    ensures { λ r. ⌜ r ≡ judgeRows (modelAt (now (model .entry))) (now (text .entry))
+        (contentFrom (now (marks .entry)) (now (rows .entry)) (now (cells .entry)) (now (points .entry)))
+        0 0 0 [] (now (rows .entry)) ⌝ }
 {
     let mut place = Place {
         least: 0,
@@ -273,11 +270,9 @@ pub fn judge_rows(
     while object < rows.len() {
         let judged = judge_object(
             model,
-            text,
-            undefined,
             places,
-            topics,
-            tables,
+            shape,
+            text,
             marks,
             rows,
             cells,

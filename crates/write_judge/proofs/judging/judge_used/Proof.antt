@@ -1,4 +1,4 @@
--- `write_judge::judge_used` meets its contract. Assumes nothing.
+-- `write_judge::judging::judge_used` meets its contract. Assumes nothing.
 use mathlib.Core.Path.{refl, sym, _∙_}
 use lib.ListN.{length}
 use borrow.Author.Tests.{not-true, not-false}
@@ -13,35 +13,39 @@ are-marks-requires : tie.Need-are-marks-requires
 are-marks-requires c κs = search needs
 
 returns : tie.Need-returns
-returns c = let a = c .before .before .before .before .before .before .before .before .args in used-marks (modelAt (a .model .now)) (a .text .now) (contentFrom (a .marks .now) (a .rows .now) (a .cells .now) (a .points .now)) (sym (c .before .are-marks .ensures) ∙ not-true (c .before .are-marks .result) (c .if1 .taken))
+returns c =
+    let a = c .before .before .before .before .before .before .before .before .args in
+    let t = contentFrom (a .marks .now) (a .rows .now) (a .cells .now) (a .points .now) in
+    used-marks (modelAt (a .model .now)) (a .text .now) t (sym (c .before .are-marks .ensures) ∙ not-true (c .before .are-marks .result) (c .if1 .taken))
 
 judge-tables-requires : tie.Need-judge-tables-requires
-judge-tables-requires c κs = let p = c .before .before .before .before .before .before .before .before .pre in (p .1 .0, p .1 .1 .marksFor)
+judge-tables-requires c κs = c .before .before .before .before .before .before .before .before .pre
 
 returns-2 : tie.Need-returns-2
-returns-2 c = let a = c .before .before .before .before .before .before .before .before .before .before .args in
-    used-tables (modelAt (a .model .now)) (a .text .now) (contentFrom (a .marks .now) (a .rows .now) (a .cells .now) (a .points .now)) (a .topics) (c .before .before .before .before .before .before .before .before .before .before .pre .1 .1 .marksFor .topics-are)
+returns-2 c =
+    let a = c .before .before .before .before .before .before .before .before .before .before .args in
+    let t = contentFrom (a .marks .now) (a .rows .now) (a .cells .now) (a .points .now) in
+    used-tables (modelAt (a .model .now)) (a .text .now) t
     (sym (c .before .before .before .are-marks .ensures) ∙ not-false (c .before .before .before .are-marks .result) (c .before .before .if1 .left))
-    (sym (c .before .judge-tables .ensures (contentFrom (a .marks .now) (a .rows .now) (a .cells .now) (a .points .now)) refl) ∙ not-true (c .before .judge-tables .result) (c .if2 .taken))
+    (sym (c .before .judge-tables .ensures t refl) ∙ not-true (c .before .judge-tables .result) (c .if2 .taken))
 
 clear-requires : tie.Need-clear-requires
 clear-requires c κs = search needs
 
-undefined-of-requires : tie.Need-undefined-of-requires
-undefined-of-requires c κs = search needs
-
 judge-rows-requires : tie.Need-judge-rows-requires
-judge-rows-requires c κs = (c .before .before .before .before .before .before .before .before .before .before .before .before .before .before .before .before .pre .1 .1, (c .before .undefined-of .ensures, cleared _ (length (c .before .before .before .before .before .before .before .before .before .before .before .before .before .before .before .before .args .index .now)) (c .before .before .before .before .clear .ensures)))
+judge-rows-requires c κs = (c .before .before .before .before .before .before .before .before .before .before .before .before .before .before .before .pre, cleared _ (length (c .before .before .before .before .before .before .before .before .before .before .before .before .before .before .before .args .index .now)) (c .before .before .before .clear .ensures))
 
 same-length : tie.Need-same-length
 same-length c = search needs
 
 returns-3 : tie.Need-returns-3
-returns-3 c = let a = c .before .before .before .before .before .before .before .before .before .before .before .before .before .before .before .before .before .before .before .args in
+returns-3 c =
+    let a = c .before .before .before .before .before .before .before .before .before .before .before .before .before .before .before .before .before .before .args in
+    let t = contentFrom (a .marks .now) (a .rows .now) (a .cells .now) (a .points .now) in
     c .before .before .judge-rows .ensures
-    ∙ used-rows (modelAt (a .model .now)) (a .text .now) (contentFrom (a .marks .now) (a .rows .now) (a .cells .now) (a .points .now)) (a .topics) (c .before .before .before .before .before .before .before .before .before .before .before .before .before .before .before .before .before .before .before .pre .1 .1 .marksFor .topics-are)
-    (sym (c .before .before .before .before .before .before .before .before .before .before .before .before .are-marks .ensures) ∙ not-false (c .before .before .before .before .before .before .before .before .before .before .before .before .are-marks .result) (c .before .before .before .before .before .before .before .before .before .before .before .if1 .left))
-    (sym (c .before .before .before .before .before .before .before .before .before .before .judge-tables .ensures (contentFrom (a .marks .now) (a .rows .now) (a .cells .now) (a .points .now)) refl) ∙ not-false (c .before .before .before .before .before .before .before .before .before .before .judge-tables .result) (c .before .before .before .before .before .before .before .before .before .if2 .left))
+    ∙ used-rows (modelAt (a .model .now)) (a .text .now) t
+    (sym (c .before .before .before .before .before .before .before .before .before .before .before .are-marks .ensures) ∙ not-false (c .before .before .before .before .before .before .before .before .before .before .before .are-marks .result) (c .before .before .before .before .before .before .before .before .before .before .if1 .left))
+    (sym (c .before .before .before .before .before .before .before .before .before .judge-tables .ensures t refl) ∙ not-false (c .before .before .before .before .before .before .before .before .before .judge-tables .result) (c .before .before .before .before .before .before .before .before .if2 .left))
 
 pub judge-used-spec : {M : Type 1} → statement M
 judge-used-spec =
@@ -52,7 +56,6 @@ judge-used-spec =
     judge-tables-requires
     returns-2
     clear-requires
-    undefined-of-requires
     judge-rows-requires
     same-length
     returns-3)

@@ -1,57 +1,43 @@
--- `write_judge::judge_tables` meets its contract. Assumes nothing.
-use Prim.Native.Nat.{_-_}
+-- `write_judge::marks::judge_tables` meets its contract: the tables from here on mean what all mean. Assumes nothing.
+use Prim.Native.Nat.{_-_, _≤_}
 use native.Mathlib.Omega.{arith}
-use mathlib.Core.Path.{_≡_, refl, sym, _∙_}
-use lib.ListN.{length}
+use mathlib.Core.Path.{_≡_, refl, _∙_}
 use Rattle.model_records.specs.Records.{modelAt}
-use Rattle.model_records.specs.Standing.{Standing}
-use Rattle.model_records.proofs.Standing.{here, end-here}
 use Rattle.write_judge.specs.Marks.{tablesFrom}
-use Rattle.write_judge.proofs.Marking.{walk-next, tables-end, all-tables, told-no, told-yes}
+use Rattle.write_judge.proofs.Marking.{tables-end, all-tables, told-no, told-yes}
 use Rattle.write_judge.proofs.marks.judge_tables.Statement.{statement}
 use Rattle.write_judge.proofs.marks.judge_tables.Tie as tie
 
 abbrev Inv-loop : tie.InvT-loop
-Inv-loop model first topics marks at₀ topic₀ table₀ at topic table = Standing (modelAt model) model at topic table × (tablesFrom topics marks (modelAt model .tables) table ≡ tablesFrom topics marks (modelAt model .tables) 0)
+Inv-loop model places shape marks t₀ t =
+    (t ≤ shape .tables) × (tablesFrom (shape .topics) marks (modelAt model .tables) t ≡ tablesFrom (shape .topics) marks (modelAt model .tables) 0)
 
 abbrev μ-loop : tie.MeasureT-loop
-μ-loop model first topics marks at₀ topic₀ table₀ at topic table = length model - at
+μ-loop model places shape marks t₀ t = shape .tables - t
 
 loop-holds : tie.Need-loop-holds Inv-loop μ-loop
-loop-holds c = (c .before .before .pre .0, refl)
+loop-holds c = (omega arith, refl)
 
-kind-at-requires : tie.Need-kind-at-requires Inv-loop μ-loop
-kind-at-requires c κs = here _ _ _ _ _ (c .loop .inv .0) .room
+judge-delivery-requires : tie.Need-judge-delivery-requires Inv-loop μ-loop
+judge-delivery-requires c κs = (c .before .before .before .before .before .before .pre, c .if1 .taken)
 
 returns : tie.Need-returns Inv-loop μ-loop
-returns c = let i = c .before .before .loop .inv in
-    λ d e. tables-end _ _ _ _ (end-here _ _ _ _ _ (i .0) (sym (c .before .kind-at .ensures) ∙ c .if1 .taken) .tables) ∙ i .1 ∙ all-tables _ _ d _ e
+returns c = λ d e. told-no _ _ _ (c .before .judge-delivery .ensures) (c .if2 .taken) ∙ c .before .before .before .before .loop .inv .1 ∙ all-tables _ _ _ _ (c .before .before .before .before .before .before .before .before .pre) d e
 
-judge-record-requires : tie.Need-judge-record-requires Inv-loop μ-loop
-judge-record-requires c κs = (c .before .before .loop .inv .0, (c .before .kind-at .ensures, c .before .before .before .before .before .pre .1))
-
-returns-2 : tie.Need-returns-2 Inv-loop μ-loop
-returns-2 c = let i = c .before .before .before .before .loop .inv in
-    λ d e. told-no _ _ _ (c .before .judge-record .ensures) (c .if2 .taken) ∙ i .1 ∙ all-tables _ _ d _ e
-
-count-kind-requires : tie.Need-count-kind-requires Inv-loop μ-loop
-count-kind-requires c κs = let s = c .before .before .before .before .loop .inv .0 in omega (arith, s .counted, here _ _ _ _ _ s .room)
-
-count-kind-requires-2 : tie.Need-count-kind-requires-2 Inv-loop μ-loop
-count-kind-requires-2 c κs = let s = c .before .before .before .before .before .loop .inv .0 in omega (arith, s .counted, here _ _ _ _ _ s .room)
-
-next-at-requires : tie.Need-next-at-requires Inv-loop μ-loop
-next-at-requires c κs = here _ _ _ _ _ (c .before .before .before .before .before .before .loop .inv .0) .room
+add-t : tie.Need-add-t Inv-loop μ-loop
+add-t c = omega (arith, c .before .before .if1 .taken, c .before .before .before .before .before .before .before .before .pre .placed .tableLimit)
 
 loop-less : tie.Need-loop-less Inv-loop μ-loop
-loop-less c = omega (arith, here _ _ _ _ _ (c .before .before .before .before .before .before .before .loop .inv .0) .fits, c .next-at .ensures)
+loop-less c = omega (arith, c .before .before .if1 .taken)
 
 loop-again : tie.Need-loop-again Inv-loop μ-loop
-loop-again c = let i = c .before .before .before .before .before .before .before .loop .inv in
-    let k = c .before .before .before .before .before .before .kind-at .ensures in (
-      rw (c .next-at .ensures, c .before .before .count-kind .ensures, c .before .count-kind2 .ensures, k) (walk-next _ _ _ _ _ (i .0) (λ e. c .before .before .before .before .before .if1 .left (k ∙ e))),
-      rw (c .before .count-kind2 .ensures) (told-yes _ _ _ (c .before .before .before .before .judge-record .ensures) (c .before .before .before .if2 .left) ∙ i .1),
-    )
+loop-again c = (omega (arith, c .before .before .if1 .taken), told-yes _ _ _ (c .before .judge-delivery .ensures) (c .if2 .left) ∙ c .before .before .before .before .loop .inv .1)
+
+returns-2 : tie.Need-returns-2 Inv-loop μ-loop
+returns-2 c =
+    let p = c .before .before .before .before .before .before .pre in
+    let i = c .before .before .loop .inv in
+    λ d e. tables-end _ _ _ _ (omega (arith, i .0, c .if1 .left, p .placed .tables)) ∙ i .1 ∙ all-tables _ _ _ _ p d e
 
 pub judge-tables-spec : {M : Type 1} → statement M
 judge-tables-spec =
@@ -60,12 +46,9 @@ judge-tables-spec =
     Inv-loop
     μ-loop
     loop-holds
-    kind-at-requires
+    judge-delivery-requires
     returns
-    judge-record-requires
-    returns-2
-    count-kind-requires
-    count-kind-requires-2
-    next-at-requires
+    add-t
     loop-less
-    loop-again)
+    loop-again
+    returns-2)

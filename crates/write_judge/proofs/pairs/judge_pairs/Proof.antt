@@ -5,7 +5,7 @@ use native.Mathlib.Omega.{arith}
 use mathlib.Core.Path.{_≡_, sym, _∙_}
 use lib.ListN.{length}
 use Rattle.model_records.proofs.Standing.{here}
-use Rattle.write_judge.proofs.Walk.{PairsLeft, pairs-start, pairs-end, good-here, counted, own-inside, pairs-stop, pairs-on}
+use Rattle.write_judge.proofs.Walk.{PairsLeft, pairs-start, pairs-end, good-here, counted, own-inside, count-inside, pairs-stop, pairs-on}
 use Rattle.write_judge.proofs.pairs.judge_pairs.Statement.{statement}
 use Rattle.write_judge.proofs.pairs.judge_pairs.Tie as tie
 
@@ -26,7 +26,10 @@ attribute-at-requires : tie.Need-attribute-at-requires Inv-loop μ-loop
 attribute-at-requires c κs = good-here _ _ _ _ _ _ _ _ _ _ _ _ (c .before .before .loop .inv) (sym (c .before .kind-at .ensures) ∙ c .if1 .taken)
 
 judge-attribute-requires : tie.Need-judge-attribute-requires Inv-loop μ-loop
-judge-attribute-requires c κs = let i = c .before .before .before .loop .inv in let d = c .attribute-at .ensures in (counted _ _ _ d, (omega (arith, own-inside _ _ _ _ _ _ _ _ _ _ _ _ i (sym (c .before .before .kind-at .ensures) ∙ c .before .if1 .taken) _ d), i .drawn))
+judge-attribute-requires c κs =
+    let i = c .before .before .before .loop .inv in
+    let d = c .attribute-at .ensures in
+    (counted _ _ _ d, (omega (arith, own-inside _ _ _ _ _ _ _ _ _ _ _ _ i (sym (c .before .before .kind-at .ensures) ∙ c .before .if1 .taken) _ d), i .drawn))
 
 enum-known-n : tie.Need-enum-known-n Inv-loop μ-loop
 enum-known-n c = search needs
@@ -35,26 +38,33 @@ enum-told : tie.Need-enum-told Inv-loop μ-loop
 enum-told c = search needs
 
 returns : tie.Need-returns Inv-loop μ-loop
-returns c = let h = pairs-stop _ _ _ _ _ _ _ _ _ _ _ _ (c .before .before .before .before .before .before .loop .inv) (sym (c .before .before .before .before .before .kind-at .ensures) ∙ c .before .before .before .before .if1 .taken) _ (c .before .before .before .attribute-at .ensures) (rw (c .enum-told .given .1) at (c .before .before .judge-attribute .ensures)) in
+returns c =
+    let h = pairs-stop _ _ _ _ _ _ _ _ _ _ _ _ (c .before .before .before .before .before .before .loop .inv) (sym (c .before .before .before .before .before .kind-at .ensures) ∙ c .before .before .before .before .if1 .taken) _ (c .before .before .before .attribute-at .ensures) (rw (c .enum-told .given .1) at (c .before .before .judge-attribute .ensures)) in
     (h, λ n e. let z : _≡_ {A = ℕ} 0 1 = cc in absurd (omega arith))
 
-count-cells-requires : tie.Need-count-cells-requires Inv-loop μ-loop
-count-cells-requires c κs = counted _ _ _ (c .before .before .before .before .attribute-at .ensures)
+count-of-requires : tie.Need-count-of-requires Inv-loop μ-loop
+count-of-requires c κs = search needs
+
+mul-here : tie.Need-mul-here Inv-loop μ-loop
+mul-here c = omega (arith, count-inside _ _ _ _ _ _ _ _ _ _ _ _ (c .before .before .before .before .before .before .before .before .before .loop .inv) (sym (c .before .before .before .before .before .before .before .before .kind-at .ensures) ∙ c .before .before .before .before .before .before .before .if1 .taken) _ (c .before .before .before .before .before .before .attribute-at .ensures) _ (c .before .count-of .ensures .pairs), c .before .before .before .before .before .before .before .before .before .before .before .before .before .good .1 .1 .1 .1 .1 .0)
 
 add-here : tie.Need-add-here Inv-loop μ-loop
-add-here c = omega (arith, c .count-cells .ensures, own-inside _ _ _ _ _ _ _ _ _ _ _ _ (c .before .before .before .before .before .before .before .before .loop .inv) (sym (c .before .before .before .before .before .before .before .kind-at .ensures) ∙ c .before .before .before .before .before .before .if1 .taken) _ (c .before .before .before .before .before .attribute-at .ensures))
+add-here c = omega (arith, count-inside _ _ _ _ _ _ _ _ _ _ _ _ (c .before .before .before .before .before .before .before .before .before .loop .inv) (sym (c .before .before .before .before .before .before .before .before .kind-at .ensures) ∙ c .before .before .before .before .before .before .before .if1 .taken) _ (c .before .before .before .before .before .before .attribute-at .ensures) _ (c .before .count-of .ensures .pairs), c .before .before .before .before .before .before .before .before .before .before .before .before .before .good .1 .1 .1 .1 .1 .0)
 
 next-at-requires : tie.Need-next-at-requires Inv-loop μ-loop
-next-at-requires c κs = here _ _ _ _ _ (c .before .before .before .before .before .before .before .before .loop .inv .standing) .room
+next-at-requires c κs = here _ _ _ _ _ (c .before .before .before .before .before .before .before .before .before .loop .inv .standing) .room
 
 loop-less : tie.Need-loop-less Inv-loop μ-loop
-loop-less c = omega (arith, here _ _ _ _ _ (c .before .before .before .before .before .before .before .before .before .loop .inv .standing) .fits, c .next-at .ensures)
+loop-less c = omega (arith, here _ _ _ _ _ (c .before .before .before .before .before .before .before .before .before .before .loop .inv .standing) .fits, c .next-at .ensures)
 
 loop-again : tie.Need-loop-again Inv-loop μ-loop
-loop-again c = pairs-on _ _ _ _ _ _ _ _ _ _ _ _ (c .before .before .before .before .before .before .before .before .before .loop .inv) (sym (c .before .before .before .before .before .before .before .before .kind-at .ensures) ∙ c .before .before .before .before .before .before .before .if1 .taken) _ (c .before .before .before .before .before .before .attribute-at .ensures) _ (rw (c .before .before .before .n .given .1) at (c .before .before .before .before .before .judge-attribute .ensures)) _ _ (c .before .count-cells .ensures) (c .next-at .ensures)
+loop-again c =
+    pairs-on _ _ _ _ _ _ _ _ _ _ _ _ (c .before .before .before .before .before .before .before .before .before .before .loop .inv) (sym (c .before .before .before .before .before .before .before .before .before .kind-at .ensures) ∙ c .before .before .before .before .before .before .before .before .if1 .taken) _ (c .before .before .before .before .before .before .before .attribute-at .ensures) _ (rw (c .before .before .before .before .n .given .1) at (c .before .before .before .before .before .before .judge-attribute .ensures)) _ _ (c .before .before .count-of .ensures .pairs) (c .next-at .ensures)
 
 returns-2 : tie.Need-returns-2 Inv-loop μ-loop
-returns-2 c = let i = c .before .before .loop .inv in (pairs-end _ _ _ _ _ _ _ _ _ _ _ _ i (λ e. c .if1 .left (c .before .kind-at .ensures ∙ e)), λ n e. let q : c .before .before .loop .before ≡ n = cc e in omega (arith, i .drawn, q))
+returns-2 c =
+    let i = c .before .before .loop .inv in
+    (pairs-end _ _ _ _ _ _ _ _ _ _ _ _ i (λ e. c .if1 .left (c .before .kind-at .ensures ∙ e)), λ n e. let q : c .before .before .loop .before ≡ n = cc e in omega (arith, i .drawn, q))
 
 pub judge-pairs-spec : {M : Type 1} → statement M
 judge-pairs-spec =
@@ -69,7 +79,8 @@ judge-pairs-spec =
     enum-known-n
     enum-told
     returns
-    count-cells-requires
+    count-of-requires
+    mul-here
     add-here
     next-at-requires
     loop-less

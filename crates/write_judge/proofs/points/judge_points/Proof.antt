@@ -3,7 +3,6 @@ use borrow.Author.Needs.{needs}
 use Prim.Native.Nat.{_-_}
 use native.Mathlib.Omega.{arith}
 use mathlib.Core.Path.{_∙_}
-use Rattle.meaning.specs.Reading as meaning
 use Rattle.model_records.specs.Components.{componentsOf}
 use Rattle.read_state.specs.Meaning.{lineStateOf}
 use Rattle.write_judge.proofs.Drawn.{PointsLeft, points-start, points-end, points-stop, points-on}

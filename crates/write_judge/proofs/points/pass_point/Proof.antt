@@ -4,7 +4,6 @@ use borrow.Author.Needs.{needs}
 use mathlib.Core.Path.{sym, _∙_}
 use mir.Syntax.{w64}
 use mir.ValLaws.{toZ-ofZ}
-use Rattle.meaning.specs.Reading as meaning
 use Rattle.write_judge.proofs.Drawn.{point-forbidden, point-outside, point-unexpected, point-undefined, point-ended, point-fine}
 use Rattle.write_judge.proofs.points.pass_point.Statement.{statement}
 use Rattle.write_judge.proofs.points.pass_point.Tie as tie

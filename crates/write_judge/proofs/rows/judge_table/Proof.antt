@@ -1,4 +1,4 @@
--- `write_judge::judge_table` meets its contract. Assumes nothing.
+-- `write_judge::rows::judge_table` meets its contract. Assumes nothing.
 use native.Mathlib.Omega.{arith}
 use mathlib.Core.Path.{sym, _∙_}
 use borrow.Author.Tests.{not-true, not-false}
@@ -11,29 +11,42 @@ is-below-at-requires : tie.Need-is-below-at-requires
 is-below-at-requires c κs = search needs
 
 returns : tie.Need-returns
-returns c = let a = c .before .before .before .args in table-early (a .marks .now) (a .cells .now) (a .topics) (a .tables) (a .least) (a .at) (sym (c .before .is-below-at .ensures) ∙ c .if1 .taken)
+returns c =
+    let a = c .before .before .before .args in
+    table-early (a .shape) (a .marks .now) (a .cells .now) (a .least) (a .at) (sym (c .before .is-below-at .ensures) ∙ c .if1 .taken)
 
 is-below-at-requires-2 : tie.Need-is-below-at-requires-2
 is-below-at-requires-2 c κs = search needs
 
 returns-2 : tie.Need-returns-2
-returns-2 c = let a = c .before .before .before .before .before .args in table-none (a .marks .now) (a .cells .now) (a .topics) (a .tables) (a .least) (a .at) (sym (c .before .is-below-at2 .ensures) ∙ not-true (c .before .is-below-at2 .result) (c .if2 .taken))
+returns-2 c =
+    let a = c .before .before .before .before .before .args in
+    table-none (a .shape) (a .marks .now) (a .cells .now) (a .least) (a .at)
+    (sym (c .before .is-below-at2 .ensures) ∙ not-true (c .before .is-below-at2 .result) (c .if2 .taken))
 
 size-at-requires : tie.Need-size-at-requires
 size-at-requires c κs = search needs
 
 add-result : tie.Need-add-result
-add-result c = let a = c .before .before .before .before .before .before .args in
-    omega (arith, c .size-at .ensures, c .before .before .before .before .before .before .pre .1, table-lt (a .marks .now) (a .cells .now) (a .topics) (a .tables) (a .least) (a .at) (sym (c .before .before .before .before .is-below-at .ensures) ∙ c .before .before .before .if1 .left) (sym (c .before .before .is-below-at2 .ensures) ∙ not-false (c .before .before .is-below-at2 .result) (c .before .if2 .left)))
+add-result c =
+    let a = c .before .before .before .before .before .before .before .args in
+    let q = c .before .before in
+    let l = table-lt (a .shape) (a .marks .now) (a .cells .now) (a .least) (a .at) (sym (q .before .before .before .is-below-at .ensures) ∙ q .before .before .if1 .left) (sym (q .before .is-below-at2 .ensures) ∙ not-false (q .before .is-below-at2 .result) (q .if2 .left)) in
+    omega (arith, c .before .size-at .ensures, c .before .before .before .before .before .before .before .pre .1, l)
 
 shared-slice-read-result : tie.Need-shared-slice-read-result
-shared-slice-read-result c = let a = c .before .before .before .before .before .before .before .args in
-    omega (arith, c .before .size-at .ensures, c .before .before .before .before .before .before .before .pre .1, table-lt (a .marks .now) (a .cells .now) (a .topics) (a .tables) (a .least) (a .at) (sym (c .before .before .before .before .before .is-below-at .ensures) ∙ c .before .before .before .before .if1 .left) (sym (c .before .before .before .is-below-at2 .ensures) ∙ not-false (c .before .before .before .is-below-at2 .result) (c .before .before .if2 .left)))
+shared-slice-read-result c =
+    let a = c .before .before .before .before .before .before .before .before .args in
+    let q = c .before .before .before in
+    let l = table-lt (a .shape) (a .marks .now) (a .cells .now) (a .least) (a .at) (sym (q .before .before .before .is-below-at .ensures) ∙ q .before .before .if1 .left) (sym (q .before .is-below-at2 .ensures) ∙ not-false (q .before .is-below-at2 .result) (q .if2 .left)) in
+    omega (arith, c .before .before .size-at .ensures, c .before .before .before .before .before .before .before .before .pre .1, l)
 
 returns-3 : tie.Need-returns-3
-returns-3 c = let a = c .before .before .before .before .before .before .before .args in
-    rw (c .before .size-at .ensures)
-    (table-marked (a .marks .now) (a .cells .now) (a .topics) (a .tables) (a .least) (a .at) (sym (c .before .before .before .before .before .is-below-at .ensures) ∙ c .before .before .before .before .if1 .left) (sym (c .before .before .before .is-below-at2 .ensures) ∙ not-false (c .before .before .before .is-below-at2 .result) (c .before .before .if2 .left)))
+returns-3 c =
+    let a = c .before .before .before .before .before .before .before .before .args in
+    let q = c .before .before .before in
+    rw (c .before .before .size-at .ensures)
+    (table-marked (a .shape) (a .marks .now) (a .cells .now) (a .least) (a .at) (sym (q .before .before .before .is-below-at .ensures) ∙ q .before .before .if1 .left) (sym (q .before .is-below-at2 .ensures) ∙ not-false (q .before .is-below-at2 .result) (q .if2 .left)))
 
 pub judge-table-spec : {M : Type 1} → statement M
 judge-table-spec =
