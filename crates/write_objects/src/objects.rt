@@ -12,15 +12,14 @@ ghost use Rattle.meaning.specs.Writing.{identificationBytes, pairFields, pointC
 ghost use Rattle.meaning.specs.Width.{cutLine, cutLines};
 ghost use Rattle.model_records.specs.Components.{componentsOf};
 ghost use Rattle.model_records.specs.Records.{modelAt, payloadAt, pairsAt};
-ghost use Rattle.model_records.specs.Standing.{AttributeHere};
+ghost use Rattle.model_records.specs.Standing.{AttributeHere, AttributesHere};
 ghost use Rattle.write_lines.specs.Puts.{Puts};
 ghost use Rattle.write_objects.specs.Given.{lentOf, GoodComponents};
-ghost use Rattle.model_records.specs.Standing.{AttributesHere};
 use crate::fields;
 use base::numbers::least_of;
 use base::numbers::magnitude;
 use model_records::Components;
-use read_references::rows::count_of;
+use model_records::counts::count_of;
 use write_lines::Put;
 use write_lines::cuts::end_line;
 use write_lines::fields::put_bytes;
