@@ -182,5 +182,12 @@ pub line-type : (a : Attribute) → (a .kind ≡ 0) ⊎ (8 ≤ a .kind) → type
 unfolding typeOf choose
 line-type a (inl z) = rw z
 line-type a (inr z) =
-    rw (ne-eqb (a .kind) 1 (λ x. omega arith), ne-eqb (a .kind) 2 (λ x. omega arith), ne-eqb (a .kind) 3 (λ x. omega arith),
-    ne-eqb (a .kind) 4 (λ x. omega arith), ne-eqb (a .kind) 5 (λ x. omega arith), ne-eqb (a .kind) 6 (λ x. omega arith), ne-eqb (a .kind) 7 (λ x. omega arith))
+    rw (
+      ne-eqb (a .kind) 1 (λ x. omega arith),
+      ne-eqb (a .kind) 2 (λ x. omega arith),
+      ne-eqb (a .kind) 3 (λ x. omega arith),
+      ne-eqb (a .kind) 4 (λ x. omega arith),
+      ne-eqb (a .kind) 5 (λ x. omega arith),
+      ne-eqb (a .kind) 6 (λ x. omega arith),
+      ne-eqb (a .kind) 7 (λ x. omega arith),
+    )

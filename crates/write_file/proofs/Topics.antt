@@ -3,7 +3,7 @@ use Prim.Native.Nat.{ℕ, _+_, _-_, _≤_, _<_}
 use native.Mathlib.Omega.{arith}
 use native.Mathlib.Numerals.{add-one}
 use mathlib.Core.Path.{_≡_, refl, sym, ap, _∙_}
-use mathlib.Core.Bool.{Bool, true, false}
+use mathlib.Core.Bool.{true, false}
 use mathlib.Core.List.{List, [], _∷_, _++_, append-assoc}
 use lib.Dec.{eqb}
 use lib.IntN.{ℤ}
@@ -14,7 +14,7 @@ use Rattle.meaning.specs.Bytes.{choose}
 use Rattle.meaning.specs.Model.{Table, Model, noTable, tableAt}
 use Rattle.meaning.specs.Field.{SCNT, slashes, MTID, MODL, TOPI, ETOP, EMOD, ENDE}
 use Rattle.meaning.specs.Reading.{Content, cellAt}
-use Rattle.meaning.specs.Writing.{rowsBehindTopic, isDelivered, tableLines, topicLines, fieldLines, linesBytes, linesOf}
+use Rattle.meaning.specs.Writing.{rowsBehindTopic, tableLines, topicLines, fieldLines, linesBytes, linesOf}
 use Rattle.meaning.specs.Width.{cutLines}
 use Rattle.model_records.specs.declared.places.Shape.{Shape}
 use Rattle.model_records.specs.Records.{nextAt, modelAt}

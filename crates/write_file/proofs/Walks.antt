@@ -11,7 +11,7 @@ use lib.ListN.{length, take, drop, getD, drop-of-length-le}
 use lib.Seq.{drop-cons}
 use borrow.Author.Tests.{ne-eqb, eq-eqb}
 use Rattle.meaning.specs.Bytes.{choose}
-use Rattle.meaning.specs.Model.{Table, Model, noTable, tableAt}
+use Rattle.meaning.specs.Model.{Model, noTable, tableAt}
 use Rattle.meaning.specs.Field.{TABL, ETAB}
 use Rattle.meaning.specs.Row.{Pair, pairsOf}
 use Rattle.meaning.specs.Reading.{Content, cellAt}

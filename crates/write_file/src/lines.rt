@@ -68,7 +68,13 @@ pub(crate) fn then_alone(put: Put, code: &[u8], style: LineStyle, out: &mut [u8]
 }
 
 // A line of a code and a name, behind what was put.
-pub(crate) fn then_named(put: Put, code: &[u8], name: &[u8], style: LineStyle, out: &mut [u8]) -> Put
+pub(crate) fn then_named(
+    put: Put,
+    code: &[u8],
+    name: &[u8],
+    style: LineStyle,
+    out: &mut [u8],
+) -> Put
     requires { ⌜ (16 ≤ style .width) × (style .width ≤ 65535) ⌝ }
     ensures { λ r. ⌜ (let lines = (now (code .entry) ∷ now (name .entry) ∷ []) ∷ [] in
         Follows (cutOf style lines) put (now (out .entry)) (now (out .exit)) r) ⌝ }

@@ -4,12 +4,12 @@ use native.Mathlib.Omega.{arith}
 use mathlib.Core.Path.{_≡_, refl, sym, ap, _∙_}
 use mathlib.Core.Bool.{Bool, true, false}
 use mathlib.Core.List.{List, [], _∷_, _++_}
-use lib.Dec.{eqb, leb}
+use lib.Dec.{leb}
 use lib.IntN.{ℤ, pos, natAbs}
 use lib.ListN.{length, drop, length-append, drop-of-length-le, List·getD-eq-default}
 use lib.Seq.{drop-drop}
 use borrow.Author.Tests.{leb-true, leb-false}
-use Rattle.meaning.specs.Bytes.{choose, byteAt}
+use Rattle.meaning.specs.Bytes.{byteAt}
 use Rattle.meaning.specs.Model.{Model, Attribute, attributeOf}
 use Rattle.meaning.specs.Row.{Pair, OfAttribute, OfComponent, OfLine, pairsOfType, pairsOf}
 use Rattle.meaning.specs.Reading.{Content, cellAt, lineAttributes}

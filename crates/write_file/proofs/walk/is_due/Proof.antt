@@ -1,6 +1,5 @@
 -- `write_file::is_due` meets its contract. Assumes nothing.
 use borrow.Author.Needs.{needs}
-use native.Mathlib.Omega.{arith}
 use Rattle.write_file.proofs.walk.is_due.Statement.{statement}
 use Rattle.write_file.proofs.walk.is_due.Tie as tie
 

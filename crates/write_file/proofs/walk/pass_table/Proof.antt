@@ -4,7 +4,6 @@ use denote.Ref.{now}
 use Rattle.write_file.specs.Walks.{contentIn}
 use Rattle.write_file.proofs.Walks.{table-over, table-due}
 use borrow.Author.Needs.{needs}
-use native.Mathlib.Omega.{arith}
 use Rattle.write_file.proofs.walk.pass_table.Statement.{statement}
 use Rattle.write_file.proofs.walk.pass_table.Tie as tie
 
