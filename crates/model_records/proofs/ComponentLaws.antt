@@ -1,5 +1,6 @@
--- The components that a loop reads into a small array are those of the payload. Assumes nothing.
-use Prim.Native.Nat.{ℕ, zero, suc, _*_, _≤_}
+-- The components that a loop reads into a small array are those of the payload, and the list of them. Assumes nothing.
+use Prim.Native.Nat.{ℕ, zero, suc, _+_, _*_, _≤_, _<_}
+use native.Mathlib.Nat.{suc-add}
 use native.Mathlib.Omega.{arith}
 use mathlib.Core.Path.{_≡_, refl, _∙_}
 use mathlib.Core.List.{List, [], _∷_}
@@ -41,3 +42,21 @@ pub component-read : (p : List ℕ) (least greatest : ℤ) → SFits w64 least �
     → _≡_ {A = Component} (record { decimals = getD p 0 0; least = toZ w64 (ofZ w64 least); greatest = toZ w64 (ofZ w64 greatest) }) (declaredOf (meaning.componentOf p))
 unfolding meaning.componentOf
 component-read p least greatest f g a b = rw (toZ-ofZ w64 least f, toZ-ofZ w64 greatest g, a, b)
+
+-- ## The list of components, from component i on
+
+pub listed-next : (l : List Component) (i n : ℕ) (d : Component) → i < n → n ≤ length l
+    → drop i (listOf (take n l)) ≡ componentOf (getD l i d) ∷ drop (i + 1) (listOf (take n l))
+unfolding listOf
+listed-next l i zero d h g = absurd (omega arith)
+listed-next [] i (suc n) d h g = absurd (omega arith)
+listed-next (c ∷ l) zero (suc n) d h g = refl
+listed-next (c ∷ l) (suc i) (suc n) d h g = listed-next l i n d (omega arith) (omega arith) ∙ rw (suc-add i 1)
+
+pub listed-end : (l : List Component) (i n : ℕ) → n ≤ i → drop i (listOf (take n l)) ≡ []
+unfolding listOf
+listed-end l zero zero h = refl
+listed-end l (suc i) zero h = refl
+listed-end l zero (suc n) h = absurd (omega arith)
+listed-end [] (suc i) (suc n) h = refl
+listed-end (c ∷ l) (suc i) (suc n) h = listed-end l i n (omega arith)

@@ -4,16 +4,16 @@ use native.Mathlib.Omega.{arith}
 use mathlib.Core.Path.{_≡_, refl, sym, ap, _∙_}
 use mathlib.Core.Bool.{Bool, true, false, false≢true}
 use mathlib.Core.List.{List, [], _∷_}
-use mathlib.Core.Logic.{_⊎_, ⊎-elim}
+use mathlib.Core.Logic.{_⊎_, inl, inr, ⊎-elim}
 use lib.Dec.{eqb}
 use lib.ListN.{length, take, drop, getD, length-take, length-drop}
 use lib.Seq.{take-nil, getD-take, getD-drop, drop-drop}
-use borrow.Author.Tests.{leb-true}
+use borrow.Author.Tests.{leb-true, eq-eqb, ne-eqb, eqb-false}
 use Rattle.meaning.specs.Bytes.{choose, letter, byteAt, u16At}
 use Rattle.meaning.specs.Model as meaning
 use Rattle.meaning.specs.Check.{isName, isType, isDimension}
 use Rattle.model_records.specs.declared.Component.{Component}
-use Rattle.model_records.specs.Components.{componentOf, listOf}
+use Rattle.model_records.specs.Components.{componentOf, componentsOf, listOf}
 use Rattle.model_records.specs.declared.Attribute.{Attribute}
 use Rattle.model_records.specs.ComponentsAre.{Held}
 use Rattle.model_records.specs.Records.{payloadAt, nextAt}
@@ -165,3 +165,29 @@ decoded b at a h o k n c =
       line = λ f. rw (rw (sym k ∙ f) at (c .count)) (dimension-is (eqb (byteAt q 1) 3));
       count = omega (arith, c .count, components-fit q t s .1);
     }
+
+-- ## A type by its number
+
+pub coordinate-type : (a : Attribute) → 2 ≤ a .kind → a .kind ≤ 3 → typeOf a ≡ meaning.Coordinate (componentsOf (a .components))
+unfolding typeOf choose
+coordinate-type a h g = go (eqb (a .kind) 2) refl
+  where
+    go : (two : Bool) → eqb (a .kind) 2 ≡ two → typeOf a ≡ meaning.Coordinate (componentsOf (a .components))
+    go true e = rw (ne-eqb (a .kind) 1 (λ x. omega arith), e)
+    go false e =
+        let n : a .kind ≡ 2 → ⊥ = eqb-false (a .kind) 2 e in
+        rw (ne-eqb (a .kind) 1 (λ x. omega arith), e, eq-eqb (a .kind) 3 (omega arith))
+
+pub line-type : (a : Attribute) → (a .kind ≡ 0) ⊎ (8 ≤ a .kind) → typeOf a ≡ meaning.Line (a .number) (componentsOf (a .components))
+unfolding typeOf choose
+line-type a (inl z) = rw z
+line-type a (inr z) =
+    rw (
+      ne-eqb (a .kind) 1 (λ x. omega arith),
+      ne-eqb (a .kind) 2 (λ x. omega arith),
+      ne-eqb (a .kind) 3 (λ x. omega arith),
+      ne-eqb (a .kind) 4 (λ x. omega arith),
+      ne-eqb (a .kind) 5 (λ x. omega arith),
+      ne-eqb (a .kind) 6 (λ x. omega arith),
+      ne-eqb (a .kind) 7 (λ x. omega arith),
+    )

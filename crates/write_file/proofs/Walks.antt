@@ -1,4 +1,4 @@
--- Walks over the rows of a table and over the records of its model. Assumes nothing.
+-- Walks over the rows of a table, and over the tables of its model. Assumes nothing.
 use Prim.Native.Nat.{ℕ, suc, _+_, _-_, _≤_, _<_}
 use native.Mathlib.Omega.{arith}
 use native.Mathlib.Numerals.{add-one}
@@ -9,24 +9,24 @@ use lib.Dec.{eqb}
 use lib.IntN.{ℤ}
 use lib.ListN.{length, take, drop, getD, drop-of-length-le}
 use lib.Seq.{drop-cons}
-use borrow.Author.Tests.{eqb-true, eqb-false, ne-eqb, eq-eqb}
+use borrow.Author.Tests.{ne-eqb, eq-eqb}
 use Rattle.meaning.specs.Bytes.{choose}
-use Rattle.meaning.specs.Model.{Table, Model, noTable, flagOf}
+use Rattle.meaning.specs.Model.{Model, noTable, tableAt}
 use Rattle.meaning.specs.Field.{TABL, ETAB}
-use Rattle.meaning.specs.Row.{Pair}
+use Rattle.meaning.specs.Row.{Pair, pairsOf}
 use Rattle.meaning.specs.Reading.{Content, cellAt}
 use Rattle.meaning.specs.Writing.{objectLines, rowLines, rowsOfTable, rowsBehindTable, isDelivered, tableLines, linesBytes}
 use Rattle.meaning.specs.Width.{cutLines}
-use Rattle.model_records.specs.Records.{kindAt, payloadAt, nextAt, attributesAt, pairsAt}
-use Rattle.model_records.specs.Standing.{Standing}
-use Rattle.model_records.proofs.Standing.{here, table-here, end-here}
-use Rattle.read_state.specs.declared.Stand.{Stand}
-use Rattle.read_frame.specs.Walks.{Passed}
+use Rattle.model_records.specs.declared.places.Shape.{Shape}
+use Rattle.model_records.specs.Records.{nextAt, modelAt, pairsAt}
+use Rattle.model_records.specs.Standing.{AttributesHere}
+use Rattle.model_records.specs.Places.{tablePlace, topicOf, TableRecord, Placed}
+use Rattle.model_records.proofs.Types.{payload-part}
 use Rattle.write_lines.specs.declared.Put.{Put}
-use Rattle.write_file.specs.declared.lines.Manner.{Manner}
+use Rattle.write_file.specs.declared.lines.LineStyle.{LineStyle}
 use Rattle.write_file.specs.declared.walk.Walked.{Walked}
-use Rattle.write_file.specs.Follows.{Follows}
-use Rattle.write_file.specs.Walks.{Counted, TableEnd, TableRecord, countBehind, TableTurn}
+use Rattle.write_file.specs.Follows.{Follows, cutOf}
+use Rattle.write_file.specs.Walks.{linesOfTable, TableEnd, TableTurn}
 use Rattle.write_objects.proofs.Joined.{cut-lines-append}
 use Rattle.write_file.proofs.Follows.{follows-as, follows-nothing, no-lines}
 
@@ -105,102 +105,71 @@ module _ (mark width : ℕ) (m : Model) (text : List ℕ) (c : Content) (ps : Li
 
 -- ## Tables
 
-module _ (m : Model) (b : List ℕ) (at k t : ℕ) (s : Standing m b at k t) where
-  table-next : kindAt b at ≡ 4 → drop t (m .tables) ≡ record { topic = k - 1; optional = flagOf (payloadAt b at); name = drop 1 (payloadAt b at); attributes = attributesAt b (nextAt b at) } ∷ drop (t + 1) (m .tables)
-  table-next e =
-      let h = table-here m b at k t s e in
-      drop-cons (m .tables) t noTable (h .inside) ∙ ap₂ (λ (x : Table) (n : ℕ). x ∷ drop n (m .tables)) (h .table) (sym (add-one t))
+-- the record of table t is at this byte, the next record at that one
+module _ (b : List ℕ) (shape : Shape) (places : List ℕ) (h : Placed b shape places) (t : ℕ) (l : t < shape .tables) (at : ℕ) (e : at ≡ tablePlace places t) where
+  record-of : TableRecord (modelAt b) b t at
+  record-of = rw e (h .noted .table t l)
 
-  -- behind a topic at least, whether it is topic p
-  same-topic : kindAt b at ≡ 4 → (p : ℕ) → eqb (k - 1) p ≡ eqb k (p + 1)
-  same-topic e p = let l = table-here m b at k t s e .begun in go l (eqb k (p + 1)) refl
-    where
-      go : 1 ≤ k → (x : Bool) → eqb k (p + 1) ≡ x → eqb (k - 1) p ≡ x
-      go l true q = let w = eqb-true k (p + 1) q in eq-eqb (k - 1) p (omega arith)
-      go l false q = let w = eqb-false k (p + 1) q in ne-eqb (k - 1) p (λ z. w (omega arith))
+  pub table-room : at + 4 ≤ length b
+  table-room = omega (arith, record-of .fits)
 
-  pub table-record : kindAt b at ≡ 4 → TableRecord m b at
-  table-record e =
-      let h = table-here m b at k t s e in
-      record { fits = here m b at k t s .fits; flag = h .flag; attributes = record { topics = k; tables = t + 1; standing = h .next } }
+  module _ (next : ℕ) (n : next ≡ nextAt b at) where
+    pub table-part : (at + 5 ≤ next) × (next ≤ length b)
+    table-part = (omega (arith, n, record-of .flag), omega (arith, n, record-of .fits))
 
-  module _ (text : List ℕ) (c : Content) (p : ℕ) (rs : List ℕ) where
-    -- the record is no table of topic p that is delivered
-    pub not-due : (eqb (kindAt b at) 4 && (eqb k (p + 1) && isDelivered c (length (m .topics) + t))) ≡ false
-        → tableLines m text c p t (drop t (m .tables)) rs ≡ tableLines m text c p (countBehind 4 b at t) (drop (countBehind 4 b at t) (m .tables)) rs
-    unfolding choose tableLines
-    not-due n = go (eqb (kindAt b at) 4) refl
-      where
-        go : (x : Bool) → eqb (kindAt b at) 4 ≡ x → tableLines m text c p t (drop t (m .tables)) rs ≡ tableLines m text c p (countBehind 4 b at t) (drop (countBehind 4 b at t) (m .tables)) rs
-        go false q = rw q refl
-        go true q =
-            let e = eqb-true (kindAt b at) 4 q in
-            let d : (eqb k (p + 1) && isDelivered c (length (m .topics) + t)) ≡ false = rw q at n in
-            rw (q, table-next e, same-topic e p, d) refl
+    pub table-name : take (next - (at + 5)) (drop (at + 5) b) ≡ tableAt (modelAt b .tables) t .name
+    table-name = rw n (payload-part b at 1 (at + 5) (omega arith) ∙ record-of .name)
 
-    -- it is one, whose rows end at row number `to`
-    pub due : (rows : List ℕ) (row to : ℕ) → (eqb (kindAt b at) 4 && (eqb k (p + 1) && isDelivered c (length (m .topics) + t))) ≡ true → kindAt b at ≡ 4
-        → TableEnd t (c .cells) rows row to → rs ≡ drop row rows
-        → tableLines m text c p t (drop t (m .tables)) rs
-        ≡ ((TABL ∷ drop 1 (payloadAt b at) ∷ []) ∷ (rowLines m text c (pairsAt b (nextAt b at)) (take (to - row) (drop row rows)) ++ ((ETAB ∷ []) ∷ [])))
-        ++ tableLines m text c p (countBehind 4 b at t) (drop (countBehind 4 b at t) (m .tables)) (drop to rows)
-    unfolding choose tableLines
-    due rows row to y e end f =
-        let q : eqb (kindAt b at) 4 ≡ true = eq-eqb _ _ e in
-        let d : (eqb k (p + 1) && isDelivered c (length (m .topics) + t)) ≡ true = rw q at y in
-        rw (q, table-next e, same-topic e p, d, f, end .first, end .rest)
-        (ap (λ (ls : List (List (List ℕ))). (TABL ∷ drop 1 (payloadAt b at) ∷ []) ∷ ls) (sym (append-assoc (rowLines m text c (pairsAt b (nextAt b at)) (rowsOfTable t (c .cells) (drop row rows))) ((ETAB ∷ []) ∷ []) _)))
+    pub table-attributes : AttributesHere (modelAt b) b next
+    table-attributes = record { topics = tableAt (modelAt b .tables) t .topic + 1; tables = t + 1; standing = rw n (record-of .standing) }
 
-    -- behind the last table
-    pub no-table : kindAt b at ≡ 6 → tableLines m text c p t (drop t (m .tables)) rs ≡ []
-    unfolding tableLines
-    no-table e =
-        let h = end-here m b at k t s e in
-        let none : drop t (m .tables) ≡ [] = drop-of-length-le (m .tables) {i = t} (omega (arith, h .tables)) in
-        rw none refl
+    pub table-pairs : pairsAt b next ≡ pairsOf (tableAt (modelAt b .tables) t .attributes)
+    table-pairs = rw n (ap pairsOf (record-of .attributes))
 
--- ## A record passed
+-- table t is passed: the test is whether it is one of topic p that is delivered
+module _ (b : List ℕ) (shape : Shape) (places text : List ℕ) (c : Content) (s : LineStyle) (p t row : ℕ) (put : Put) (e : List ℕ)
+    (h : Placed b shape places) (l : t < shape .tables) (r : Bool)
+    (test : r ≡ (eqb (topicOf places t) p && not (eqb (getD (c .marks) (shape .topics + t) 0) 0))) where
+  tested : (eqb (tableAt (modelAt b .tables) t .topic) p && isDelivered c (length (modelAt b .topics) + t)) ≡ r
+  tested = rw (← h .noted .owner t l, ← h .topics) (sym test)
 
-pub first-true : (x y : Bool) → (x && y) ≡ true → x ≡ true
-first-true true y e = refl
-first-true false y e = e
+  table-next : drop t (modelAt b .tables) ≡ tableAt (modelAt b .tables) t ∷ drop (t + 1) (modelAt b .tables)
+  table-next =
+      drop-cons (modelAt b .tables) t noTable (omega (arith, l, h .tables))
+      ∙ ap (λ (n : ℕ). tableAt (modelAt b .tables) t ∷ drop n (modelAt b .tables)) (sym (add-one t))
 
-module _ (m : Model) (b text : List ℕ) (c : Content) (s : Manner) (p : ℕ) (here : Stand) (row : ℕ) (put : Put) (e : List ℕ)
-    (st : Standing m b (here .at) (here .topics) (here .tables)) (topics : ℕ) (n : Counted m topics) (r : Bool)
-    (test : r ≡ (eqb (kindAt b (here .at)) 4 && (eqb (here .topics) (p + 1) && not (eqb (getD (c .marks) (topics + here .tables) 0) 0)))) where
-  tested : (eqb (kindAt b (here .at)) 4 && (eqb (here .topics) (p + 1) && isDelivered c (length (m .topics) + here .tables))) ≡ r
-  tested = rw (← n .count) (sym test)
-
-  pub turn-over : r ≡ false → row ≤ length (c .rows) → TableTurn m b text c s p here row put e e (record { put = put; row = row })
-  turn-over no-turn h = record {
+  pub table-over : r ≡ false → row ≤ length (c .rows) → TableTurn (modelAt b) text c s p t row put e e (record { put = put; row = row })
+  unfolding choose tableLines
+  table-over n w = record {
     lines = [];
-    put = follows-as [] (cutLines (s .mark) (s .width) (linesBytes [])) (sym (no-lines (s .mark) (s .width))) (follows-nothing put e);
-    rest = not-due m b (here .at) (here .topics) (here .tables) st text c p (drop row (c .rows)) (tested ∙ no-turn);
-    within = h;
+    put = follows-as [] (cutOf s []) (sym (no-lines (s .mark) (s .width))) (follows-nothing put e);
+    rest = rw (table-next, tested ∙ n) refl;
+    within = w;
   }
 
-  pub due-record : r ≡ true → kindAt b (here .at) ≡ 4
-  due-record y = eqb-true (kindAt b (here .at)) 4 (first-true _ _ (tested ∙ y))
-
-  pub turn-due : r ≡ true → (to : ℕ) → TableEnd (here .tables) (c .cells) (c .rows) row to → {e′ : List ℕ} {q : Put}
-      → Follows (cutLines (s .mark) (s .width) (linesBytes ((TABL ∷ drop 1 (payloadAt b (here .at)) ∷ []) ∷ (rowLines m text c (pairsAt b (nextAt b (here .at))) (take (to - row) (drop row (c .rows))) ++ ((ETAB ∷ []) ∷ []))))) put e e′ q
-      → TableTurn m b text c s p here row put e e′ (record { put = q; row = to })
-  turn-due y to end f = record {
-    lines = _;
+  pub table-due : r ≡ true → (to : ℕ) → TableEnd t (c .cells) (c .rows) row to → {e′ : List ℕ} {q : Put}
+      → Follows (cutOf s (linesOfTable (modelAt b) text c t (take (to - row) (drop row (c .rows))))) put e e′ q
+      → TableTurn (modelAt b) text c s p t row put e e′ (record { put = q; row = to })
+  unfolding choose tableLines
+  table-due y to end f = record {
+    lines = linesOfTable (modelAt b) text c t (take (to - row) (drop row (c .rows)));
     put = f;
-    rest = due m b (here .at) (here .topics) (here .tables) st text c p (drop row (c .rows)) (c .rows) row to (tested ∙ y) (due-record y) end refl;
+    rest = rw (table-next, tested ∙ y, end .first, end .rest)
+        (ap (λ (ls : List (List (List ℕ))). (TABL ∷ tableAt (modelAt b .tables) t .name ∷ []) ∷ ls)
+        (sym (append-assoc (rowLines (modelAt b) text c (pairsOf (tableAt (modelAt b .tables) t .attributes)) (rowsOfTable t (c .cells) (drop row (c .rows)))) ((ETAB ∷ []) ∷ []) _)));
     within = end .within;
   }
 
--- the lines that are left behind the record
-pub tables-on : (m : Model) (b text : List ℕ) (c : Content) (s : Manner) (p : ℕ) (here : Stand) (row : ℕ) (put : Put) (e e′ : List ℕ) (w : Walked) (next : Stand)
-    → (turn : TableTurn m b text c s p here row put e e′ w) → Passed m b here next
-    → cutLines (s .mark) (s .width) (linesBytes (tableLines m text c p (here .tables) (drop (here .tables) (m .tables)) (drop row (c .rows))))
-    ≡ cutLines (s .mark) (s .width) (linesBytes (turn .lines)) ++ cutLines (s .mark) (s .width) (linesBytes (tableLines m text c p (next .tables) (drop (next .tables) (m .tables)) (drop (w .row) (c .rows))))
-tables-on m b text c s p here row put e e′ w next turn passed =
-    ap (λ (ls : List (List (List ℕ))). cutLines (s .mark) (s .width) (linesBytes ls)) (turn .rest ∙ ap (λ (n : ℕ). turn .lines ++ tableLines m text c p n (drop n (m .tables)) (drop (w .row) (c .rows))) (sym (passed .tables)))
-    ∙ cut-lines-append (s .mark) (s .width) (turn .lines) (tableLines m text c p (next .tables) (drop (next .tables) (m .tables)) (drop (w .row) (c .rows)))
+-- the lines that are left behind the table, and behind the last one
+pub tables-on : (m : Model) (text : List ℕ) (c : Content) (s : LineStyle) (p t row : ℕ) (put : Put) (e e′ : List ℕ) (w : Walked) (turn : TableTurn m text c s p t row put e e′ w)
+    → cutOf s (tableLines m text c p t (drop t (m .tables)) (drop row (c .rows)))
+    ≡ cutOf s (turn .lines) ++ cutOf s (tableLines m text c p (t + 1) (drop (t + 1) (m .tables)) (drop (w .row) (c .rows)))
+tables-on m text c s p t row put e e′ w turn =
+    ap (cutOf s) (turn .rest) ∙ cut-lines-append (s .mark) (s .width) (turn .lines) (tableLines m text c p (t + 1) (drop (t + 1) (m .tables)) (drop (w .row) (c .rows)))
 
-pub tables-end : (mark width : ℕ) (m : Model) (b text : List ℕ) (c : Content) (p at k t : ℕ) (rs : List ℕ) → Standing m b at k t → kindAt b at ≡ 6
-    → cutLines mark width (linesBytes (tableLines m text c p t (drop t (m .tables)) rs)) ≡ []
-tables-end mark width m b text c p at k t rs st e = ap (λ (ls : List (List (List ℕ))). cutLines mark width (linesBytes ls)) (no-table m b at k t st text c p rs e) ∙ no-lines mark width
+pub tables-end : (m : Model) (text : List ℕ) (c : Content) (s : LineStyle) (p t : ℕ) (rs : List ℕ) → length (m .tables) ≤ t
+    → cutOf s (tableLines m text c p t (drop t (m .tables)) rs) ≡ []
+unfolding tableLines
+tables-end m text c s p t rs h =
+    let none : drop t (m .tables) ≡ [] = drop-of-length-le (m .tables) {i = t} h in
+    rw none (no-lines (s .mark) (s .width))

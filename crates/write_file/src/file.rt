@@ -1,77 +1,59 @@
 // The lines of the topics, and of the whole file.
 ghost use mathlib.Core.Path.{_≡_};
-ghost use mathlib.Core.Bool.{not, _&&_};
-ghost use mathlib.Core.List.{[], _∷_, _++_};
-ghost use Prim.Native.Nat.{ℕ, _-_, _≤_, _<_};
-ghost use lib.Dec.{eqb};
-ghost use lib.ListN.{length, drop, getD, set};
-ghost use Rattle.meaning.specs.Bytes.{choose};
-ghost use Rattle.meaning.specs.Field.{SCNT, slashes, MTID, MODL, TOPI, ETOP};
-ghost use Rattle.meaning.specs.Writing.{tableLines, topicLines, linesOf};
+ghost use mathlib.Core.List.{List, [], _∷_};
+ghost use Prim.Native.Nat.{ℕ, _≤_, _<_};
+ghost use lib.ListN.{length, drop};
+ghost use Rattle.meaning.specs.Model.{tableAt};
+ghost use Rattle.meaning.specs.Field.{SCNT, slashes, MTID, MODL};
+ghost use Rattle.meaning.specs.Writing.{topicLines, linesOf};
 ghost use Rattle.meaning.specs.Width.{cutLines};
-ghost use Rattle.model_records.specs.Records.{modelAt, kindAt, payloadAt, nextAt};
-ghost use Rattle.model_records.specs.Standing.{Standing, Here, Beginning};
+ghost use Rattle.model_records.specs.Records.{modelAt};
+ghost use Rattle.model_records.specs.Standing.{Beginning};
+ghost use Rattle.model_records.specs.Places.{Placed};
 ghost use Rattle.write_lines.specs.Puts.{Puts};
 ghost use Rattle.write_file.specs.Follows.{Follows, Fit, cutOf};
-ghost use Rattle.write_file.specs.Walks.{contentIn, Counted, TopicsOf, TopicEnd, TopicTurn};
+ghost use Rattle.write_file.specs.Walks.{contentIn, linesOfTopic, TopicEnd, TopicTurn};
 use crate::lines;
-use crate::lines::Manner;
+use crate::lines::LineStyle;
 use crate::walk;
 use crate::walk::Walked;
-use base::bools;
-use read_frame::topics::pass_record;
-use read_state::Stand;
+use model_records::numbers::byte_at;
+use model_records::places;
+use model_records::places::Shape;
 use table::cells::size_at;
 use write_lines::Put;
 
-// Where the record is a table's: its topic, the last of so many.
-fn note_topic(tables: &mut [usize], kind: usize, t: usize, topics: usize)
-    requires { ⌜ (kind ≡ 4 → (t < length (now tables)) × (1 ≤ topics)) ⌝ }
-    ensures { λ _. ⌜ now (tables .exit) ≡ choose (eqb kind 4) (set (now (tables .entry)) t (topics - 1)) (now (tables .entry)) ⌝ }
+// The topic of a table, 0 where there is no such table.
+fn owner_of(places: &[usize], shape: Shape, t: usize) -> usize
+    requires { ⌜ (length (now places) ≡ 1088) × (shape .tables ≤ 512) ⌝ }
+    ensures { λ r. ⌜ ((b : List ℕ) →
+        Placed b shape (now (places .entry)) → r ≡ tableAt (modelAt b .tables) t .topic) ⌝ }
 {
-    if kind == 4 {
-        tables[t] = topics - 1;
+    if t < shape.tables {
+        places::topic_of(places, t)
+    } else {
+        0
     }
-}
-
-// The topic of each table of the model, whose records begin at the byte `first`.
-fn note_topics(model: &[u8], first: usize, tables: &mut [usize])
-    requires { ⌜ Standing (modelAt (now model)) (now model) first 0 0 ⌝ }
-    requires { ⌜ length (modelAt (now model) .tables) ≤ length (now tables) ⌝ }
-    requires { ⌜ ((t : ℕ) → getD (now tables) t 0 ≡ 0) ⌝ }
-    ensures { λ _. ⌜ TopicsOf (modelAt (now (model .entry)) .tables) (now (tables .exit)) ⌝ }
-{
-    let mut here = Stand {
-        topics: 0,
-        tables: 0,
-        at: first,
-    };
-    loop {
-        let kind = model_records::kind_at(model, here.at);
-        if kind == 6 {
-            return;
-        }
-        note_topic(tables, kind, here.tables, here.topics);
-        here = pass_record(model, here);
-    }
-}
-
-// The topic of a table, 0 where there is none.
-fn topic_of(tables: &[usize], t: usize) -> usize
-    ensures { λ r. ⌜ r ≡ getD (now (tables .entry)) t 0 ⌝ }
-{
-    if t < tables.len() { tables[t] } else { 0 }
 }
 
 // The number of the row behind the first rows whose tables are of topic p.
-fn behind_topic(tables: &[usize], rows: &[u64], cells: &[i64], p: usize, row: usize) -> usize
+fn behind_topic(
+    places: &[usize],
+    shape: Shape,
+    rows: &[u64],
+    cells: &[i64],
+    p: usize,
+    row: usize,
+) -> usize
+    requires { ⌜ (length (now places) ≡ 1088) × (shape .tables ≤ 512) ⌝ }
     requires { ⌜ row ≤ length (now rows) ⌝ }
-    ensures { λ r. ⌜ TopicEnd (now (tables .entry)) p (now (cells .entry)) (now (rows .entry)) row r ⌝ }
+    ensures { λ r. ⌜ ((b : List ℕ) → Placed b shape (now (places .entry)) →
+        TopicEnd (modelAt b .tables) p (now (cells .entry)) (now (rows .entry)) row r) ⌝ }
 {
     let mut i = row;
     while i < rows.len() {
         let table = size_at(cells, rows[i] as usize);
-        if topic_of(tables, table) != p {
+        if owner_of(places, shape, table) != p {
             return i;
         }
         i += 1;
@@ -79,16 +61,15 @@ fn behind_topic(tables: &[usize], rows: &[u64], cells: &[i64], p: usize, row: us
     i
 }
 
-// The lines of topic p, whose record is at a byte.
+// The lines of topic p.
 fn then_topic(
     put: Put,
     model: &[u8],
-    first: usize,
-    topics: usize,
-    at: usize,
+    places: &[usize],
+    shape: Shape,
     p: usize,
     text: &[u8],
-    manner: Manner,
+    style: LineStyle,
     marks: &[u8],
     rows: &[u64],
     cells: &[i64],
@@ -96,23 +77,25 @@ fn then_topic(
     row: usize,
     out: &mut [u8],
 ) -> Put
-    requires { ⌜ Here (now model) at ⌝ }
-    requires { ⌜ Standing (modelAt (now model)) (now model) first 0 0 ⌝ }
-    requires { ⌜ Counted (modelAt (now model)) topics ⌝ }
-    requires { ⌜ Fit (modelAt (now model)) manner ⌝ }
-    requires { ⌜ (p ≤ 64) × (row ≤ length (now rows)) ⌝ }
-    ensures { λ r. ⌜ Follows (cutOf manner ((TOPI ∷ payloadAt (now (model .entry)) at ∷ []) ∷ (tableLines (modelAt (now (model .entry))) (now (text .entry)) (contentIn (now (marks .entry)) (now (rows .entry)) (now (cells .entry)) (now (points .entry))) p 0 (modelAt (now (model .entry)) .tables) (drop row (now (rows .entry))) ++ ((ETOP ∷ []) ∷ [])))) put (now (out .entry)) (now (out .exit)) r ⌝ }
+    requires { ⌜ Placed (now model) shape (now places) ⌝ }
+    requires { ⌜ Fit (modelAt (now model)) style ⌝ }
+    requires { ⌜ (p < shape .topics) × (row ≤ length (now rows)) ⌝ }
+    ensures { λ r. ⌜ (let m = modelAt (now (model .entry)) in
+        let c = contentIn (now (marks .entry)) (now (rows .entry)) (now (cells .entry)) (now (points .entry)) in
+        let lines = linesOfTopic m (now (text .entry)) c p (drop row (now (rows .entry))) in
+        Follows (cutOf style lines) put (now (out .entry)) (now (out .exit)) r) ⌝ }
 {
+    let at = places::topic_at(places, p);
     let next = model_records::next_at(model, at);
-    let head = lines::then_named(put, b"TOPI", &model[at + 4..next], manner, out);
+    let head = lines::then_named(put, b"TOPI", &model[at + 4..next], style, out);
     let body = walk::then_tables(
         head,
         model,
-        first,
-        topics,
+        places,
+        shape,
         p,
         text,
-        manner,
+        style,
         marks,
         rows,
         cells,
@@ -120,29 +103,18 @@ fn then_topic(
         row,
         out,
     );
-    lines::then_alone(body, b"ETOP", manner, out)
+    lines::then_alone(body, b"ETOP", style, out)
 }
 
-// Whether the record that stands here is a topic that is delivered.
-fn is_begun(model: &[u8], here: Stand, marks: &[u8]) -> bool
-    requires { ⌜ Here (now model) (here .at) ⌝ }
-    ensures { λ r. ⌜ r ≡ (eqb (kindAt (now (model .entry)) (here .at)) 3 && not (eqb (getD (now (marks .entry)) (here .topics) 0) 0)) ⌝ }
-{
-    let kind = model_records::kind_at(model, here.at);
-    let mark = model_records::numbers::byte_at(marks, here.topics);
-    bools::both(kind == 3, mark != 0)
-}
-
-// The lines of the topic whose record stands here, where it is delivered; `tables` has the topic of each table.
+// The lines of topic p, where it is delivered.
 fn pass_topic(
     put: Put,
     model: &[u8],
-    first: usize,
-    topics: usize,
-    here: Stand,
-    tables: &[usize],
+    places: &[usize],
+    shape: Shape,
+    p: usize,
     text: &[u8],
-    manner: Manner,
+    style: LineStyle,
     marks: &[u8],
     rows: &[u64],
     cells: &[i64],
@@ -150,28 +122,24 @@ fn pass_topic(
     row: usize,
     out: &mut [u8],
 ) -> Walked
-    requires { ⌜ Standing (modelAt (now model)) (now model) first 0 0 ⌝ }
-    requires { ⌜ Standing (modelAt (now model)) (now model) (here .at) (here .topics) (here .tables) ⌝ }
-    requires { ⌜ Counted (modelAt (now model)) topics ⌝ }
-    requires { ⌜ Fit (modelAt (now model)) manner ⌝ }
-    requires { ⌜ TopicsOf (modelAt (now model) .tables) (now tables) ⌝ }
-    requires { ⌜ row ≤ length (now rows) ⌝ }
-    ensures { λ r. ⌜ TopicTurn (modelAt (now (model .entry))) (now (model .entry)) (now (text .entry)) (contentIn (now (marks .entry)) (now (rows .entry)) (now (cells .entry)) (now (points .entry))) manner here row put (now (out .entry)) (now (out .exit)) r ⌝ }
+    requires { ⌜ Placed (now model) shape (now places) ⌝ }
+    requires { ⌜ Fit (modelAt (now model)) style ⌝ }
+    requires { ⌜ (p < shape .topics) × (row ≤ length (now rows)) ⌝ }
+    ensures { λ r. ⌜ (let m = modelAt (now (model .entry)) in
+        let c = contentIn (now (marks .entry)) (now (rows .entry)) (now (cells .entry)) (now (points .entry)) in
+        TopicTurn m (now (text .entry)) c style p row put (now (out .entry)) (now (out .exit)) r) ⌝ }
 {
-    if !is_begun(model, here, marks) {
+    if byte_at(marks, p) == 0 {
         return Walked { put, row };
     }
-    let at = here.at;
-    let p = here.topics;
     let all = then_topic(
         put,
         model,
-        first,
-        topics,
-        at,
+        places,
+        shape,
         p,
         text,
-        manner,
+        style,
         marks,
         rows,
         cells,
@@ -179,52 +147,43 @@ fn pass_topic(
         row,
         out,
     );
-    let end = behind_topic(tables, rows, cells, p, row);
+    let end = behind_topic(places, shape, rows, cells, p, row);
     Walked { put: all, row: end }
 }
 
-// The lines of the topics; `tables` has the topic of each table.
+// The lines of the topics.
 fn then_topics(
     put: Put,
     model: &[u8],
-    first: usize,
-    topics: usize,
-    tables: &[usize],
+    places: &[usize],
+    shape: Shape,
     text: &[u8],
-    manner: Manner,
+    style: LineStyle,
     marks: &[u8],
     rows: &[u64],
     cells: &[i64],
     points: &[i64],
     out: &mut [u8],
 ) -> Put
-    requires { ⌜ Standing (modelAt (now model)) (now model) first 0 0 ⌝ }
-    requires { ⌜ Counted (modelAt (now model)) topics ⌝ }
-    requires { ⌜ Fit (modelAt (now model)) manner ⌝ }
-    requires { ⌜ TopicsOf (modelAt (now model) .tables) (now tables) ⌝ }
-    ensures { λ r. ⌜ Follows (cutOf manner (topicLines (modelAt (now (model .entry))) (now (text .entry)) (contentIn (now (marks .entry)) (now (rows .entry)) (now (cells .entry)) (now (points .entry))) 0 (modelAt (now (model .entry)) .topics) (now (rows .entry)))) put (now (out .entry)) (now (out .exit)) r ⌝ }
+    requires { ⌜ Placed (now model) shape (now places) ⌝ }
+    requires { ⌜ Fit (modelAt (now model)) style ⌝ }
+    ensures { λ r. ⌜ (let m = modelAt (now (model .entry)) in
+        let c = contentIn (now (marks .entry)) (now (rows .entry)) (now (cells .entry)) (now (points .entry)) in
+        let lines = topicLines m (now (text .entry)) c 0 (m .topics) (now (rows .entry)) in
+        Follows (cutOf style lines) put (now (out .entry)) (now (out .exit)) r) ⌝ }
 {
     let mut all = put;
     let mut row = 0;
-    let mut here = Stand {
-        topics: 0,
-        tables: 0,
-        at: first,
-    };
-    loop {
-        let kind = model_records::kind_at(model, here.at);
-        if kind == 6 {
-            return all;
-        }
+    let mut p = 0;
+    while p < shape.topics {
         let walked = pass_topic(
             all,
             model,
-            first,
-            topics,
-            here,
-            tables,
+            places,
+            shape,
+            p,
             text,
-            manner,
+            style,
             marks,
             rows,
             cells,
@@ -234,94 +193,62 @@ fn then_topics(
         );
         all = walked.put;
         row = walked.row;
-        here = pass_record(model, here);
+        p += 1;
     }
+    all
 }
 
 // SCNT, ////, MTID and the transfer's name, MODL and the model's name.
-fn then_head(put: Put, model: &[u8], manner: Manner, out: &mut [u8]) -> Put
+fn then_head(put: Put, model: &[u8], style: LineStyle, out: &mut [u8]) -> Put
     requires { ⌜ Beginning (modelAt (now model)) (now model) ⌝ }
-    requires { ⌜ Fit (modelAt (now model)) manner ⌝ }
-    ensures { λ r. ⌜ Follows (cutOf manner ((SCNT ∷ []) ∷ (slashes ∷ []) ∷ (MTID ∷ modelAt (now (model .entry)) .transfer ∷ []) ∷ (MODL ∷ modelAt (now (model .entry)) .name ∷ []) ∷ [])) put (now (out .entry)) (now (out .exit)) r ⌝ }
+    requires { ⌜ Fit (modelAt (now model)) style ⌝ }
+    ensures { λ r. ⌜ (let m = modelAt (now (model .entry)) in
+        let names = (MTID ∷ m .transfer ∷ []) ∷ (MODL ∷ m .name ∷ []) ∷ [] in
+        let lines = (SCNT ∷ []) ∷ (slashes ∷ []) ∷ names in
+        Follows (cutOf style lines) put (now (out .entry)) (now (out .exit)) r) ⌝ }
 {
     let second = model_records::next_at(model, 0);
     let first = model_records::next_at(model, second);
-    let begun = lines::then_alone(put, b"SCNT", manner, out);
-    let described = lines::then_alone(begun, b"////", manner, out);
-    let named = lines::then_named(described, b"MTID", &model[7..second], manner, out);
-    lines::then_named(named, b"MODL", &model[second + 4..first], manner, out)
-}
-
-// The topics with the head before them; the model's records begin at the byte `first`.
-fn then_body(
-    put: Put,
-    model: &[u8],
-    first: usize,
-    topics: usize,
-    text: &[u8],
-    manner: Manner,
-    marks: &[u8],
-    rows: &[u64],
-    cells: &[i64],
-    points: &[i64],
-    out: &mut [u8],
-) -> Put
-    requires { ⌜ Standing (modelAt (now model)) (now model) first 0 0 ⌝ }
-    requires { ⌜ Counted (modelAt (now model)) topics ⌝ }
-    requires { ⌜ Fit (modelAt (now model)) manner ⌝ }
-    ensures { λ r. ⌜ Follows (cutOf manner (topicLines (modelAt (now (model .entry))) (now (text .entry)) (contentIn (now (marks .entry)) (now (rows .entry)) (now (cells .entry)) (now (points .entry))) 0 (modelAt (now (model .entry)) .topics) (now (rows .entry)))) put (now (out .entry)) (now (out .exit)) r ⌝ }
-{
-    let mut tables: [usize; 512] = [0; 512];
-    note_topics(model, first, &mut tables);
-    then_topics(
-        put,
-        model,
-        first,
-        topics,
-        &tables,
-        text,
-        manner,
-        marks,
-        rows,
-        cells,
-        points,
-        out,
-    )
+    let begun = lines::then_alone(put, b"SCNT", style, out);
+    let described = lines::then_alone(begun, b"////", style, out);
+    let named = lines::then_named(described, b"MTID", &model[7..second], style, out);
+    lines::then_named(named, b"MODL", &model[second + 4..first], style, out)
 }
 
 // The whole file.
 pub fn put_file(
     model: &[u8],
-    first: usize,
-    topics: usize,
+    places: &[usize],
+    shape: Shape,
     text: &[u8],
-    manner: Manner,
+    style: LineStyle,
     marks: &[u8],
     rows: &[u64],
     cells: &[i64],
     points: &[i64],
     out: &mut [u8],
 ) -> Put
-    requires { ⌜ Beginning (modelAt (now model)) (now model) ⌝ }
-    requires { ⌜ first ≡ nextAt (now model) (nextAt (now model) 0) ⌝ }
-    requires { ⌜ Counted (modelAt (now model)) topics ⌝ }
-    requires { ⌜ Fit (modelAt (now model)) manner ⌝ }
-    ensures { λ r. ⌜ Puts (cutLines (manner .mark) (manner .width) (linesOf (modelAt (now (model .entry))) (now (text .entry)) (contentIn (now (marks .entry)) (now (rows .entry)) (now (cells .entry)) (now (points .entry))))) 0 (now (out .entry)) (now (out .exit)) r ⌝ }
+    requires { ⌜ Placed (now model) shape (now places) ⌝ }
+    requires { ⌜ Fit (modelAt (now model)) style ⌝ }
+    ensures { λ r. ⌜ (let m = modelAt (now (model .entry)) in
+        let c = contentIn (now (marks .entry)) (now (rows .entry)) (now (cells .entry)) (now (points .entry)) in
+        let bytes = cutLines (style .mark) (style .width) (linesOf m (now (text .entry)) c) in
+        Puts bytes 0 (now (out .entry)) (now (out .exit)) r) ⌝ }
 {
-    let head = then_head(Put::At(0), model, manner, out);
-    let body = then_body(
+    let head = then_head(Put::At(0), model, style, out);
+    let body = then_topics(
         head,
         model,
-        first,
-        topics,
+        places,
+        shape,
         text,
-        manner,
+        style,
         marks,
         rows,
         cells,
         points,
         out,
     );
-    let tail = lines::then_alone(body, b"EMOD", manner, out);
-    lines::then_alone(tail, b"ENDE", manner, out)
+    let tail = lines::then_alone(body, b"EMOD", style, out);
+    lines::then_alone(tail, b"ENDE", style, out)
 }

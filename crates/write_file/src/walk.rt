@@ -1,31 +1,30 @@
 // The lines of the tables of a topic, put behind what was put before.
 ghost use mathlib.Core.Path.{_≡_};
 ghost use mathlib.Core.Bool.{not, _&&_};
-ghost use mathlib.Core.List.{List, [], _∷_, _++_};
-ghost use Prim.Native.Nat.{ℕ, _+_, _-_, _≤_};
+ghost use mathlib.Core.List.{List};
+ghost use Prim.Native.Nat.{ℕ, _+_, _-_, _≤_, _<_};
 ghost use lib.Dec.{eqb};
 ghost use lib.ListN.{length, take, drop, getD};
-ghost use Rattle.meaning.specs.Field.{TABL, ETAB};
-ghost use Rattle.meaning.specs.Reading.{cellAt};
 ghost use Rattle.meaning.specs.Writing.{objectLines, rowLines, tableLines};
-ghost use Rattle.model_records.specs.Records.{modelAt, kindAt, payloadAt, nextAt, pairsAt};
-ghost use Rattle.model_records.specs.Standing.{Standing};
+ghost use Rattle.model_records.specs.Records.{modelAt, pairsAt};
 ghost use Rattle.model_records.specs.Standing.{AttributesHere};
+ghost use Rattle.model_records.specs.Places.{topicOf, Placed};
 ghost use Rattle.write_file.specs.Follows.{Follows, Fit, cutOf};
-ghost use Rattle.write_file.specs.Walks.{contentIn, Counted, TableEnd, TableRecord, TableTurn};
+ghost use Rattle.write_file.specs.Walks.{contentIn, linesOfTable, TableEnd, TableTurn};
 use crate::lines;
-use crate::lines::Manner;
+use crate::lines::LineStyle;
 use base::bools;
-use read_frame::topics::pass_record;
-use read_state::Stand;
+use model_records::numbers::byte_at;
+use model_records::places;
+use model_records::places::Shape;
 use table::cells::size_at;
 use write_lines::Put;
 use write_objects::objects;
 
 // What was put, and the number of the row that comes next.
-pub struct Walked {
-    pub put: Put,
-    pub row: usize,
+pub(crate) struct Walked {
+    pub(crate) put: Put,
+    pub(crate) row: usize,
 }
 
 // The number of the row behind the first rows of a table.
@@ -43,13 +42,13 @@ fn behind_table(rows: &[u64], cells: &[i64], t: usize, row: usize) -> usize
     i
 }
 
-// The lines of an object.
+// The lines of an object; the attribute records of its table begin at the byte `first`.
 fn then_object(
     put: Put,
     model: &[u8],
     first: usize,
     text: &[u8],
-    manner: Manner,
+    style: LineStyle,
     rows: &[u64],
     cells: &[i64],
     points: &[i64],
@@ -57,8 +56,12 @@ fn then_object(
     out: &mut [u8],
 ) -> Put
     requires { ⌜ AttributesHere (modelAt (now model)) (now model) first ⌝ }
-    requires { ⌜ Fit (modelAt (now model)) manner ⌝ }
-    ensures { λ r. ⌜ ((marks : List ℕ) → Follows (cutOf manner (objectLines (modelAt (now (model .entry))) (now (text .entry)) (contentIn marks (now (rows .entry)) (now (cells .entry)) (now (points .entry))) (pairsAt (now (model .entry)) first) row)) put (now (out .entry)) (now (out .exit)) r) ⌝ }
+    requires { ⌜ Fit (modelAt (now model)) style ⌝ }
+    ensures { λ r. ⌜ ((marks : List ℕ) →
+        let b = now (model .entry) in
+        let c = contentIn marks (now (rows .entry)) (now (cells .entry)) (now (points .entry)) in
+        let lines = objectLines (modelAt b) (now (text .entry)) c (pairsAt b first) row in
+        Follows (cutOf style lines) put (now (out .entry)) (now (out .exit)) r) ⌝ }
 {
     let Put::At(n) = put else {
         return Put::Full;
@@ -70,9 +73,9 @@ fn then_object(
         model,
         first,
         text,
-        manner.undefined,
-        manner.mark,
-        manner.width,
+        style.undefined,
+        style.mark,
+        style.width,
         rows,
         cells,
         points,
@@ -88,7 +91,7 @@ fn then_rows(
     model: &[u8],
     first: usize,
     text: &[u8],
-    manner: Manner,
+    style: LineStyle,
     rows: &[u64],
     cells: &[i64],
     points: &[i64],
@@ -97,9 +100,14 @@ fn then_rows(
     out: &mut [u8],
 ) -> Put
     requires { ⌜ AttributesHere (modelAt (now model)) (now model) first ⌝ }
-    requires { ⌜ Fit (modelAt (now model)) manner ⌝ }
+    requires { ⌜ Fit (modelAt (now model)) style ⌝ }
     requires { ⌜ (from ≤ to) × (to ≤ length (now rows)) ⌝ }
-    ensures { λ r. ⌜ ((marks : List ℕ) → Follows (cutOf manner (rowLines (modelAt (now (model .entry))) (now (text .entry)) (contentIn marks (now (rows .entry)) (now (cells .entry)) (now (points .entry))) (pairsAt (now (model .entry)) first) (take (to - from) (drop from (now (rows .entry)))))) put (now (out .entry)) (now (out .exit)) r) ⌝ }
+    ensures { λ r. ⌜ ((marks : List ℕ) →
+        let b = now (model .entry) in
+        let c = contentIn marks (now (rows .entry)) (now (cells .entry)) (now (points .entry)) in
+        let rs = take (to - from) (drop from (now (rows .entry))) in
+        let lines = rowLines (modelAt b) (now (text .entry)) c (pairsAt b first) rs in
+        Follows (cutOf style lines) put (now (out .entry)) (now (out .exit)) r) ⌝ }
 {
     let mut all = put;
     let mut i = from;
@@ -110,7 +118,7 @@ fn then_rows(
             model,
             first,
             text,
-            manner,
+            style,
             rows,
             cells,
             points,
@@ -122,13 +130,15 @@ fn then_rows(
     all
 }
 
-// The lines of the table whose record is at a byte, with the objects between two row numbers.
+// The lines of table t, with the objects between two row numbers.
 fn then_table(
     put: Put,
     model: &[u8],
-    at: usize,
+    places: &[usize],
+    shape: Shape,
+    t: usize,
     text: &[u8],
-    manner: Manner,
+    style: LineStyle,
     rows: &[u64],
     cells: &[i64],
     points: &[i64],
@@ -136,19 +146,24 @@ fn then_table(
     to: usize,
     out: &mut [u8],
 ) -> Put
-    requires { ⌜ TableRecord (modelAt (now model)) (now model) at ⌝ }
-    requires { ⌜ Fit (modelAt (now model)) manner ⌝ }
-    requires { ⌜ (from ≤ to) × (to ≤ length (now rows)) ⌝ }
-    ensures { λ r. ⌜ ((marks : List ℕ) → Follows (cutOf manner ((TABL ∷ drop 1 (payloadAt (now (model .entry)) at) ∷ []) ∷ (rowLines (modelAt (now (model .entry))) (now (text .entry)) (contentIn marks (now (rows .entry)) (now (cells .entry)) (now (points .entry))) (pairsAt (now (model .entry)) (nextAt (now (model .entry)) at)) (take (to - from) (drop from (now (rows .entry)))) ++ ((ETAB ∷ []) ∷ [])))) put (now (out .entry)) (now (out .exit)) r) ⌝ }
+    requires { ⌜ Placed (now model) shape (now places) ⌝ }
+    requires { ⌜ Fit (modelAt (now model)) style ⌝ }
+    requires { ⌜ (t < shape .tables) × (from ≤ to) × (to ≤ length (now rows)) ⌝ }
+    ensures { λ r. ⌜ ((marks : List ℕ) →
+        let c = contentIn marks (now (rows .entry)) (now (cells .entry)) (now (points .entry)) in
+        let rs = take (to - from) (drop from (now (rows .entry))) in
+        let lines = linesOfTable (modelAt (now (model .entry))) (now (text .entry)) c t rs in
+        Follows (cutOf style lines) put (now (out .entry)) (now (out .exit)) r) ⌝ }
 {
+    let at = places::table_at(places, t);
     let next = model_records::next_at(model, at);
-    let head = lines::then_named(put, b"TABL", &model[at + 5..next], manner, out);
+    let head = lines::then_named(put, b"TABL", &model[at + 5..next], style, out);
     let body = then_rows(
         head,
         model,
         next,
         text,
-        manner,
+        style,
         rows,
         cells,
         points,
@@ -156,31 +171,29 @@ fn then_table(
         to,
         out,
     );
-    lines::then_alone(body, b"ETAB", manner, out)
+    lines::then_alone(body, b"ETAB", style, out)
 }
 
-// Whether the record that stands here is a table of topic p that is delivered.
-fn is_due(model: &[u8], here: Stand, topics: usize, p: usize, marks: &[u8]) -> bool
-    requires { ⌜ Standing (modelAt (now model)) (now model) (here .at) (here .topics) (here .tables) ⌝ }
-    requires { ⌜ Counted (modelAt (now model)) topics ⌝ }
-    requires { ⌜ p ≤ 64 ⌝ }
-    ensures { λ r. ⌜ r ≡ (eqb (kindAt (now (model .entry)) (here .at)) 4 && (eqb (here .topics) (p + 1) && not (eqb (getD (now (marks .entry)) (topics + here .tables) 0) 0))) ⌝ }
+// Whether table t is one of topic p that is delivered.
+fn is_due(places: &[usize], shape: Shape, p: usize, t: usize, marks: &[u8]) -> bool
+    requires { ⌜ (length (now places) ≡ 1088) × (shape .topics ≤ 64) × (t < 512) ⌝ }
+    ensures { λ r. ⌜ (let mark = getD (now (marks .entry)) (shape .topics + t) 0 in
+        r ≡ (eqb (topicOf (now (places .entry)) t) p && not (eqb mark 0))) ⌝ }
 {
-    let kind = model_records::kind_at(model, here.at);
-    let mark = model_records::numbers::byte_at(marks, topics + here.tables);
-    let this = bools::both(here.topics == p + 1, mark != 0);
-    bools::both(kind == 4, this)
+    let mark = byte_at(marks, shape.topics + t);
+    bools::both(places::topic_of(places, t) == p, mark != 0)
 }
 
-// The lines of the table whose record stands here, where it is one of topic p and delivered.
+// The lines of table t, where it is one of topic p and delivered.
 fn pass_table(
     put: Put,
     model: &[u8],
-    here: Stand,
-    topics: usize,
+    places: &[usize],
+    shape: Shape,
     p: usize,
+    t: usize,
     text: &[u8],
-    manner: Manner,
+    style: LineStyle,
     marks: &[u8],
     rows: &[u64],
     cells: &[i64],
@@ -188,22 +201,25 @@ fn pass_table(
     row: usize,
     out: &mut [u8],
 ) -> Walked
-    requires { ⌜ Standing (modelAt (now model)) (now model) (here .at) (here .topics) (here .tables) ⌝ }
-    requires { ⌜ Counted (modelAt (now model)) topics ⌝ }
-    requires { ⌜ Fit (modelAt (now model)) manner ⌝ }
-    requires { ⌜ (p ≤ 64) × (row ≤ length (now rows)) ⌝ }
-    ensures { λ r. ⌜ TableTurn (modelAt (now (model .entry))) (now (model .entry)) (now (text .entry)) (contentIn (now (marks .entry)) (now (rows .entry)) (now (cells .entry)) (now (points .entry))) manner p here row put (now (out .entry)) (now (out .exit)) r ⌝ }
+    requires { ⌜ Placed (now model) shape (now places) ⌝ }
+    requires { ⌜ Fit (modelAt (now model)) style ⌝ }
+    requires { ⌜ (t < shape .tables) × (row ≤ length (now rows)) ⌝ }
+    ensures { λ r. ⌜ (let m = modelAt (now (model .entry)) in
+        let c = contentIn (now (marks .entry)) (now (rows .entry)) (now (cells .entry)) (now (points .entry)) in
+        TableTurn m (now (text .entry)) c style p t row put (now (out .entry)) (now (out .exit)) r) ⌝ }
 {
-    if !is_due(model, here, topics, p, marks) {
+    if !is_due(places, shape, p, t, marks) {
         return Walked { put, row };
     }
-    let end = behind_table(rows, cells, here.tables, row);
+    let end = behind_table(rows, cells, t, row);
     let all = then_table(
         put,
         model,
-        here.at,
+        places,
+        shape,
+        t,
         text,
-        manner,
+        style,
         rows,
         cells,
         points,
@@ -214,15 +230,15 @@ fn pass_table(
     Walked { put: all, row: end }
 }
 
-// The lines of the tables of topic p, from row number `row` on; the model's records begin at the byte `first`.
-pub fn then_tables(
+// The lines of the tables of topic p, from row number `row` on.
+pub(crate) fn then_tables(
     put: Put,
     model: &[u8],
-    first: usize,
-    topics: usize,
+    places: &[usize],
+    shape: Shape,
     p: usize,
     text: &[u8],
-    manner: Manner,
+    style: LineStyle,
     marks: &[u8],
     rows: &[u64],
     cells: &[i64],
@@ -230,32 +246,27 @@ pub fn then_tables(
     row: usize,
     out: &mut [u8],
 ) -> Put
-    requires { ⌜ Standing (modelAt (now model)) (now model) first 0 0 ⌝ }
-    requires { ⌜ Counted (modelAt (now model)) topics ⌝ }
-    requires { ⌜ Fit (modelAt (now model)) manner ⌝ }
-    requires { ⌜ (p ≤ 64) × (row ≤ length (now rows)) ⌝ }
-    ensures { λ r. ⌜ Follows (cutOf manner (tableLines (modelAt (now (model .entry))) (now (text .entry)) (contentIn (now (marks .entry)) (now (rows .entry)) (now (cells .entry)) (now (points .entry))) p 0 (modelAt (now (model .entry)) .tables) (drop row (now (rows .entry))))) put (now (out .entry)) (now (out .exit)) r ⌝ }
+    requires { ⌜ Placed (now model) shape (now places) ⌝ }
+    requires { ⌜ Fit (modelAt (now model)) style ⌝ }
+    requires { ⌜ row ≤ length (now rows) ⌝ }
+    ensures { λ r. ⌜ (let m = modelAt (now (model .entry)) in
+        let c = contentIn (now (marks .entry)) (now (rows .entry)) (now (cells .entry)) (now (points .entry)) in
+        let lines = tableLines m (now (text .entry)) c p 0 (m .tables) (drop row (now (rows .entry))) in
+        Follows (cutOf style lines) put (now (out .entry)) (now (out .exit)) r) ⌝ }
 {
     let mut all = put;
     let mut next = row;
-    let mut here = Stand {
-        topics: 0,
-        tables: 0,
-        at: first,
-    };
-    loop {
-        let kind = model_records::kind_at(model, here.at);
-        if kind == 6 {
-            return all;
-        }
+    let mut t = 0;
+    while t < shape.tables {
         let walked = pass_table(
             all,
             model,
-            here,
-            topics,
+            places,
+            shape,
             p,
+            t,
             text,
-            manner,
+            style,
             marks,
             rows,
             cells,
@@ -265,6 +276,7 @@ pub fn then_tables(
         );
         all = walked.put;
         next = walked.row;
-        here = pass_record(model, here);
+        t += 1;
     }
+    all
 }

@@ -10,7 +10,7 @@ use Rattle.meaning.specs.Digits.{numberBytes}
 use Rattle.meaning.specs.Writing.{fieldBytes, pointFields, spaced}
 use Rattle.model_records.specs.declared.Component.{Component}
 use Rattle.model_records.specs.Components.{listOf}
-use Rattle.read_fields.proofs.Coordinates.{listed-next, listed-end}
+use Rattle.model_records.proofs.ComponentLaws.{listed-next, listed-end}
 use Rattle.write_objects.specs.Given.{componentFields}
 
 -- ## A coordinate

@@ -22,7 +22,7 @@ use Rattle.meaning.proofs.Tests.Refuse.{holds}
 use Rattle.model_records.specs.Components.{componentsOf}
 use Rattle.model_records.specs.declared.Attribute.{Attribute}
 use Rattle.model_records.specs.Attributes.{typeOf}
-use Rattle.read_fields.proofs.Attributes.{coordinate-type, line-type}
+use Rattle.model_records.proofs.Types.{coordinate-type, line-type}
 use Rattle.write_objects.specs.Given.{lentOf, GoodComponents, GoodAttribute}
 use Rattle.write_objects.proofs.Typed.{one-of, own-pairs}
 

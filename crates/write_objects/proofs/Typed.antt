@@ -24,7 +24,7 @@ use Rattle.model_records.specs.declared.Component.{Component}
 use Rattle.model_records.specs.Components.{componentOf, componentsOf, listOf}
 use Rattle.model_records.specs.declared.Attribute.{Attribute}
 use Rattle.model_records.specs.Attributes.{typeOf, firstOf}
-use Rattle.read_fields.proofs.Attributes.{coordinate-type, line-type}
+use Rattle.model_records.proofs.Types.{coordinate-type, line-type}
 use Rattle.table.specs.Stretches.{Cut}
 use Rattle.write_objects.specs.Given.{lentOf, componentFields, GoodComponents, GoodAttribute}
 

@@ -4,27 +4,26 @@ use native.Mathlib.Omega.{arith}
 use mathlib.Core.Path.{_≡_, refl, sym, ap, _∙_}
 use mathlib.Core.Bool.{Bool, true, false}
 use mathlib.Core.List.{List, [], _∷_, _++_}
-use lib.Dec.{eqb, leb}
+use lib.Dec.{leb}
 use lib.IntN.{ℤ, pos, natAbs}
 use lib.ListN.{length, drop, length-append, drop-of-length-le, List·getD-eq-default}
 use lib.Seq.{drop-drop}
 use borrow.Author.Tests.{leb-true, leb-false}
-use Rattle.meaning.specs.Bytes.{choose, byteAt}
+use Rattle.meaning.specs.Bytes.{byteAt}
 use Rattle.meaning.specs.Model.{Model, Attribute, attributeOf}
 use Rattle.meaning.specs.Row.{Pair, OfAttribute, OfComponent, OfLine, pairsOfType, pairsOf}
 use Rattle.meaning.specs.Reading.{Content, cellAt, lineAttributes}
 use Rattle.meaning.specs.Writing.{pairFields, attributeLines, spaced, linesBytes}
 use Rattle.meaning.specs.Width.{cutLines}
 use Rattle.model_records.specs.Records.{kindAt, payloadAt, nextAt, pairsAt}
-use Rattle.model_records.specs.Standing.{Standing, AttributeHere, AttributeNext}
+use Rattle.model_records.specs.Standing.{Standing, AttributeHere, AttributeNext, AttributesHere}
 use Rattle.model_records.proofs.Standing.{here, attribute-here, no-attribute}
 use Rattle.model_records.proofs.Types.{parts-room}
-use Rattle.model_records.specs.Counts.{pairCount, Counted}
-use Rattle.model_records.proofs.Counting.{pairs-more}
+use Rattle.model_records.specs.Counts.{Counted}
+use Rattle.model_records.proofs.Counting.{pairs-more, pairs-few}
 use Rattle.write_lines.specs.declared.Put.{Put}
 use Rattle.write_lines.specs.declared.Put.the-variants.{At, Full}
 use Rattle.write_lines.specs.Puts.{Puts}
-use Rattle.model_records.specs.Standing.{AttributesHere}
 use Rattle.write_objects.proofs.Left.{Left, left-start, left-end, left-on, left-stop}
 use Rattle.write_objects.proofs.Joined.{spaced-append, cut-lines-append, fields-append, attributes-append, attribute-lines-append}
 
@@ -101,15 +100,6 @@ pub record Walking (m : Model) (b : List ℕ) (meant : (cell : ℕ) → List Pai
   pub few : cell ≤ most + at
   pub left : Left whole n₀ out₀ (meant cell (pairsAt b at)) n out
 
-few-pairs : (t : ℕ) → pairCount t ≤ 3
-unfolding pairCount choose
-few-pairs t = go (eqb t 2) (eqb t 3)
-  where
-    go : (x y : Bool) → choose x 2 (choose y 3 1) ≤ 3
-    go true y = omega arith
-    go false true = omega arith
-    go false false = omega arith
-
 pub walk-start : (m : Model) (b : List ℕ) (meant : (cell : ℕ) → List Pair → List ℕ) (most : ℕ) (whole : List ℕ) (first cell n : ℕ) (out : List ℕ)
     → AttributesHere m b first → cell ≤ most + first → meant cell (pairsAt b first) ≡ whole → n ≤ length out → Walking m b meant most whole n out first cell n out
 walk-start m b meant most whole first cell n out h few same within = record {
@@ -148,7 +138,7 @@ module _ {m : Model} {b : List ℕ} {meant : (cell : ℕ) → List Pair → List
 
     module _ (f p : ℕ) (c : Counted (byteAt b (at + 5)) f p) where
       pub walk-count : p ≤ 3
-      walk-count = omega (arith, c .pairs, few-pairs (byteAt b (at + 5)))
+      walk-count = omega (arith, c .pairs, pairs-few (byteAt b (at + 5)))
 
       counted : length (pairsHere b at) ≡ p
       counted = omega (arith, pairs-more m b at (i .topics) (i .tables) attribute f p c, ap length split, length-append (pairsHere b at) (pairsAt b (nextAt b at)))

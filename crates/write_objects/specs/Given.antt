@@ -5,7 +5,7 @@ use mathlib.Core.Bool.{true}
 use mathlib.Core.List.{List, [], _∷_}
 use lib.IntN.{ℤ, pos}
 use lib.ListN.{length, drop, getD}
-use Rattle.meaning.specs.Model.{Component, Model}
+use Rattle.meaning.specs.Model.{Component}
 use Rattle.meaning.specs.Check.{goodComponents, goodType}
 use Rattle.meaning.specs.Digits.{numberBytes}
 use Rattle.meaning.specs.Reading.{Content}
@@ -14,7 +14,6 @@ use Rattle.model_records.specs.Components.{componentsOf}
 use Rattle.model_records.specs.declared.Components.{Components}
 use Rattle.model_records.specs.declared.Attribute.{Attribute}
 use Rattle.model_records.specs.Attributes.{typeOf}
-use Rattle.model_records.specs.Standing.{Standing}
 
 -- the content of the lists that are lent; an object's lines say nothing of the marks
 abbrev pub lentOf : List ℕ → List ℤ → List ℤ → Content
@@ -23,7 +22,8 @@ lentOf rows cells points = record { marks = []; rows = rows; cells = cells; poin
 -- the fields of a coordinate's components, whose cells are cs
 unfoldable pub componentFields : (u : ℕ) → List Component → List ℤ → List (List ℕ)
 componentFields u [] cs = []
-componentFields u (k ∷ ks) cs = fieldBytes u (getD cs 0 (pos 0)) (numberBytes (k .decimals) (getD cs 1 (pos 0))) ∷ componentFields u ks (drop 2 cs)
+componentFields u (k ∷ ks) cs =
+    fieldBytes u (getD cs 0 (pos 0)) (numberBytes (k .decimals) (getD cs 1 (pos 0))) ∷ componentFields u ks (drop 2 cs)
 
 -- the components of a good attribute
 pub record GoodComponents (ks : Components) : Type 0 where

@@ -1,4 +1,5 @@
-// The fields of an object's line, put into a lent room from n on. A cell or a row outside its list is 0, a stretch outside the text is cut.
+// The fields of an object's line, put into a lent room from n on. A cell or a row outside its list is 0, a stretch
+// outside the text is cut.
 ghost use mathlib.Core.Path.{_≡_};
 ghost use mathlib.Core.List.{[], _∷_};
 ghost use Prim.Native.Nat.{_+_, _-_, _≤_, _<_, _^_};
@@ -22,7 +23,7 @@ use write_lines::fields::put_field;
 use write_lines::values;
 
 // The cell so many cells behind another.
-pub fn cell_behind(cells: &[i64], at: usize, by: usize) -> i64
+pub(crate) fn cell_behind(cells: &[i64], at: usize, by: usize) -> i64
     requires { ⌜ by ≤ 3 ⌝ }
     ensures { λ r. ⌜ r ≡ getD (drop at (now (cells .entry))) by (pos 0) ⌝ }
 {
@@ -37,7 +38,7 @@ pub fn cell_behind(cells: &[i64], at: usize, by: usize) -> i64
 }
 
 // Its size.
-pub fn size_behind(cells: &[i64], at: usize, by: usize) -> usize
+pub(crate) fn size_behind(cells: &[i64], at: usize, by: usize) -> usize
     requires { ⌜ by ≤ 3 ⌝ }
     ensures { λ r. ⌜ r ≡ natAbs (getD (drop at (now (cells .entry))) by (pos 0)) ⌝ }
 {
@@ -51,7 +52,8 @@ fn row_of(rows: &[u64], o: usize) -> usize
     if o < rows.len() { rows[o] as usize } else { 0 }
 }
 
-pub fn put_stretch(text: &[u8], start: i64, size: usize, out: &mut [u8], n: usize) -> Put
+// A stretch of the text, none where it begins before the text.
+fn put_stretch(text: &[u8], start: i64, size: usize, out: &mut [u8], n: usize) -> Put
     requires { ⌜ n ≤ length (now out) ⌝ }
     ensures { λ r. ⌜ Puts (stretchBytes (now (text .entry)) start size) n (now (out .entry)) (now (out .exit)) r ⌝ }
 {
@@ -65,9 +67,16 @@ pub fn put_stretch(text: &[u8], start: i64, size: usize, out: &mut [u8], n: usiz
 }
 
 // The identification of the object whose row begins at this cell.
-pub fn put_identification(text: &[u8], cells: &[i64], row: usize, out: &mut [u8], n: usize) -> Put
+pub(crate) fn put_identification(
+    text: &[u8],
+    cells: &[i64],
+    row: usize,
+    out: &mut [u8],
+    n: usize,
+) -> Put
     requires { ⌜ n ≤ length (now out) ⌝ }
-    ensures { λ r. ⌜ Puts (identificationBytes (now (text .entry)) (now (cells .entry)) row) n (now (out .entry)) (now (out .exit)) r ⌝ }
+    ensures { λ r. ⌜ (let bytes = identificationBytes (now (text .entry)) (now (cells .entry)) row in
+        Puts bytes n (now (out .entry)) (now (out .exit)) r) ⌝ }
 {
     let start = cell_behind(cells, row, 1);
     let size = size_behind(cells, row, 2);
@@ -77,7 +86,9 @@ pub fn put_identification(text: &[u8], cells: &[i64], row: usize, out: &mut [u8]
 // The identification of the object that a reference names.
 fn put_reference(text: &[u8], rows: &[u64], cells: &[i64], b: i64, out: &mut [u8], n: usize) -> Put
     requires { ⌜ n ≤ length (now out) ⌝ }
-    ensures { λ r. ⌜ Puts (identificationBytes (now (text .entry)) (now (cells .entry)) (getD (now (rows .entry)) (natAbs b) 0)) n (now (out .entry)) (now (out .exit)) r ⌝ }
+    ensures { λ r. ⌜ (let row = getD (now (rows .entry)) (natAbs b) 0 in
+        let bytes = identificationBytes (now (text .entry)) (now (cells .entry)) row in
+        Puts bytes n (now (out .entry)) (now (out .exit)) r) ⌝ }
 {
     let row = row_of(rows, magnitude(b) as usize);
     put_identification(text, cells, row, out, n)
@@ -86,7 +97,8 @@ fn put_reference(text: &[u8], rows: &[u64], cells: &[i64], b: i64, out: &mut [u8
 // "Text: 1 plus its length, its start"
 fn put_text(text: &[u8], a: i64, b: i64, out: &mut [u8], n: usize) -> Put
     requires { ⌜ n ≤ length (now out) ⌝ }
-    ensures { λ r. ⌜ Puts (stretchBytes (now (text .entry)) b (natAbs a - 1)) n (now (out .entry)) (now (out .exit)) r ⌝ }
+    ensures { λ r. ⌜ (let bytes = stretchBytes (now (text .entry)) b (natAbs a - 1) in
+        Puts bytes n (now (out .entry)) (now (out .exit)) r) ⌝ }
 {
     let size = magnitude(a) as usize;
     if size < 2 {
@@ -97,7 +109,7 @@ fn put_text(text: &[u8], a: i64, b: i64, out: &mut [u8], n: usize) -> Put
 }
 
 // A pair that is not undefined.
-pub fn put_value(
+fn put_value(
     text: &[u8],
     rows: &[u64],
     cells: &[i64],
@@ -109,7 +121,9 @@ pub fn put_value(
 ) -> Put
     requires { ⌜ GoodAttribute attribute ⌝ }
     requires { ⌜ n ≤ length (now out) ⌝ }
-    ensures { λ r. ⌜ Puts (typeBytes (now (text .entry)) (lentOf (now (rows .entry)) (now (cells .entry)) []) (typeOf attribute) a b) n (now (out .entry)) (now (out .exit)) r ⌝ }
+    ensures { λ r. ⌜ (let c = lentOf (now (rows .entry)) (now (cells .entry)) [] in
+        let bytes = typeBytes (now (text .entry)) c (typeOf attribute) a b in
+        Puts bytes n (now (out .entry)) (now (out .exit)) r) ⌝ }
 {
     let kind = attribute.kind;
     let components = attribute.components;
@@ -135,7 +149,7 @@ fn put_undefined(undefined: u8, out: &mut [u8], n: usize) -> Put
 }
 
 // A number behind a space.
-pub fn put_number_field(decimals: u8, v: i64, out: &mut [u8], n: usize) -> Put
+pub(crate) fn put_number_field(decimals: u8, v: i64, out: &mut [u8], n: usize) -> Put
     requires { ⌜ (n ≤ length (now out)) × (decimals ≤ 9) ⌝ }
     ensures { λ r. ⌜ Puts (0x20 ∷ numberBytes decimals v) n (now (out .entry)) (now (out .exit)) r ⌝ }
 {
@@ -158,7 +172,9 @@ fn put_value_field(
 ) -> Put
     requires { ⌜ GoodAttribute attribute ⌝ }
     requires { ⌜ n ≤ length (now out) ⌝ }
-    ensures { λ r. ⌜ Puts (0x20 ∷ typeBytes (now (text .entry)) (lentOf (now (rows .entry)) (now (cells .entry)) []) (typeOf attribute) a b) n (now (out .entry)) (now (out .exit)) r ⌝ }
+    ensures { λ r. ⌜ (let c = lentOf (now (rows .entry)) (now (cells .entry)) [] in
+        let bytes = typeBytes (now (text .entry)) c (typeOf attribute) a b in
+        Puts (0x20 ∷ bytes) n (now (out .entry)) (now (out .exit)) r) ⌝ }
 {
     match put_byte(out, n, b' ') {
         Put::At(at) => put_value(text, rows, cells, attribute, a, b, out, at),
@@ -179,7 +195,11 @@ fn put_pair(
 ) -> Put
     requires { ⌜ GoodAttribute attribute ⌝ }
     requires { ⌜ n ≤ length (now out) ⌝ }
-    ensures { λ r. ⌜ Puts (0x20 ∷ fieldBytes undefined (getD (drop cell (now (cells .entry))) 0 (pos 0)) (typeBytes (now (text .entry)) (lentOf (now (rows .entry)) (now (cells .entry)) []) (typeOf attribute) (getD (drop cell (now (cells .entry))) 0 (pos 0)) (getD (drop cell (now (cells .entry))) 1 (pos 0)))) n (now (out .entry)) (now (out .exit)) r ⌝ }
+    ensures { λ r. ⌜ (let a = getD (drop cell (now (cells .entry))) 0 (pos 0) in
+        let b = getD (drop cell (now (cells .entry))) 1 (pos 0) in
+        let c = lentOf (now (rows .entry)) (now (cells .entry)) [] in
+        let field = fieldBytes undefined a (typeBytes (now (text .entry)) c (typeOf attribute) a b) in
+        Puts (0x20 ∷ field) n (now (out .entry)) (now (out .exit)) r) ⌝ }
 {
     let a = cell_behind(cells, cell, 0);
     if magnitude(a) == 0 {
@@ -199,7 +219,10 @@ fn put_component(
     n: usize,
 ) -> Put
     requires { ⌜ (n ≤ length (now out)) × (decimals ≤ 9) ⌝ }
-    ensures { λ r. ⌜ Puts (0x20 ∷ fieldBytes undefined (getD (drop cell (now (cells .entry))) 0 (pos 0)) (numberBytes decimals (getD (drop cell (now (cells .entry))) 1 (pos 0)))) n (now (out .entry)) (now (out .exit)) r ⌝ }
+    ensures { λ r. ⌜ (let a = getD (drop cell (now (cells .entry))) 0 (pos 0) in
+        let b = getD (drop cell (now (cells .entry))) 1 (pos 0) in
+        let field = fieldBytes undefined a (numberBytes decimals b) in
+        Puts (0x20 ∷ field) n (now (out .entry)) (now (out .exit)) r) ⌝ }
 {
     if size_behind(cells, cell, 0) == 0 {
         return put_undefined(undefined, out, n);
@@ -219,7 +242,9 @@ fn put_components(
 ) -> Put
     requires { ⌜ GoodComponents components ⌝ }
     requires { ⌜ (n ≤ length (now out)) × (cell + 6 < 2 ^ 64) ⌝ }
-    ensures { λ r. ⌜ Puts (spaced (componentFields undefined (componentsOf components) (drop cell (now (cells .entry))))) n (now (out .entry)) (now (out .exit)) r ⌝ }
+    ensures { λ r. ⌜ (let cs = drop cell (now (cells .entry)) in
+        let fields = componentFields undefined (componentsOf components) cs in
+        Puts (spaced fields) n (now (out .entry)) (now (out .exit)) r) ⌝ }
 {
     let count = components.count;
     let items = components.items;
@@ -241,7 +266,7 @@ fn put_components(
 }
 
 // The fields of an attribute's pairs, the first of which is at this cell.
-pub fn put_attribute(
+pub(crate) fn put_attribute(
     text: &[u8],
     rows: &[u64],
     cells: &[i64],
@@ -253,7 +278,10 @@ pub fn put_attribute(
 ) -> Put
     requires { ⌜ GoodAttribute attribute ⌝ }
     requires { ⌜ (n ≤ length (now out)) × (cell + 6 < 2 ^ 64) ⌝ }
-    ensures { λ r. ⌜ Puts (spaced (pairFields undefined (now (text .entry)) (lentOf (now (rows .entry)) (now (cells .entry)) []) (pairsOfType (attribute .optional) (typeOf attribute)) (drop cell (now (cells .entry))))) n (now (out .entry)) (now (out .exit)) r ⌝ }
+    ensures { λ r. ⌜ (let c = lentOf (now (rows .entry)) (now (cells .entry)) [] in
+        let pairs = pairsOfType (attribute .optional) (typeOf attribute) in
+        let fields = pairFields undefined (now (text .entry)) c pairs (drop cell (now (cells .entry))) in
+        Puts (spaced fields) n (now (out .entry)) (now (out .exit)) r) ⌝ }
 {
     let kind = attribute.kind;
     match kind {

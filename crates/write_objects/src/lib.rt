@@ -1,3 +1,3 @@
 // The lines of an object, written from its row: its fields, and the lines of its line attributes.
-pub mod fields;
+mod fields;
 pub mod objects;

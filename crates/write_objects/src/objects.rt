@@ -7,20 +7,21 @@ ghost use lib.ListN.{length, drop, getD};
 ghost use Rattle.meaning.specs.Field.{OBJE, ELIN};
 ghost use Rattle.meaning.specs.Model.{attributeOf};
 ghost use Rattle.meaning.specs.Row.{pairsOfType};
-ghost use Rattle.meaning.specs.Reading.{cellAt, lineAttributes};
-ghost use Rattle.meaning.specs.Writing.{identificationBytes, pairFields, pointCode, pointFields, pointLines, attributeLines, objectLines, spaced, lineBytes, linesBytes};
+ghost use Rattle.meaning.specs.Reading.{Content, cellAt, lineAttributes};
+ghost use Rattle.meaning.specs.Writing.{identificationBytes, pairFields, pointCode, pointFields, pointLines};
+ghost use Rattle.meaning.specs.Writing.{attributeLines, objectLines, spaced, lineBytes, linesBytes};
 ghost use Rattle.meaning.specs.Width.{cutLine, cutLines};
 ghost use Rattle.model_records.specs.Components.{componentsOf};
 ghost use Rattle.model_records.specs.Records.{modelAt, payloadAt, pairsAt};
-ghost use Rattle.model_records.specs.Standing.{AttributeHere};
+ghost use Rattle.model_records.specs.Standing.{AttributeHere, AttributesHere};
 ghost use Rattle.write_lines.specs.Puts.{Puts};
 ghost use Rattle.write_objects.specs.Given.{lentOf, GoodComponents};
-ghost use Rattle.model_records.specs.Standing.{AttributesHere};
 use crate::fields;
 use base::numbers::least_of;
 use base::numbers::magnitude;
+use model_records::ATTRIBUTE;
 use model_records::Components;
-use read_references::rows::count_of;
+use model_records::counts::count_of;
 use write_lines::Put;
 use write_lines::cuts::end_line;
 use write_lines::fields::put_bytes;
@@ -39,7 +40,11 @@ fn put_attribute_at(
 ) -> Put
     requires { ⌜ AttributeHere (now model) at ⌝ }
     requires { ⌜ (n ≤ length (now out)) × (cell + 6 < 2 ^ 64) ⌝ }
-    ensures { λ r. ⌜ Puts (spaced (pairFields undefined (now (text .entry)) (lentOf (now (rows .entry)) (now (cells .entry)) []) (pairsOfType (attributeOf at (payloadAt (now (model .entry)) at) .optional) (attributeOf at (payloadAt (now (model .entry)) at) .type)) (drop cell (now (cells .entry))))) n (now (out .entry)) (now (out .exit)) r ⌝ }
+    ensures { λ r. ⌜ (let attribute = attributeOf at (payloadAt (now (model .entry)) at) in
+        let pairs = pairsOfType (attribute .optional) (attribute .type) in
+        let c = lentOf (now (rows .entry)) (now (cells .entry)) [] in
+        let fields = pairFields undefined (now (text .entry)) c pairs (drop cell (now (cells .entry))) in
+        Puts (spaced fields) n (now (out .entry)) (now (out .exit)) r) ⌝ }
 {
     let attribute = model_records::attribute_at(model, at);
     fields::put_attribute(text, rows, cells, undefined, attribute, cell, out, n)
@@ -59,14 +64,17 @@ fn put_pairs(
 ) -> Put
     requires { ⌜ AttributesHere (modelAt (now model)) (now model) first ⌝ }
     requires { ⌜ n ≤ length (now out) ⌝ }
-    ensures { λ r. ⌜ Puts (spaced (pairFields undefined (now (text .entry)) (lentOf (now (rows .entry)) (now (cells .entry)) []) (pairsAt (now (model .entry)) first) (drop (row + 3) (now (cells .entry))))) n (now (out .entry)) (now (out .exit)) r ⌝ }
+    ensures { λ r. ⌜ (let c = lentOf (now (rows .entry)) (now (cells .entry)) [] in
+        let pairs = pairsAt (now (model .entry)) first in
+        let fields = pairFields undefined (now (text .entry)) c pairs (drop (row + 3) (now (cells .entry))) in
+        Puts (spaced fields) n (now (out .entry)) (now (out .exit)) r) ⌝ }
 {
     let mut at = first;
     let mut cell = least_of(row, cells.len()) + 3;
     let mut end = n;
     loop {
         let kind = model_records::kind_at(model, at);
-        if kind != 5 {
+        if kind != ATTRIBUTE {
             return Put::At(end);
         }
         let put = put_attribute_at(model, text, undefined, rows, cells, at, cell, out, end);
@@ -97,7 +105,11 @@ fn put_object_bytes(
 ) -> Put
     requires { ⌜ AttributesHere (modelAt (now model)) (now model) first ⌝ }
     requires { ⌜ n ≤ length (now out) ⌝ }
-    ensures { λ r. ⌜ Puts (lineBytes (OBJE ∷ identificationBytes (now (text .entry)) (now (cells .entry)) row ∷ pairFields undefined (now (text .entry)) (lentOf (now (rows .entry)) (now (cells .entry)) []) (pairsAt (now (model .entry)) first) (drop (row + 3) (now (cells .entry))))) n (now (out .entry)) (now (out .exit)) r ⌝ }
+    ensures { λ r. ⌜ (let c = lentOf (now (rows .entry)) (now (cells .entry)) [] in
+        let pairs = pairsAt (now (model .entry)) first in
+        let fields = pairFields undefined (now (text .entry)) c pairs (drop (row + 3) (now (cells .entry))) in
+        let id = identificationBytes (now (text .entry)) (now (cells .entry)) row in
+        Puts (lineBytes (OBJE ∷ id ∷ fields)) n (now (out .entry)) (now (out .exit)) r) ⌝ }
 {
     match put_bytes(out, n, b"OBJE ") {
         Put::At(k) => match fields::put_identification(text, cells, row, out, k) {
@@ -109,7 +121,7 @@ fn put_object_bytes(
 }
 
 // The line of an object.
-pub fn put_object_line(
+fn put_object_line(
     model: &[u8],
     first: usize,
     text: &[u8],
@@ -124,7 +136,11 @@ pub fn put_object_line(
 ) -> Put
     requires { ⌜ AttributesHere (modelAt (now model)) (now model) first ⌝ }
     requires { ⌜ (n ≤ length (now out)) × (16 ≤ width) × (width ≤ 65535) ⌝ }
-    ensures { λ r. ⌜ Puts (cutLine mark width (lineBytes (OBJE ∷ identificationBytes (now (text .entry)) (now (cells .entry)) row ∷ pairFields undefined (now (text .entry)) (lentOf (now (rows .entry)) (now (cells .entry)) []) (pairsAt (now (model .entry)) first) (drop (row + 3) (now (cells .entry)))))) n (now (out .entry)) (now (out .exit)) r ⌝ }
+    ensures { λ r. ⌜ (let c = lentOf (now (rows .entry)) (now (cells .entry)) [] in
+        let pairs = pairsAt (now (model .entry)) first in
+        let fields = pairFields undefined (now (text .entry)) c pairs (drop (row + 3) (now (cells .entry))) in
+        let id = identificationBytes (now (text .entry)) (now (cells .entry)) row in
+        Puts (cutLine mark width (lineBytes (OBJE ∷ id ∷ fields))) n (now (out .entry)) (now (out .exit)) r) ⌝ }
 {
     match put_object_bytes(model, first, text, undefined, rows, cells, row, out, n) {
         Put::At(k) => end_line(out, n, k, mark, width),
@@ -157,7 +173,8 @@ fn put_point_fields(
 ) -> Put
     requires { ⌜ GoodComponents components ⌝ }
     requires { ⌜ n ≤ length (now out) ⌝ }
-    ensures { λ r. ⌜ Puts (spaced (pointFields (componentsOf components) (drop 1 (drop at (now (points .entry)))))) n (now (out .entry)) (now (out .exit)) r ⌝ }
+    ensures { λ r. ⌜ (let fields = pointFields (componentsOf components) (drop 1 (drop at (now (points .entry)))) in
+        Puts (spaced fields) n (now (out .entry)) (now (out .exit)) r) ⌝ }
 {
     let count = components.count;
     let items = components.items;
@@ -189,7 +206,9 @@ fn put_point_bytes(
 ) -> Put
     requires { ⌜ GoodComponents components ⌝ }
     requires { ⌜ n ≤ length (now out) ⌝ }
-    ensures { λ r. ⌜ Puts (lineBytes (pointCode (getD (drop at (now (points .entry))) 0 (pos 0)) ∷ pointFields (componentsOf components) (drop 1 (drop at (now (points .entry)))))) n (now (out .entry)) (now (out .exit)) r ⌝ }
+    ensures { λ r. ⌜ (let code = pointCode (getD (drop at (now (points .entry))) 0 (pos 0)) in
+        let fields = pointFields (componentsOf components) (drop 1 (drop at (now (points .entry)))) in
+        Puts (lineBytes (code ∷ fields)) n (now (out .entry)) (now (out .exit)) r) ⌝ }
 {
     let kind = fields::cell_behind(points, at, 0);
     match put_code(kind, out, n) {
@@ -210,7 +229,9 @@ fn put_point(
 ) -> Put
     requires { ⌜ GoodComponents components ⌝ }
     requires { ⌜ (n ≤ length (now out)) × (16 ≤ width) × (width ≤ 65535) ⌝ }
-    ensures { λ r. ⌜ Puts (cutLine mark width (lineBytes (pointCode (getD (drop at (now (points .entry))) 0 (pos 0)) ∷ pointFields (componentsOf components) (drop 1 (drop at (now (points .entry))))))) n (now (out .entry)) (now (out .exit)) r ⌝ }
+    ensures { λ r. ⌜ (let code = pointCode (getD (drop at (now (points .entry))) 0 (pos 0)) in
+        let fields = pointFields (componentsOf components) (drop 1 (drop at (now (points .entry)))) in
+        Puts (cutLine mark width (lineBytes (code ∷ fields))) n (now (out .entry)) (now (out .exit)) r) ⌝ }
 {
     match put_point_bytes(points, components, at, out, n) {
         Put::At(k) => end_line(out, n, k, mark, width),
@@ -232,7 +253,8 @@ fn put_points(
     requires { ⌜ GoodComponents components ⌝ }
     requires { ⌜ (n ≤ length (now out)) × (16 ≤ width) × (width ≤ 65535) ⌝ }
     requires { ⌜ 4 * count ≤ length (now points) ⌝ }
-    ensures { λ r. ⌜ Puts (cutLines mark width (linesBytes (pointLines (componentsOf components) count (drop (4 * first) (now (points .entry)))))) n (now (out .entry)) (now (out .exit)) r ⌝ }
+    ensures { λ r. ⌜ (let lines = pointLines (componentsOf components) count (drop (4 * first) (now (points .entry))) in
+        Puts (cutLines mark width (linesBytes lines)) n (now (out .entry)) (now (out .exit)) r) ⌝ }
 {
     let mut at = 4 * least_of(first, points.len());
     let mut left = count;
@@ -255,7 +277,8 @@ fn put_points(
 // The line behind a line attribute's points.
 fn put_elin(mark: u8, width: usize, out: &mut [u8], n: usize) -> Put
     requires { ⌜ (n ≤ length (now out)) × (16 ≤ width) × (width ≤ 65535) ⌝ }
-    ensures { λ r. ⌜ Puts (cutLines mark width (linesBytes ((ELIN ∷ []) ∷ []))) n (now (out .entry)) (now (out .exit)) r ⌝ }
+    ensures { λ r. ⌜ (let lines = (ELIN ∷ []) ∷ [] in
+        Puts (cutLines mark width (linesBytes lines)) n (now (out .entry)) (now (out .exit)) r) ⌝ }
 {
     match put_bytes(out, n, b"ELIN") {
         Put::At(k) => end_line(out, n, k, mark, width),
@@ -287,7 +310,10 @@ fn put_line(
 ) -> Put
     requires { ⌜ GoodComponents components ⌝ }
     requires { ⌜ (n ≤ length (now out)) × (16 ≤ width) × (width ≤ 65535) ⌝ }
-    ensures { λ r. ⌜ Puts (cutLines mark width (linesBytes (pointLines (componentsOf components) (min (cellAt (now (cells .entry)) cell - 1) (length (now (points .entry)) / 4)) (drop (4 * cellAt (now (cells .entry)) (cell + 1)) (now (points .entry))) ++ ((ELIN ∷ []) ∷ [])))) n (now (out .entry)) (now (out .exit)) r ⌝ }
+    ensures { λ r. ⌜ (let count = min (cellAt (now (cells .entry)) cell - 1) (length (now (points .entry)) / 4) in
+        let from = drop (4 * cellAt (now (cells .entry)) (cell + 1)) (now (points .entry)) in
+        let lines = pointLines (componentsOf components) count from ++ ((ELIN ∷ []) ∷ []) in
+        Puts (cutLines mark width (linesBytes lines)) n (now (out .entry)) (now (out .exit)) r) ⌝ }
 {
     let count = count_points(cells, points.len(), cell);
     let first = fields::size_behind(cells, cell, 1);
@@ -311,7 +337,11 @@ fn put_line_at(
 ) -> Put
     requires { ⌜ AttributeHere (now model) at ⌝ }
     requires { ⌜ (n ≤ length (now out)) × (16 ≤ width) × (width ≤ 65535) ⌝ }
-    ensures { λ r. ⌜ Puts (cutLines mark width (linesBytes (attributeLines (lentOf [] (now (cells .entry)) (now (points .entry))) (lineAttributes cell (pairsOfType (attributeOf at (payloadAt (now (model .entry)) at) .optional) (attributeOf at (payloadAt (now (model .entry)) at) .type)))))) n (now (out .entry)) (now (out .exit)) r ⌝ }
+    ensures { λ r. ⌜ (let attribute = attributeOf at (payloadAt (now (model .entry)) at) in
+        let pairs = pairsOfType (attribute .optional) (attribute .type) in
+        let c = lentOf [] (now (cells .entry)) (now (points .entry)) in
+        let lines = attributeLines c (lineAttributes cell pairs) in
+        Puts (cutLines mark width (linesBytes lines)) n (now (out .entry)) (now (out .exit)) r) ⌝ }
 {
     let attribute = model_records::attribute_at(model, at);
     if attribute.kind != 8 {
@@ -322,7 +352,7 @@ fn put_line_at(
 }
 
 // The lines of a row's line attributes.
-pub fn put_attribute_lines(
+fn put_attribute_lines(
     model: &[u8],
     first: usize,
     mark: u8,
@@ -335,14 +365,16 @@ pub fn put_attribute_lines(
 ) -> Put
     requires { ⌜ AttributesHere (modelAt (now model)) (now model) first ⌝ }
     requires { ⌜ (n ≤ length (now out)) × (16 ≤ width) × (width ≤ 65535) ⌝ }
-    ensures { λ r. ⌜ Puts (cutLines mark width (linesBytes (attributeLines (lentOf [] (now (cells .entry)) (now (points .entry))) (lineAttributes (row + 3) (pairsAt (now (model .entry)) first))))) n (now (out .entry)) (now (out .exit)) r ⌝ }
+    ensures { λ r. ⌜ (let c = lentOf [] (now (cells .entry)) (now (points .entry)) in
+        let lines = attributeLines c (lineAttributes (row + 3) (pairsAt (now (model .entry)) first)) in
+        Puts (cutLines mark width (linesBytes lines)) n (now (out .entry)) (now (out .exit)) r) ⌝ }
 {
     let mut at = first;
     let mut cell = least_of(row, cells.len()) + 3;
     let mut end = n;
     loop {
         let kind = model_records::kind_at(model, at);
-        if kind != 5 {
+        if kind != ATTRIBUTE {
             return Put::At(end);
         }
         let put = put_line_at(model, mark, width, cells, points, at, cell, out, end);
@@ -377,7 +409,12 @@ pub fn put_object(
     requires { ⌜ AttributesHere (modelAt (now model)) (now model) first ⌝ }
     requires { ⌜ undefined ≡ modelAt (now model) .undefined ⌝ }
     requires { ⌜ (n ≤ length (now out)) × (16 ≤ width) × (width ≤ 65535) ⌝ }
-    ensures { λ r. ⌜ ((marks : List ℕ) → Puts (cutLines mark width (linesBytes (objectLines (modelAt (now (model .entry))) (now (text .entry)) (record { marks = marks; rows = now (rows .entry); cells = now (cells .entry); points = now (points .entry) }) (pairsAt (now (model .entry)) first) row))) n (now (out .entry)) (now (out .exit)) r) ⌝ }
+    ensures { λ r. ⌜ ((marks : List ℕ) →
+        let b = now (model .entry) in
+        let ps = now (points .entry) in
+        let c : Content = record { marks = marks; rows = now (rows .entry); cells = now (cells .entry); points = ps } in
+        let lines = objectLines (modelAt b) (now (text .entry)) c (pairsAt b first) row in
+        Puts (cutLines mark width (linesBytes lines)) n (now (out .entry)) (now (out .exit)) r) ⌝ }
 {
     match put_object_line(
         model,

@@ -1,8 +1,11 @@
 -- `write_file::behind_topic` meets its contract. Assumes nothing.
 use Prim.Native.Nat.{ℕ, _-_}
 use mathlib.Core.Path.{sym, ap, _∙_}
-use lib.ListN.{length, getD}
-use denote.Ref.{now}
+use mathlib.Core.List.{List}
+use lib.ListN.{length}
+use Rattle.meaning.specs.Model.{tableAt}
+use Rattle.model_records.specs.Records.{modelAt}
+use Rattle.model_records.specs.Places.{Placed}
 use Rattle.write_file.proofs.Topics.{TopicRun, topic-start, topic-on, topic-stop, topic-end}
 use borrow.Author.Needs.{needs}
 use native.Mathlib.Omega.{arith}
@@ -10,14 +13,14 @@ use Rattle.write_file.proofs.file.behind_topic.Statement.{statement}
 use Rattle.write_file.proofs.file.behind_topic.Tie as tie
 
 abbrev Inv-loop : tie.InvT-loop
-Inv-loop tables rows cells p row i₀ i =
-    TopicRun tables p cells rows row i
+Inv-loop places shape rows cells p row i₀ i =
+    (b : List ℕ) → Placed b shape places → TopicRun (modelAt b .tables) p cells rows row i
 
 abbrev μ-loop : tie.MeasureT-loop
-μ-loop tables rows cells p row i₀ i = length rows - i
+μ-loop places shape rows cells p row i₀ i = length rows - i
 
 loop-holds : tie.Need-loop-holds Inv-loop μ-loop
-loop-holds c = topic-start _ _ _ _ _ (c .before .before .pre)
+loop-holds c = λ b h. topic-start _ _ _ _ _ (c .before .before .pre .1)
 
 mul-size-at : tie.Need-mul-size-at Inv-loop μ-loop
 mul-size-at c = omega arith
@@ -28,13 +31,15 @@ shared-slice-read-size-at c = omega arith
 size-at-requires : tie.Need-size-at-requires Inv-loop μ-loop
 size-at-requires c κs = search needs
 
-topic-of-requires : tie.Need-topic-of-requires Inv-loop μ-loop
-topic-of-requires c κs = search needs
+owner-of-requires : tie.Need-owner-of-requires Inv-loop μ-loop
+owner-of-requires c κs = c .before .before .before .before .before .before .pre .0
 
 returns : tie.Need-returns Inv-loop μ-loop
-returns c = let a = c .before .before .before .before .before .before .before .before .args in
-    let k = c .before .topic-of .ensures ∙ ap (λ (t : ℕ). getD (now (a .tables)) t 0) (c .before .before .size-at .ensures) in
-    topic-stop _ _ _ _ _ _ (c .before .before .before .before .before .loop .inv) (c .before .before .before .before .loop-test .taken) (λ e. c .if1 .taken (k ∙ e))
+returns c =
+    let l = c .before .before .before .before .before .loop in
+    λ b h.
+    let k = c .before .owner-of .ensures b h ∙ ap (λ (t : ℕ). tableAt (modelAt b .tables) t .topic) (c .before .before .size-at .ensures) in
+    topic-stop _ _ _ _ _ _ (l .inv b h) (c .before .before .before .before .loop-test .taken) (λ e. c .if1 .taken (k ∙ e))
 
 add-i : tie.Need-add-i Inv-loop μ-loop
 add-i c = omega arith
@@ -43,12 +48,14 @@ loop-less : tie.Need-loop-less Inv-loop μ-loop
 loop-less c = omega arith
 
 loop-again : tie.Need-loop-again Inv-loop μ-loop
-loop-again c = let a = c .before .before .before .before .before .before .before .before .args in
-    let k = c .before .topic-of .ensures ∙ ap (λ (t : ℕ). getD (now (a .tables)) t 0) (c .before .before .size-at .ensures) in
-    topic-on _ _ _ _ _ _ (c .before .before .before .before .before .loop .inv) (c .before .before .before .before .loop-test .taken) (sym k ∙ c .if1 .left)
+loop-again c =
+    let l = c .before .before .before .before .before .loop in
+    λ b h.
+    let k = c .before .owner-of .ensures b h ∙ ap (λ (t : ℕ). tableAt (modelAt b .tables) t .topic) (c .before .before .size-at .ensures) in
+    topic-on _ _ _ _ _ _ (l .inv b h) (c .before .before .before .before .loop-test .taken) (sym k ∙ c .if1 .left)
 
 returns-2 : tie.Need-returns-2 Inv-loop μ-loop
-returns-2 c = topic-end _ _ _ _ _ _ (c .before .loop .inv) (c .loop-test .left)
+returns-2 c = λ b h. topic-end _ _ _ _ _ _ (c .before .loop .inv b h) (c .loop-test .left)
 
 pub behind-topic-spec : {M : Type 1} → statement M
 behind-topic-spec =
@@ -60,7 +67,7 @@ behind-topic-spec =
     mul-size-at
     shared-slice-read-size-at
     size-at-requires
-    topic-of-requires
+    owner-of-requires
     returns
     add-i
     loop-less

@@ -76,9 +76,9 @@ returns c = let a = c .before .before .before .before .before .before .before .b
     let y = c .before .before .before .before .before .before .before .before .before .before .before .before .before .before .before .before .before .before .before .before .before .before .next-at2 .ensures ∙ ap (λ (z : ℕ). nextAt b z) x in
     let t = ap (λ (z : ℕ). take (z - 7) (drop 7 b)) x ∙ payload-part b 0 3 7 (omega arith) ∙ q .0 .transfer in
     let n = ap (λ (z : ℕ). take (z - (c .before .before .before .before .before .before .before .before .before .before .before .before .before .before .before .before .before .before .before .before .before .before .before .next-at .result + 4)) (drop (c .before .before .before .before .before .before .before .before .before .before .before .before .before .before .before .before .before .before .before .before .before .before .before .next-at .result + 4) b)) y ∙ ap (λ (z : ℕ). take (nextAt b (nextAt b 0) - (z + 4)) (drop (z + 4) b)) x ∙ payload-part b (nextAt b 0) 0 (nextAt b 0 + 4) (omega arith) ∙ q .0 .name in
-    lines-then (a .manner .mark) (a .manner .width) ((SCNT ∷ []) ∷ []) ((slashes ∷ []) ∷ (MTID ∷ m .transfer ∷ []) ∷ (MODL ∷ m .name ∷ []) ∷ []) (c .before .before .before .before .before .before .before .before .before .before .before .before .before .before .before .before .before .before .before .then-alone .ensures)
-    (lines-then (a .manner .mark) (a .manner .width) ((slashes ∷ []) ∷ []) ((MTID ∷ m .transfer ∷ []) ∷ (MODL ∷ m .name ∷ []) ∷ []) (c .before .before .before .before .before .before .before .before .before .before .before .before .before .before .then-alone2 .ensures)
-    (lines-then (a .manner .mark) (a .manner .width) ((MTID ∷ m .transfer ∷ []) ∷ []) ((MODL ∷ m .name ∷ []) ∷ []) (rw t at (c .before .before .before .before .before .before .before .before .then-named .ensures)) (rw n at (c .before .before .then-named2 .ensures))))
+    lines-then (a .style .mark) (a .style .width) ((SCNT ∷ []) ∷ []) ((slashes ∷ []) ∷ (MTID ∷ m .transfer ∷ []) ∷ (MODL ∷ m .name ∷ []) ∷ []) (c .before .before .before .before .before .before .before .before .before .before .before .before .before .before .before .before .before .before .before .then-alone .ensures)
+    (lines-then (a .style .mark) (a .style .width) ((slashes ∷ []) ∷ []) ((MTID ∷ m .transfer ∷ []) ∷ (MODL ∷ m .name ∷ []) ∷ []) (c .before .before .before .before .before .before .before .before .before .before .before .before .before .before .then-alone2 .ensures)
+    (lines-then (a .style .mark) (a .style .width) ((MTID ∷ m .transfer ∷ []) ∷ []) ((MODL ∷ m .name ∷ []) ∷ []) (rw t at (c .before .before .before .before .before .before .before .before .then-named .ensures)) (rw n at (c .before .before .then-named2 .ensures))))
 
 pub then-head-spec : {M : Type 1} → statement M
 then-head-spec =

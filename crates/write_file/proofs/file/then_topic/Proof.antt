@@ -1,59 +1,58 @@
 -- `write_file::then_topic` meets its contract. Assumes nothing.
-use Prim.Native.Nat.{ℕ, _+_, _-_}
-use mathlib.Core.Path.{ap, _∙_}
-use lib.ListN.{take, drop}
-use denote.Ref.{now}
-use Rattle.model_records.proofs.Types.{payload-part}
 use Rattle.write_file.proofs.Follows.{framed}
+use Rattle.write_file.proofs.Topics.{topic-room, topic-part, topic-name}
 use borrow.Author.Needs.{needs}
 use native.Mathlib.Omega.{arith}
 use Rattle.write_file.proofs.file.then_topic.Statement.{statement}
 use Rattle.write_file.proofs.file.then_topic.Tie as tie
 
+topic-at-requires : tie.Need-topic-at-requires
+topic-at-requires c κs = search needs
+
 next-at-requires : tie.Need-next-at-requires
-next-at-requires c κs = c .before .before .before .before .before .pre .0 .room
+next-at-requires c κs = let q = c .before .before .before .before .before .before .before .pre in topic-room _ _ _ (q .0) (c .before .before .before .before .before .before .before .args .p) (q .1 .1 .0) _ (c .topic-at .ensures)
 
 slice-aggregate-then-named : tie.Need-slice-aggregate-then-named
 slice-aggregate-then-named c = search needs
 
 add-then-named : tie.Need-add-then-named
-add-then-named c = let q = c .before .before .before .before .before .before .before .pre in omega (arith, q .0 .room)
+add-then-named c = let q = c .before .before .before .before .before .before .before .before .before .pre in omega (arith, topic-part _ _ _ (q .0) (c .before .before .before .before .before .before .before .before .before .args .p) (q .1 .1 .0) _ (c .before .before .topic-at .ensures) _ (c .before .next-at .ensures))
 
 sub-then-named : tie.Need-sub-then-named
-sub-then-named c = let q = c .before .before .before .before .before .before .before .pre in omega (arith, q .0 .fits, c .before .next-at .ensures)
+sub-then-named c = let q = c .before .before .before .before .before .before .before .before .before .pre in topic-part _ _ _ (q .0) (c .before .before .before .before .before .before .before .before .before .args .p) (q .1 .1 .0) _ (c .before .before .topic-at .ensures) _ (c .before .next-at .ensures) .0
 
 part-then-named-start : tie.Need-part-then-named-start
-part-then-named-start c = let q = c .before .before .before .before .before .before .before .pre in omega (arith, q .0 .fits, c .before .next-at .ensures)
+part-then-named-start c = let q = c .before .before .before .before .before .before .before .before .before .pre in omega (arith, topic-part _ _ _ (q .0) (c .before .before .before .before .before .before .before .before .before .args .p) (q .1 .1 .0) _ (c .before .before .topic-at .ensures) _ (c .before .next-at .ensures))
 
 part-then-named-end : tie.Need-part-then-named-end
-part-then-named-end c = let q = c .before .before .before .before .before .before .before .pre in omega (arith, q .0 .fits, c .before .next-at .ensures)
+part-then-named-end c = let q = c .before .before .before .before .before .before .before .before .before .pre in omega (arith, topic-part _ _ _ (q .0) (c .before .before .before .before .before .before .before .before .before .args .p) (q .1 .1 .0) _ (c .before .before .topic-at .ensures) _ (c .before .next-at .ensures))
 
 then-named-requires : tie.Need-then-named-requires
-then-named-requires c κs = let q = c .before .before .before .before .before .before .before .before .before .pre in (q .1 .1 .1 .0 .least, q .1 .1 .1 .0 .most)
+then-named-requires c κs = let q = c .before .before .before .before .before .before .before .before .before .before .before .pre in (q .1 .0 .least, q .1 .0 .most)
 
 then-tables-requires : tie.Need-then-tables-requires
-then-tables-requires c κs = let q = c .before .before .before .before .before .before .before .before .before .before .before .before .before .pre in q .1
+then-tables-requires c κs = let q = c .before .before .before .before .before .before .before .before .before .before .before .before .before .before .before .pre in (q .0, (q .1 .0, q .1 .1 .1))
 
 slice-aggregate-then-alone : tie.Need-slice-aggregate-then-alone
 slice-aggregate-then-alone c = search needs
 
 then-alone-requires : tie.Need-then-alone-requires
-then-alone-requires c κs = let q = c .before .before .before .before .before .before .before .before .before .before .before .before .before .before .before .before .before .before .pre in (q .1 .1 .1 .0 .least, q .1 .1 .1 .0 .most)
+then-alone-requires c κs = let q = c .before .before .before .before .before .before .before .before .before .before .before .before .before .before .before .before .before .before .before .before .pre in (q .1 .0 .least, q .1 .0 .most)
 
 same-length : tie.Need-same-length
 same-length c = search needs
 
 returns : tie.Need-returns
-returns c = let a = c .before .before .before .before .before .before .before .before .before .before .before .before .before .before .before .before .before .before .before .before .before .args in
-    let b = now (a .model) in
-    let x = c .before .before .before .before .before .before .before .before .before .before .before .before .before .before .before .next-at .ensures in
-    let n = ap (λ (y : ℕ). take (y - (a .at + 4)) (drop (a .at + 4) b)) x ∙ payload-part b (a .at) 0 (a .at + 4) (omega arith) in
-    framed (a .manner .mark) (a .manner .width) _ _ _ (rw n at (c .before .before .before .before .before .before .before .before .before .before .before .then-named .ensures)) (c .before .before .before .before .before .before .before .then-tables .ensures) (c .before .before .then-alone .ensures)
+returns c = let a = c .before .before .before .before .before .before .before .before .before .before .before .before .before .before .before .before .before .before .before .before .before .before .before .args in
+    let q = c .before .before .before .before .before .before .before .before .before .before .before .before .before .before .before .before .before .before .before .before .before .before .before .pre in
+    let n = topic-name _ _ _ (q .0) (c .before .before .before .before .before .before .before .before .before .before .before .before .before .before .before .before .before .before .before .before .before .before .before .args .p) (q .1 .1 .0) _ (c .before .before .before .before .before .before .before .before .before .before .before .before .before .before .before .before .topic-at .ensures) _ (c .before .before .before .before .before .before .before .before .before .before .before .before .before .before .before .next-at .ensures) in
+    framed (a .style .mark) (a .style .width) _ _ _ (rw n at (c .before .before .before .before .before .before .before .before .before .before .before .then-named .ensures)) (c .before .before .before .before .before .before .before .then-tables .ensures) (c .before .before .then-alone .ensures)
 
 pub then-topic-spec : {M : Type 1} → statement M
 then-topic-spec =
     tie.close
     (tie.spec
+    topic-at-requires
     next-at-requires
     slice-aggregate-then-named
     add-then-named

@@ -1,12 +1,9 @@
 -- `write_file::then_topics` meets its contract. Assumes nothing.
 use Prim.Native.Nat.{_-_, _≤_}
-use mathlib.Core.Path.{sym, _∙_}
 use lib.ListN.{length, drop}
 use denote.Ref.{now}
 use Rattle.meaning.specs.Writing.{topicLines}
 use Rattle.model_records.specs.Records.{modelAt}
-use Rattle.model_records.specs.Standing.{Standing}
-use Rattle.model_records.proofs.Standing.{here}
 use Rattle.write_file.specs.Follows.{cutOf}
 use Rattle.write_file.specs.Walks.{contentIn}
 use Rattle.write_file.proofs.Follows.{Going, going-start, going-on, going-end}
@@ -16,44 +13,40 @@ use Rattle.write_file.proofs.file.then_topics.Statement.{statement}
 use Rattle.write_file.proofs.file.then_topics.Tie as tie
 
 abbrev Inv-loop : tie.InvT-loop
-Inv-loop model first topics tables text manner marks rows cells points out₀ all₀ row₀ here₀ out all row here =
-    Standing (modelAt model) model (here .at) (here .topics) (here .tables) × (row ≤ length rows)
-    × Going (cutOf manner (topicLines (modelAt model) text (contentIn marks rows cells points) 0 (modelAt model .topics) rows)) all₀ out₀ (cutOf manner (topicLines (modelAt model) text (contentIn marks rows cells points) (here .topics) (drop (here .topics) (modelAt model .topics)) (drop row rows))) all out
+Inv-loop model places shape text style marks rows cells points out₀ all₀ row₀ p₀ out all row p =
+    let m = modelAt model in
+    let c = contentIn marks rows cells points in
+    (row ≤ length rows)
+    × Going (cutOf style (topicLines m text c 0 (m .topics) rows)) all₀ out₀ (cutOf style (topicLines m text c p (drop p (m .topics)) (drop row rows))) all out
 
 abbrev μ-loop : tie.MeasureT-loop
-μ-loop model first topics tables text manner marks rows cells points out₀ all₀ row₀ here₀ out all row here = length model - here .at
+μ-loop model places shape text style marks rows cells points out₀ all₀ row₀ p₀ out all row p = shape .topics - p
 
 loop-holds : tie.Need-loop-holds Inv-loop μ-loop
-loop-holds c = let q = c .before .before .before .before .before .before .pre in (q .0, omega arith, going-start _ _ _)
+loop-holds c = (omega arith, going-start _ _ _)
 
-kind-at-requires : tie.Need-kind-at-requires Inv-loop μ-loop
-kind-at-requires c κs = here _ _ _ _ _ (c .loop .inv .0) .room
+pass-topic-requires : tie.Need-pass-topic-requires Inv-loop μ-loop
+pass-topic-requires c κs = let q = c .before .before .before .before .before .before .before .before .before .before .pre in (q .0, (q .1, (c .before .if1 .taken, c .before .before .before .loop .inv .0)))
+
+add-p : tie.Need-add-p Inv-loop μ-loop
+add-p c = omega (arith, c .before .before .before .before .if1 .taken, c .before .before .before .before .before .before .before .before .before .before .before .before .before .pre .0 .topicLimit)
+
+loop-less : tie.Need-loop-less Inv-loop μ-loop
+loop-less c = omega (arith, c .before .before .before .before .if1 .taken)
+
+loop-again : tie.Need-loop-again Inv-loop μ-loop
+loop-again c = let a = c .before .before .before .before .before .before .before .before .before .before .before .before .before .args in
+    let l = c .before .before .before .before .before .before .loop in
+    let w = c .before .before .pass-topic in
+    (w .ensures .within, going-on (l .inv .1) _ _ (topics-on (modelAt (now (a .model))) (now (a .text)) (contentIn (now (a .marks)) (now (a .rows)) (now (a .cells)) (now (a .points))) (a .style) (l .p) (l .row) _ _ _ (w .result) (w .ensures)) (w .ensures .put) (w .kept .1 .1 .1 .1 .1 .1 .1 .1 .1 .1 .1 .1 .0))
 
 same-length : tie.Need-same-length Inv-loop μ-loop
-same-length c = c .before .before .loop .inv .2 .size
+same-length c = c .before .before .loop .inv .1 .size
 
 returns : tie.Need-returns Inv-loop μ-loop
 returns c = let a = c .before .before .before .before .before .before .before .before .before .args in
-    let i = c .before .before .loop .inv in
-    going-end (i .2) (topics-end (a .manner .mark) (a .manner .width) (modelAt (now (a .model))) (now (a .model)) (now (a .text)) (contentIn (now (a .marks)) (now (a .rows)) (now (a .cells)) (now (a .points))) _ _ _ _ (i .0) (sym (c .before .kind-at .ensures) ∙ c .if1 .taken))
-
-pass-topic-requires : tie.Need-pass-topic-requires Inv-loop μ-loop
-pass-topic-requires c κs = let i = c .before .before .before .loop .inv in
-    let q = c .before .before .before .before .before .before .before .before .before .before .pre in
-    (q .0, (i .0, (q .1 .0, (q .1 .1 .0, (q .1 .1 .1, i .1)))))
-
-pass-record-requires : tie.Need-pass-record-requires Inv-loop μ-loop
-pass-record-requires c κs = (c .before .before .before .before .before .before .loop .inv .0, λ e. c .before .before .before .before .if1 .left (c .before .before .before .before .before .kind-at .ensures ∙ e))
-
-loop-less : tie.Need-loop-less Inv-loop μ-loop
-loop-less c = omega (arith, c .pass-record .ensures .at, here _ _ _ _ _ (c .before .before .before .before .before .before .before .loop .inv .0) .room)
-
-loop-again : tie.Need-loop-again Inv-loop μ-loop
-loop-again c = let a = c .before .before .before .before .before .before .before .before .before .before .before .before .before .before .args in
-    let l = c .before .before .before .before .before .before .before .loop in
-    let t = c .before .before .before .pass-topic in
-    let n = c .pass-record in
-    (n .ensures .standing, t .ensures .within, going-on (l .inv .2) _ _ (topics-on (modelAt (now (a .model))) (now (a .model)) (now (a .text)) (contentIn (now (a .marks)) (now (a .rows)) (now (a .cells)) (now (a .points))) (a .manner) (l .here) (l .row) _ _ _ (t .result) (n .result) (t .ensures) (n .ensures)) (t .ensures .put) (t .kept .1 .1 .1 .1 .1 .1 .1 .1 .1 .1 .1 .1 .1 .0))
+    let l = c .before .before .loop in
+    going-end (l .inv .1) (topics-end (modelAt (now (a .model))) (now (a .text)) (contentIn (now (a .marks)) (now (a .rows)) (now (a .cells)) (now (a .points))) (a .style) (l .p) _ (omega (arith, c .if1 .left, c .before .before .before .before .before .before .before .before .before .pre .0 .topics)))
 
 pub then-topics-spec : {M : Type 1} → statement M
 then-topics-spec =
@@ -62,10 +55,9 @@ then-topics-spec =
     Inv-loop
     μ-loop
     loop-holds
-    kind-at-requires
-    same-length
-    returns
     pass-topic-requires
-    pass-record-requires
+    add-p
     loop-less
-    loop-again)
+    loop-again
+    same-length
+    returns)

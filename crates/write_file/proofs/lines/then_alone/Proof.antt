@@ -26,7 +26,7 @@ same-length c = search needs
 
 returns-3 : tie.Need-returns-3
 returns-3 c = let a = c .before .before .before .before .before .before .before .before .before .before .args in
-    follows-as _ _ (alone-line (a .manner .mark) (a .manner .width) (now (a .code))) (follows-at _ _ (c .before .before .before .before .before .before .put .given .1) (c .before .before .put-alone .ensures))
+    follows-as _ _ (alone-line (a .style .mark) (a .style .width) (now (a .code))) (follows-at _ _ (c .before .before .before .before .before .before .put .given .1) (c .before .before .put-alone .ensures))
 
 pub then-alone-spec : {M : Type 1} → statement M
 then-alone-spec =

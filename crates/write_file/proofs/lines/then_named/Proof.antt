@@ -26,7 +26,7 @@ same-length c = search needs
 
 returns-3 : tie.Need-returns-3
 returns-3 c = let a = c .before .before .before .before .before .before .before .before .before .before .before .args in
-    follows-as _ _ (named-line (a .manner .mark) (a .manner .width) (now (a .code)) (now (a .name))) (follows-at _ _ (c .before .before .before .before .before .before .put .given .1) (c .before .before .put-named .ensures))
+    follows-as _ _ (named-line (a .style .mark) (a .style .width) (now (a .code)) (now (a .name))) (follows-at _ _ (c .before .before .before .before .before .before .put .given .1) (c .before .before .put-named .ensures))
 
 pub then-named-spec : {M : Type 1} → statement M
 then-named-spec =
