@@ -3,7 +3,7 @@ ghost use mathlib.Core.Path.{_≡_};
 ghost use lib.ListN.{length, replicate};
 ghost use Rattle.meaning.specs.Answer.{codeForC};
 ghost use Rattle.meaning.specs.Width as writes;
-ghost use Rattle.write_judge.specs.Tables.{lentOf};
+ghost use Rattle.meaning.specs.Writing.{lentOf};
 ghost use Rattle.meaning.specs.Answer.{numbersIn};
 use c_answers::writing;
 

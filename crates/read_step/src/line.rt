@@ -219,8 +219,6 @@ pub fn step_line(
             u,
             s,
         ),
-        Due::Frame(frame) => {
-            frame_line(model, places, shape, &text[at..end], marks, frame, s)
-        }
+        Due::Frame(frame) => { frame_line(model, places, shape, &text[at..end], marks, frame, s) }
     }
 }

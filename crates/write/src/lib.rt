@@ -2,7 +2,7 @@
 ghost use mathlib.Core.Path.{_≡_};
 ghost use lib.ListN.{length, replicate};
 ghost use Rattle.meaning.specs.Width as meaning;
-ghost use Rattle.write_judge.specs.Tables.{lentOf};
+ghost use Rattle.meaning.specs.Writing.{lentOf};
 ghost use Rattle.write.specs.Answers.{answerOf};
 use model_check::check::Checked;
 

@@ -8,7 +8,7 @@ ghost use Rattle.meaning.specs.Writing.{contentOf, linesOf};
 ghost use Rattle.meaning.specs.Width.{cutLines, writeChecked};
 ghost use Rattle.model_records.specs.Records.{modelAt, nextAt};
 ghost use Rattle.model_records.specs.Standing.{Beginning};
-ghost use Rattle.write_judge.specs.Tables.{lentOf};
+ghost use Rattle.meaning.specs.Writing.{lentOf};
 ghost use Rattle.write_file.specs.Follows.{Fit};
 ghost use Rattle.write_file.specs.Walks.{contentIn, Counted};
 ghost use Rattle.write.specs.Answers.{answerOf, refusalOf, Fitting, Limited, Inside, settledOf};

@@ -20,7 +20,8 @@ use Rattle.model_records.specs.Places.{Placed}
 use Rattle.model_records.specs.declared.places.Shape.{Shape}
 use Rattle.write_judge.specs.Marks.{Judging}
 use Rattle.write_judge.specs.Meant.{contentFrom}
-use Rattle.write_judge.specs.Tables.{lentOf, judgeUsed}
+use Rattle.write_judge.specs.Tables.{judgeUsed}
+use Rattle.meaning.specs.Writing.{lentOf}
 
 -- ## Counts
 

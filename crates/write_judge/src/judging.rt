@@ -9,11 +9,13 @@ ghost use Rattle.model_records.specs.Records.{modelAt};
 ghost use Rattle.model_records.specs.Places.{Placed};
 ghost use Rattle.write_judge.specs.Marks.{Judging};
 ghost use Rattle.write_judge.specs.Meant.{contentFrom};
-ghost use Rattle.write_judge.specs.Tables.{lentOf, judgeUsed};
+ghost use Rattle.write_judge.specs.Tables.{judgeUsed};
+ghost use Rattle.meaning.specs.Writing.{lentOf};
 use crate::marks;
 use crate::rows;
 use base::bools;
 use model_records::places::Shape;
+use table::Used;
 
 // "A count above a lent length .. is 19": counts beside lengths; a point is four cells.
 fn counts_fit(
@@ -82,31 +84,31 @@ pub fn judge(
     rows: &[u64],
     cells: &[i64],
     points: &[i64],
-    objects: usize,
-    cells_used: usize,
-    points_used: usize,
+    used: Used,
     index: &mut [u64],
     seed: u64,
 ) -> bool
     requires { ⌜ Placed (now model) shape (now places) ⌝ }
     ensures { λ r. ⌜ r ≡ meaning.judge (modelAt (now (model .entry)))
         (lentOf (now (text .entry)) (now (marks .entry)) (now (rows .entry)) (now (cells .entry)) (now (points .entry))
-        objects «cells_used» «points_used») ⌝ }
+        (used .objects) (used .cells) (used .points)) ⌝ }
 {
     let count = shape.topics + shape.tables;
     if !counts_fit(
         count,
         marks.len(),
-        objects,
+        used.objects,
         rows.len(),
-        cells_used,
+        used.cells,
         cells.len(),
-        points_used,
+        used.points,
         points.len(),
     ) {
         return false;
     }
-    let end = 4 * points_used;
+    let objects = used.objects;
+    let filled = used.cells;
+    let end = 4 * used.points;
     judge_used(
         model,
         places,
@@ -114,7 +116,7 @@ pub fn judge(
         text,
         &marks[..count],
         &rows[..objects],
-        &cells[..cells_used],
+        &cells[..filled],
         &points[..end],
         index,
         seed,

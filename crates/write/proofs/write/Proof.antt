@@ -5,7 +5,7 @@ use mathlib.Core.Path.{sym, ap, _∙_}
 use lib.ListN.{length, replicate}
 use Rattle.meaning.specs.Width.{Written}
 use Rattle.model_check.specs.Walk.{checkedMeant}
-use Rattle.write_judge.specs.Tables.{lentOf}
+use Rattle.meaning.specs.Writing.{lentOf}
 use Rattle.model_check.proofs.Found.{found-good}
 use Rattle.write.proofs.Calls.{under-bad, under-good}
 use borrow.Author.Needs.{needs}

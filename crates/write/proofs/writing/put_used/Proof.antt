@@ -6,7 +6,7 @@ use lib.Seq.{length-take-le}
 use Rattle.meaning.proofs.Model.GoodModels.{checked-good}
 use Rattle.model_records.specs.Records.{modelAt}
 use Rattle.model_records.proofs.Standing.{beginning, start}
-use Rattle.write_judge.specs.Tables.{lentOf}
+use Rattle.meaning.specs.Writing.{lentOf}
 use Rattle.write.proofs.Calls.{used-file, limited-as}
 use borrow.Author.Needs.{needs}
 use native.Mathlib.Omega.{arith}

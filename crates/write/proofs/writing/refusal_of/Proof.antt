@@ -3,7 +3,7 @@ use denote.Ref.{now}
 use mathlib.Core.Path.{sym, _∙_}
 use Rattle.meaning.proofs.Judge.Exactly.{judged-exactly}
 use Rattle.model_records.specs.Records.{modelAt}
-use Rattle.write_judge.specs.Tables.{lentOf}
+use Rattle.meaning.specs.Writing.{lentOf}
 use Rattle.write.proofs.Calls.{too-narrow, too-wide, not-table, a-table}
 use borrow.Author.Needs.{needs}
 use Rattle.write.proofs.writing.refusal_of.Statement.{statement}

@@ -4,7 +4,7 @@ use mathlib.Core.Path.{sym, ap, _∙_}
 use lib.ListN.{length}
 use Rattle.meaning.specs.Width.{Written}
 use Rattle.model_records.specs.Records.{modelAt}
-use Rattle.write_judge.specs.Tables.{lentOf}
+use Rattle.meaning.specs.Writing.{lentOf}
 use Rattle.write.proofs.Calls.{refused-with, width-fits, counts-fit, written-with, limited-inside, settled}
 use borrow.Author.Needs.{needs}
 use Rattle.write.proofs.writing.write_under.Statement.{statement}
