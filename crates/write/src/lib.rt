@@ -5,6 +5,8 @@ ghost use Rattle.meaning.specs.Width as meaning;
 ghost use Rattle.meaning.specs.Writing.{lentOf};
 ghost use Rattle.write.specs.Answers.{answerOf};
 use model_check::check::Checked;
+use model_records::places;
+use table::Used;
 
 pub mod writing;
 
@@ -14,7 +16,8 @@ pub enum Answer {
     Refused(u8, usize),
 }
 
-// Writes a lent table under a model, at a width, into a room; "In writing: 2, 20, 19, 21". The index is working room and comes back as zeros.
+// Writes a lent table under a model, at a width, into a room; "In writing: 2, 20, 19, 21". The index is working room
+// and comes back as zeros.
 pub fn write(
     model: &[u8],
     text: &[u8],
@@ -46,16 +49,23 @@ pub fn write(
             writing::refuse(2, at, out)
         }
         Checked::Good(_) => {
+            let mut noted: [usize; 1088] = [0; 1088];
+            let shape = places::place_records(model, &mut noted);
+            let used = Used {
+                objects,
+                cells: cells_used,
+                points: points_used,
+            };
             let answer = writing::write_under(
                 model,
+                &noted,
+                shape,
                 text,
                 marks,
                 rows,
                 cells,
                 points,
-                objects,
-                cells_used,
-                points_used,
+                used,
                 width,
                 out,
                 index,

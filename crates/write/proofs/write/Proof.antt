@@ -1,7 +1,7 @@
 -- `write::write` meets its contract. Assumes nothing.
 use Prim.Native.Nat.{ℕ}
 use denote.Ref.{now}
-use mathlib.Core.Path.{sym, ap, _∙_}
+use mathlib.Core.Path.{refl, sym, ap, _∙_}
 use lib.ListN.{length, replicate}
 use Rattle.meaning.specs.Width.{Written}
 use Rattle.model_check.specs.Walk.{checkedMeant}
@@ -27,9 +27,20 @@ refuse-requires c κs = search needs
 enum-told : tie.Need-enum-told
 enum-told c = search needs
 
-write-under-requires : tie.Need-write-under-requires
+slice-aggregate-place-records : tie.Need-slice-aggregate-place-records
+slice-aggregate-place-records c = search needs
+
+place-records-requires : tie.Need-place-records-requires
 unfolding checkedMeant
-write-under-requires c κs = found-good (now (c .before .before .before .before .before .before .before .before .before .before .before .args .model)) _ (sym (ap checkedMeant (c .before .before .enum-told .given .1)) ∙ c .before .before .before .before .check .ensures)
+place-records-requires c κs =
+    let b = now (c .before .before .before .before .before .before .before .before .before .before .args .model) in
+    (found-good b _ (sym (ap checkedMeant (c .before .enum-told .given .1)) ∙ c .before .before .before .check .ensures), refl)
+
+slice-aggregate-write-under : tie.Need-slice-aggregate-write-under
+slice-aggregate-write-under c = search needs
+
+write-under-requires : tie.Need-write-under-requires
+write-under-requires c κs = search needs
 
 clear-numbers-requires-2 : tie.Need-clear-numbers-requires-2
 clear-numbers-requires-2 c κs = search needs
@@ -55,10 +66,10 @@ same-length-4 c = search needs
 
 returns-2 : tie.Need-returns-2
 unfolding checkedMeant
-returns-2 c = let a = c .before .before .before .before .before .before .before .before .before .before .before .before .before .before .before .before .before .before .before .before .args in
+returns-2 c = let a = c .before .before .before .before .before .before .before .before .before .before .before .before .before .before .before .before .before .before .before .before .before .before .before .before .args in
     let t = lentOf (now (a .text)) (now (a .marks)) (now (a .rows)) (now (a .cells)) (now (a .points)) (a .objects) (a .cells-used) (a .points-used) in
     let w = c .before .before .before .before .before .before .before .before .write-under in
-    let g = found-good (now (a .model)) _ (sym (ap checkedMeant (c .before .before .before .before .before .before .before .before .before .before .before .enum-told .given .1)) ∙ c .before .before .before .before .before .before .before .before .before .before .before .before .before .check .ensures) in
+    let g = found-good (now (a .model)) _ (sym (ap checkedMeant (c .before .before .before .before .before .before .before .before .before .before .before .before .before .before .before .enum-told .given .1)) ∙ c .before .before .before .before .before .before .before .before .before .before .before .before .before .before .before .before .before .check .ensures) in
     let e = under-good (now (a .model)) t (a .width) (length (now (a .out))) g in
     (w .ensures .0 ∙ sym (ap (λ (x : Written). x .answer) e), (w .ensures .1 ∙ sym (ap (λ (x : Written). x .output) e), c .before .before .clear-numbers2 .ensures ∙ ap (λ (n : ℕ). replicate n 0) (w .kept .1 .1 .1 .1 .1 .1 .1 .1 .1 .1 .1 .0)))
 
@@ -71,6 +82,9 @@ write-spec =
     clear-numbers-requires
     refuse-requires
     enum-told
+    slice-aggregate-place-records
+    place-records-requires
+    slice-aggregate-write-under
     write-under-requires
     clear-numbers-requires-2
     same-length

@@ -15,16 +15,16 @@ slice-relend-prefix-put-file : tie.Need-slice-relend-prefix-put-file
 slice-relend-prefix-put-file c = omega (arith, c .least-of .ensures)
 
 slice-aggregate-put-file : tie.Need-slice-aggregate-put-file
-slice-aggregate-put-file c = sym (length-take-le (c .before .least-of .result) (now (c .before .before .before .before .before .before .before .args .out)) (omega (arith, c .before .least-of .ensures)))
+slice-aggregate-put-file c = sym (length-take-le (c .before .least-of .result) (now (c .before .before .before .before .before .before .before .before .args .out)) (omega (arith, c .before .least-of .ensures)))
 
 put-file-requires : tie.Need-put-file-requires
-put-file-requires c κs = c .before .before .before .before .before .before .before .pre
+put-file-requires c κs = search needs
 
 same-length : tie.Need-same-length
 same-length c = search needs
 
 returns : tie.Need-returns
-returns c = let a = c .before .before .before .before .before .before .before .before .before .before .args in
+returns c = let a = c .before .before .before .before .before .before .before .before .before .before .before .args in
     limited _ (now (a .out)) _ (c .before .before .before .before .least-of .result) (c .before .before .before .before .least-of .ensures) (c .before .before .put-file .result) (c .before .before .put-file .ensures)
 
 pub put-limited-spec : {M : Type 1} → statement M
