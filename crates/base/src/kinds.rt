@@ -14,7 +14,7 @@ pub fn is_permitted(b: u8) -> bool
 }
 
 // Space or tab.
-pub fn is_separator(b: u8) -> bool
+pub(crate) fn is_separator(b: u8) -> bool
     ensures { λ r. ⌜ r ≡ separator b ⌝ }
 {
     match b {
@@ -42,7 +42,7 @@ pub fn is_letter(b: u8) -> bool
 }
 
 // "bytes 21 to 7E, C0 to FF without D7 and F7"
-pub fn is_text_byte(b: u8) -> bool
+fn is_text_byte(b: u8) -> bool
     ensures { λ r. ⌜ r ≡ textByte b ⌝ }
 {
     match b {
@@ -69,18 +69,6 @@ pub fn every_permitted(l: &[u8]) -> bool
     let mut i = 0;
     while i < l.len() {
         all = bools::both(all, tests_permitted(l[i]));
-        i += 1;
-    }
-    all
-}
-
-pub fn every_digit(l: &[u8]) -> bool
-    ensures { λ r. ⌜ r ≡ every digit (now (l .entry)) ⌝ }
-{
-    let mut all = true;
-    let mut i = 0;
-    while i < l.len() {
-        all = bools::both(all, is_digit(l[i]));
         i += 1;
     }
     all

@@ -18,7 +18,7 @@ fn put(room: &mut [u64], i: usize, n: u64)
 }
 
 // Four numbers, or as many as the room has, and zeros behind.
-pub fn put_four(room: &mut [u64], a: u64, b: u64, c: u64, d: u64)
+pub(crate) fn put_four(room: &mut [u64], a: u64, b: u64, c: u64, d: u64)
     ensures { λ _. ⌜ now (room .exit)
         ≡ take (length (now (room .entry))) (filled 0 (length (now (room .entry))) (a ∷ b ∷ c ∷ d ∷ [])) ⌝ }
 {

@@ -13,7 +13,7 @@ fn print_number(n: usize, behind: &[u8]) {
     io::write_all(1, behind);
 }
 
-pub fn show_answer(number: usize, first: usize, second: usize, third: usize) {
+pub(crate) fn show_answer(number: usize, first: usize, second: usize, third: usize) {
     print_number(number, b" ");
     print_number(first, b" ");
     print_number(second, b" ");
@@ -61,7 +61,7 @@ fn show_table(rows: &[u64], cells: &[i64], points: &[i64])
     show_points(points, &mut out);
 }
 
-pub fn show(answer: Answer, rows: &[u64], cells: &[i64], points: &[i64])
+pub(crate) fn show(answer: Answer, rows: &[u64], cells: &[i64], points: &[i64])
     requires { ⌜ (length (now cells) < 8193) × (length (now points) < 8193) ⌝ }
 {
     match answer {

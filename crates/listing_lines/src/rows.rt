@@ -31,7 +31,7 @@ fn behind(i: usize, count: usize) -> u8
 }
 
 // A line of cells; out has room for 22 bytes each.
-pub fn put_row(values: &[i64], out: &mut [u8]) -> usize
+fn put_row(values: &[i64], out: &mut [u8]) -> usize
     requires { ⌜ 22 * length (now values) < length (now out) ⌝ }
     ensures few { λ r. ⌜ r ≤ length (now (out .exit)) ⌝ }
     ensures bytes { λ r. ⌜ take r (now (out .exit)) ≡ printRow (now (values .entry)) ⌝ }

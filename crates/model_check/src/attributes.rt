@@ -35,7 +35,7 @@ fn count_components(b: u8) -> usize
 }
 
 // Where the parameters of an attribute's type end in its payload, and its name begins.
-pub fn parameters_end(p: &[u8]) -> usize
+pub(crate) fn parameters_end(p: &[u8]) -> usize
     ensures { λ r. ⌜ r ≡ 2 + parametersSize (byteAt (now (p .entry)) 1) (drop 2 (now (p .entry))) ⌝ }
 {
     let t = numbers::byte_at(p, 1);
@@ -124,7 +124,7 @@ fn read_numbered(p: &[u8]) -> Attribute
 }
 
 // The attribute of a payload whose type is one of 1 to 8 and whose parameters are all there.
-pub fn read_attribute(p: &[u8]) -> Attribute
+fn read_attribute(p: &[u8]) -> Attribute
     requires { ⌜ Sized (now p) ⌝ }
     ensures { λ r. ⌜ Decoded (now (p .entry)) r ⌝ }
 {
@@ -167,7 +167,7 @@ fn is_line(forms: usize, rest: bool) -> bool
 }
 
 // Whether the parameters of a type keep their rules.
-pub fn is_good(a: Attribute) -> bool
+fn is_good(a: Attribute) -> bool
     requires { ⌜ a .components .count ≤ 3 ⌝ }
     requires { ⌜ length (a .components .items) ≡ 3 ⌝ }
     ensures { λ r. ⌜ r ≡ goodType (typeMeant a) ⌝ }
@@ -198,7 +198,7 @@ fn is_first(c: Components) -> bool
 }
 
 // "Types": whether the type's number and parameters keep their rules. The parameters are all there.
-pub fn is_type(p: &[u8]) -> bool
+fn is_type(p: &[u8]) -> bool
     requires { ⌜ 2 + parametersSize (byteAt (now p) 1) (drop 2 (now p)) ≤ length (now p) ⌝ }
     ensures { λ r. ⌜ r ≡ isType (byteAt (now (p .entry)) 1) (drop 2 (now (p .entry))) ⌝ }
 {
@@ -211,7 +211,7 @@ pub fn is_type(p: &[u8]) -> bool
 }
 
 // "5 attribute: optional (0 or 1), type, parameters, name of 1 to 24 bytes", "64 attributes in a table"
-pub fn keeps_attribute(model: &[u8], p: &[u8], seen: &[usize], count: usize) -> bool
+pub(crate) fn keeps_attribute(model: &[u8], p: &[u8], seen: &[usize], count: usize) -> bool
     requires { ⌜ count ≤ length (now seen) ⌝ }
     ensures { λ r. ⌜ r
         ≡ keepsAttribute (now (p .entry))

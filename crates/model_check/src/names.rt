@@ -14,7 +14,7 @@ use base::compare;
 use base::numbers;
 
 // Whether two names are equal: lengths first, then the last bytes, in which the names of a long list often differ.
-pub fn same_name(a: &[u8], b: &[u8]) -> bool
+fn same_name(a: &[u8], b: &[u8]) -> bool
     ensures { λ r. ⌜ r ≡ same (now (a .entry)) (now (b .entry)) ⌝ }
 {
     let n = a.len();
@@ -40,7 +40,7 @@ fn is_word(model: &[u8], word: usize, name: &[u8]) -> bool
 }
 
 // "Names are unique": is this one among the first `count` of those seen?
-pub fn is_among(model: &[u8], name: &[u8], seen: &[usize], count: usize) -> bool
+fn is_among(model: &[u8], name: &[u8], seen: &[usize], count: usize) -> bool
     requires { ⌜ count ≤ length (now seen) ⌝ }
     ensures { λ r. ⌜ r ≡ isAmong (now (name .entry)) (namesOf (now (model .entry)) (take count (now (seen .entry)))) ⌝ }
 {
@@ -55,7 +55,7 @@ pub fn is_among(model: &[u8], name: &[u8], seen: &[usize], count: usize) -> bool
 }
 
 // A name of 1 to 24 bytes, below a limit, and not seen yet.
-pub fn is_free(
+pub(crate) fn is_free(
     model: &[u8],
     name: &[u8],
     seen: &[usize],

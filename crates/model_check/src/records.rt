@@ -41,7 +41,7 @@ pub fn next_at(model: &[u8], at: usize) -> usize
 }
 
 // Where the name begins in the payload of a topic, a table or an attribute.
-pub fn name_start(p: &[u8], kind: u16) -> usize
+fn name_start(p: &[u8], kind: u16) -> usize
     ensures { λ r. ⌜ r ≡ nameStart kind (now (p .entry)) ⌝ }
 {
     match kind {
@@ -52,7 +52,7 @@ pub fn name_start(p: &[u8], kind: u16) -> usize
 }
 
 // The name of a record as one number: 65536 times its start in the model, plus its length.
-pub fn name_at(model: &[u8], at: usize) -> usize
+pub(crate) fn name_at(model: &[u8], at: usize) -> usize
     requires { ⌜ length (now model) ≤ 65536 ⌝ }
     requires { ⌜ nextAt (now model) at ≤ length (now model) ⌝ }
     ensures { λ r. ⌜ nameOf (now (model .entry)) r

@@ -26,7 +26,7 @@ pub struct Judge {
 }
 
 // One less, where there is one.
-pub fn less_one(n: usize) -> usize
+pub(crate) fn less_one(n: usize) -> usize
     ensures { λ r. ⌜ r ≡ n - 1 ⌝ }
 {
     if n == 0 { 0 } else { n - 1 }
@@ -108,7 +108,7 @@ fn go_on(model: &[u8], j: Judge) -> Judge
 }
 
 // "References are judged last, in order"
-pub fn first_outside(model: &[u8], places: &[usize], tables: usize) -> Outside
+pub(crate) fn first_outside(model: &[u8], places: &[usize], tables: usize) -> Outside
     requires { ⌜ tables ≤ length (now places) ⌝ }
     ensures { λ r. ⌜
         ((ts : List Table) (rest : Checked) → topicNumbers ts ≡ take tables (now (places .entry))

@@ -16,7 +16,7 @@ use model_records::Component;
 use model_records::Components;
 
 // "lie in 21 to 7E hex, and are no letter, digit, + - . or /"
-pub fn is_special(b: u8) -> bool
+fn is_special(b: u8) -> bool
     ensures { λ r. ⌜ r ≡ special b ⌝ }
 {
     match b {
@@ -26,7 +26,7 @@ pub fn is_special(b: u8) -> bool
 }
 
 // Letters, digits and _.
-pub fn is_name_byte(b: u8) -> bool
+fn is_name_byte(b: u8) -> bool
     ensures { λ r. ⌜ r ≡ nameByte b ⌝ }
 {
     match b {
@@ -48,7 +48,7 @@ fn every_name_byte(l: &[u8]) -> bool
 }
 
 // "Names follow 000, 2.2.1.1": a letter, then letters, digits and _.
-pub fn is_name(n: &[u8], longest: usize) -> bool
+pub(crate) fn is_name(n: &[u8], longest: usize) -> bool
     ensures { λ r. ⌜ r ≡ isName longest (now (n .entry)) ⌝ }
 {
     if n.len() == 0 {
@@ -61,14 +61,14 @@ pub fn is_name(n: &[u8], longest: usize) -> bool
 }
 
 // "optional (0 or 1)"
-pub fn is_flag(p: &[u8]) -> bool
+pub(crate) fn is_flag(p: &[u8]) -> bool
     ensures { λ r. ⌜ r ≡ isFlag (now (p .entry)) ⌝ }
 {
     if p.len() == 0 { false } else { p[0] <= 1 }
 }
 
 // "Bounds lie strictly between -10^18 and 10^18"
-pub fn is_bound(v: i64) -> bool
+fn is_bound(v: i64) -> bool
     ensures { λ r. ⌜ r ≡ isBound v ⌝ }
 {
     if -1000000000000000000 < v {
@@ -85,7 +85,7 @@ fn is_ordered(least: i64, greatest: i64) -> bool
     if greatest < least { false } else { true }
 }
 
-pub fn is_component(c: Component) -> bool
+pub(crate) fn is_component(c: Component) -> bool
     ensures { λ r. ⌜ r ≡ goodComponent (componentOf c) ⌝ }
 {
     let shown = c.decimals <= 9;
@@ -95,7 +95,7 @@ pub fn is_component(c: Component) -> bool
 }
 
 // Whether each of the components is good.
-pub fn are_components(c: Components) -> bool
+pub(crate) fn are_components(c: Components) -> bool
     requires { ⌜ c .count ≤ 3 ⌝ }
     requires { ⌜ length (c .items) ≡ 3 ⌝ }
     ensures { λ r. ⌜ r ≡ goodComponents (componentsOf c) ⌝ }
@@ -120,7 +120,7 @@ fn are_different(a: u8, b: u8, c: u8) -> bool
 }
 
 // "1 transfer: blank, undefined and continuation byte, then a name of 1 to 63 bytes"
-pub fn keeps_transfer(p: &[u8]) -> bool
+pub(crate) fn keeps_transfer(p: &[u8]) -> bool
     ensures { λ r. ⌜ r ≡ keepsTransfer (now (p .entry)) ⌝ }
 {
     if p.len() < 4 {
@@ -142,7 +142,7 @@ fn are_special(a: u8, b: u8, c: u8, rest: bool) -> bool
 }
 
 // May a record of this kind stand behind one of kind `before`, which is 0 for the first record?
-pub fn may_follow(before: u16, kind: u16) -> bool
+pub(crate) fn may_follow(before: u16, kind: u16) -> bool
     ensures { λ r. ⌜ r ≡ follows before kind ⌝ }
 {
     match before {

@@ -62,7 +62,7 @@ pub fn next_at(model: &[u8], at: usize) -> usize
 }
 
 // The first record of the topics: behind the transfer record and the model record.
-pub fn first_record(model: &[u8]) -> usize
+pub(crate) fn first_record(model: &[u8]) -> usize
     requires { ⌜ 4 ≤ length (now model) ⌝ }
     requires { ⌜ nextAt (now model) 0 + 4 ≤ length (now model) ⌝ }
     ensures { λ r. ⌜ r ≡ nextAt (now (model .entry)) (nextAt (now (model .entry)) 0) ⌝ }
@@ -72,7 +72,7 @@ pub fn first_record(model: &[u8]) -> usize
 }
 
 // A good model's undefined byte.
-pub fn undefined_of(model: &[u8]) -> u8
+pub(crate) fn undefined_of(model: &[u8]) -> u8
     requires { ⌜ checkModel (now model) ≡ good (modelAt (now model)) ⌝ }
     ensures { λ r. ⌜ r ≡ modelAt (now (model .entry)) .undefined ⌝ }
 {
@@ -88,7 +88,7 @@ pub fn mark_of(model: &[u8]) -> u8
 }
 
 // Whether the table or attribute of the record at a byte is optional.
-pub fn optional_at(model: &[u8], at: usize) -> bool
+pub(crate) fn optional_at(model: &[u8], at: usize) -> bool
     requires { ⌜ at + 5 ≤ nextAt (now model) at ⌝ }
     requires { ⌜ nextAt (now model) at ≤ length (now model) ⌝ }
     ensures { λ r. ⌜ r ≡ flagOf (payloadAt (now (model .entry)) at) ⌝ }

@@ -31,7 +31,7 @@ pub fn u32_at(s: &[u8], at: usize) -> u32
     low as u32 + 65536 * (high as u32)
 }
 
-pub fn u64_at(s: &[u8], at: usize) -> u64
+fn u64_at(s: &[u8], at: usize) -> u64
     requires { ⌜ at + 8 ≤ length (now s) ⌝ }
     ensures { λ r. ⌜ r ≡ u64At (now (s .entry)) at ⌝ }
 {
@@ -52,7 +52,7 @@ fn signed(x: u64) -> i64
     }
 }
 
-pub fn i64_at(s: &[u8], at: usize) -> i64
+fn i64_at(s: &[u8], at: usize) -> i64
     requires { ⌜ at + 8 ≤ length (now s) ⌝ }
     ensures { λ r. ⌜ r ≡ i64At (now (s .entry)) at ⌝ }
 {
@@ -60,7 +60,7 @@ pub fn i64_at(s: &[u8], at: usize) -> i64
 }
 
 // "A component is decimals (u8, 0 to 9), least and greatest value (i64 each)": the one that p begins with.
-pub fn read_component(p: &[u8]) -> Component
+fn read_component(p: &[u8]) -> Component
     requires { ⌜ 17 ≤ length (now p) ⌝ }
     ensures { λ r. ⌜ r ≡ declaredOf (componentOf (now (p .entry))) ⌝ }
 {

@@ -50,7 +50,7 @@ pub enum Filled {
 
 // The value of a defined field, by the number of its type: coordinates come component by component, and lines have no
 // field.
-pub fn read_value(
+fn read_value(
     kind: u8,
     number: usize,
     component: Component,
@@ -131,7 +131,7 @@ fn put_defined(asked: Asked, field: &[u8], start: usize, cells: &mut [i64], s: F
 }
 
 // A field that is due, and its pair.
-pub fn put_field(
+fn put_field(
     asked: Asked,
     rest: &[u8],
     start: usize,

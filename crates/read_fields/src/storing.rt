@@ -14,7 +14,7 @@ fn put_cell(cells: &mut [i64], at: usize, v: i64)
     }
 }
 
-pub fn put_pair(cells: &mut [i64], at: usize, a: i64, b: i64)
+pub(crate) fn put_pair(cells: &mut [i64], at: usize, a: i64, b: i64)
     requires { ⌜ at + 2 < 2 ^ 64 ⌝ }
     ensures { λ _. ⌜ now (cells .exit) ≡ sets (now (cells .entry)) at (a ∷ b ∷ []) ⌝ }
 {

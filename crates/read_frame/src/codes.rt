@@ -67,7 +67,7 @@ fn number_word(w: u32) -> u8
 }
 
 // The number of the code that a field is, 0 where it is none.
-pub fn read_code(field: &[u8]) -> u8
+fn read_code(field: &[u8]) -> u8
     ensures { λ r. ⌜ r ≡ codeNumber (now (field .entry)) ⌝ }
 {
     if field.len() != 4 {

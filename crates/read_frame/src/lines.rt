@@ -31,7 +31,7 @@ pub fn is_bare(rest: &[u8]) -> bool
 }
 
 // The end of a line, whose next field would be this one.
-pub fn end_line(rest: &[u8], field: usize, due: Due) -> Moved
+pub(crate) fn end_line(rest: &[u8], field: usize, due: Due) -> Moved
     ensures { λ r. ⌜ ((s : ℕ) → r ≡ endIn field (fieldsOf s (now (rest .entry))) due) ⌝ }
 {
     if is_bare(rest) {
@@ -42,7 +42,7 @@ pub fn end_line(rest: &[u8], field: usize, due: Due) -> Moved
 }
 
 // This name behind a line's code, and nothing else.
-pub fn named_line(rest: &[u8], name: &[u8], due: Due) -> Moved
+pub(crate) fn named_line(rest: &[u8], name: &[u8], due: Due) -> Moved
     ensures { λ r. ⌜ ((s : ℕ) → r ≡ namedIn (now (name .entry)) (fieldsOf s (now (rest .entry))) due) ⌝ }
 {
     let next = fields::next_field(rest);
@@ -60,7 +60,7 @@ pub fn named_line(rest: &[u8], name: &[u8], due: Due) -> Moved
 }
 
 // A line that is the code of this number alone.
-pub fn alone_line(l: &[u8], code: u8, due: Due) -> Moved
+pub(crate) fn alone_line(l: &[u8], code: u8, due: Due) -> Moved
     requires { ⌜ code ≤ 16 ⌝ }
     ensures { λ r. ⌜ ((s i : ℕ) → code ≡ i + 1 → r ≡ aloneIn (getD codes i []) (fieldsOf s (now (l .entry))) due) ⌝ }
 {

@@ -4,7 +4,7 @@ ghost use Rattle.meaning.specs.Reading.{sameName};
 use base::compare;
 use base::numbers;
 
-pub fn same_name(a: &[u8], name: &[u8]) -> bool
+pub(crate) fn same_name(a: &[u8], name: &[u8]) -> bool
     ensures { λ r. ⌜ r ≡ sameName (now (a .entry)) (now (name .entry)) ⌝ }
 {
     let n = numbers::least_of(24, a.len());

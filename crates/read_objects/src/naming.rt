@@ -9,7 +9,7 @@ pub enum Identified {
 }
 
 // The first field behind the code: 11 where it is missing, 12 where it is undefined, 13 by its shape.
-pub fn take_identification(rest: &[u8], undefined: u8) -> Identified
+pub(crate) fn take_identification(rest: &[u8], undefined: u8) -> Identified
     ensures { λ r. ⌜ Identifies undefined (now (rest .entry)) r ⌝ }
 {
     match read_fields::taking::take_field(rest, undefined) {

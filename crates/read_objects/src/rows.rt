@@ -38,7 +38,7 @@ fn is_mandatory(a: Attribute) -> bool
 }
 
 // Whether one of the attributes from a byte on may not be undefined.
-pub fn has_mandatory(model: &[u8], at: usize) -> bool
+fn has_mandatory(model: &[u8], at: usize) -> bool
     requires { ⌜ AttributesHere (modelAt (now model)) (now model) at ⌝ }
     ensures { λ r. ⌜ r ≡ hasMandatory (pairsAt (now (model .entry)) at) ⌝ }
 {
@@ -115,7 +115,7 @@ fn undefine_rest(
 
 // The fields of an OBJE line behind its identification, as pairs behind the row's first three cells. The part of the
 // cells that starts there is lent on to the field writers.
-pub fn row_fields(
+pub(crate) fn row_fields(
     model: &[u8],
     at: usize,
     rest: &[u8],

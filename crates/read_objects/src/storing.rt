@@ -114,7 +114,7 @@ fn state_behind(model: &[u8], here: OpenTable, s: State, size: usize) -> State
 }
 
 // The row of a new identification: its fields from there to the line's end, then 16, then the row joins the table.
-pub fn store_row(
+pub(crate) fn store_row(
     model: &[u8],
     text: &[u8],
     end: usize,

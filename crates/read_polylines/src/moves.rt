@@ -19,7 +19,7 @@ use read_state::State;
 use read_state::Step;
 
 // The code of a line, by the number of its code.
-pub fn name_code(number: u8) -> LineCode
+pub(crate) fn name_code(number: u8) -> LineCode
     ensures { λ r. ⌜ lineCodeOf r ≡ codeOf number ⌝ }
 {
     match number {
@@ -48,7 +48,7 @@ fn behind_line(model: &[u8], u: OpenLine, s: State, first: usize) -> State
 }
 
 // "ELIN alone is an undefined line".
-pub fn undefined_line(model: &[u8], optional: bool, rest: &[u8], u: OpenLine, s: State) -> Step
+pub(crate) fn undefined_line(model: &[u8], optional: bool, rest: &[u8], u: OpenLine, s: State) -> Step
     requires { ⌜ Ready (now model) u s ⌝ }
     ensures { λ r. ⌜ ((a : Attribute) (rooms : Rooms) (text : List ℕ) (fs : List Field) (start : ℕ)
         (cells points : List ℤ) → let b = now (model .entry) in
@@ -77,7 +77,7 @@ fn put_line(cells: &mut [i64], cell: usize, count: usize, first: usize)
 }
 
 // ELIN behind the last point of a line.
-pub fn end_line(model: &[u8], rest: &[u8], cells: &mut [i64], u: OpenLine, s: State) -> Step
+pub(crate) fn end_line(model: &[u8], rest: &[u8], cells: &mut [i64], u: OpenLine, s: State) -> Step
     requires { ⌜ Ready (now model) u s ⌝ }
     requires { ⌜ s .cells ≤ length (now cells) ⌝ }
     ensures { λ r. ⌜ ((a : Attribute) (rooms : Rooms) (text : List ℕ) (fs : List Field) (start : ℕ)

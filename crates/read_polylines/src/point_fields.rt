@@ -50,7 +50,7 @@ fn get_value(rest: &[u8], undefined: u8, component: Component) -> Got
 }
 
 // The values of a point's fields, which follow its line's code.
-pub fn point_values(rest: &[u8], undefined: u8, components: Components) -> PointOut
+pub(crate) fn point_values(rest: &[u8], undefined: u8, components: Components) -> PointOut
     requires { ⌜ (components .count ≤ 3) × (length (components .items) ≡ 3) ⌝ }
     ensures { λ r. ⌜ ReadsPoint undefined (componentsOf components) (now (rest .entry)) (components .count)
         (r .values) (r .answer) ⌝ }
@@ -88,7 +88,7 @@ pub fn point_values(rest: &[u8], undefined: u8, components: Components) -> Point
 }
 
 // "A point is four cells: 0 STPT, 1 LIPT, 2 ARCP; east; north; height or 0"
-pub fn put_point(points: &mut [i64], at: usize, kind: u8, values: [i64; 3], count: usize)
+pub(crate) fn put_point(points: &mut [i64], at: usize, kind: u8, values: [i64; 3], count: usize)
     requires { ⌜ (2 ≤ count) × (count ≤ 3) × (length values ≡ 3) ⌝ }
     requires { ⌜ at + 4 ≤ length (now points) ⌝ }
     ensures { λ _. ⌜ now (points .exit) ≡ sets (now (points .entry)) at (pointCells kind (take count values)) ⌝ }

@@ -79,7 +79,7 @@ fn read_point(
 }
 
 // The line of a point, whose code makes this line state: 18 comes before its fields.
-pub fn point_line(
+pub(crate) fn point_line(
     a: Attribute,
     code: LineCode,
     rest: &[u8],

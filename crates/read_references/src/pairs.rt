@@ -22,7 +22,7 @@ fn put_reference(cells: &mut [i64], cell: usize, o: usize)
 }
 
 // This object's field is a reference to a table: nothing where it is undefined, else the number of the object it names.
-pub fn resolve_pair(
+pub(crate) fn resolve_pair(
     text: &[u8],
     rows: &[u64],
     cells: &mut [i64],

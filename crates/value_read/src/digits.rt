@@ -12,7 +12,7 @@ pub enum Found {
 }
 
 // The digits of s behind those of n, of which there are `before` at most.
-pub fn read_digits(n: u64, before: usize, s: &[u8]) -> Found
+pub(crate) fn read_digits(n: u64, before: usize, s: &[u8]) -> Found
     requires { ⌜ n < 10 ^ before ⌝ }
     requires { ⌜ before + length (now s) ≤ 18 ⌝ }
     ensures { λ r. ⌜ Reads (every digit (now (s .entry))) (digitsAfter n (now (s .entry))) r ⌝ }
@@ -31,7 +31,7 @@ pub fn read_digits(n: u64, before: usize, s: &[u8]) -> Found
 }
 
 // "1 to 18 digits"
-pub fn read_count(s: &[u8]) -> Found
+pub(crate) fn read_count(s: &[u8]) -> Found
     ensures { λ r. ⌜ Reads (isDigits 1 18 (now (s .entry))) (digitsValue (now (s .entry))) r ⌝ }
 {
     if s.len() < 1 {

@@ -36,7 +36,7 @@ fn read_pointed(s: &[u8], decimals: usize) -> Found
 }
 
 // A number without its sign: its value with all decimals.
-pub fn read_unsigned(s: &[u8], decimals: u8) -> Found
+fn read_unsigned(s: &[u8], decimals: u8) -> Found
     ensures { λ r. ⌜
         Reads (isNumber decimals (now (s .entry))) (digitsValue (numberDigits decimals (now (s .entry)))) r ⌝ }
 {

@@ -21,7 +21,7 @@ use write_judge::judging;
 use write_lines::Put;
 
 // "All result buffers are zeroed by every refusal"
-pub fn refuse(number: u8, at: usize, out: &mut [u8]) -> Answer
+pub(crate) fn refuse(number: u8, at: usize, out: &mut [u8]) -> Answer
     ensures answer { λ r. ⌜ answerOf r ≡ meaning.refusal number at 0 ⌝ }
     ensures output { λ _. ⌜ now (out .exit) ≡ replicate (length (now (out .entry))) 0 ⌝ }
 {
@@ -177,7 +177,7 @@ fn refusal_of(
 }
 
 // The call under a good model.
-pub fn write_under(
+pub(crate) fn write_under(
     model: &[u8],
     places: &[usize],
     shape: Shape,
