@@ -14,8 +14,16 @@ ghost use Rattle.model_check.specs.Attributes.{typeMeant, firstOf, Sized
 use crate::names;
 use crate::rules;
 use base::bools;
+use model_records::COORDINATE_2;
+use model_records::COORDINATE_3;
 use model_records::Component;
 use model_records::Components;
+use model_records::DATE;
+use model_records::ENUMERATION;
+use model_records::LINE;
+use model_records::NUMBER;
+use model_records::REFERENCE;
+use model_records::TEXT;
 use model_records::numbers;
 
 // An attribute by value. Its number is a reference's table, a text's longest length, an enumeration's count of leaves
@@ -40,11 +48,11 @@ pub(crate) fn parameters_end(p: &[u8]) -> usize
 {
     let t = numbers::byte_at(p, 1);
     match t {
-        2 => 36,
-        3 => 53,
-        4 => 19,
-        6 => 2,
-        8 => 4 + 17 * count_components(numbers::byte_at(p, 3)),
+        COORDINATE_2 => 36,
+        COORDINATE_3 => 53,
+        NUMBER => 19,
+        DATE => 2,
+        LINE => 4 + 17 * count_components(numbers::byte_at(p, 3)),
         _ => 4,
     }
 }
@@ -130,13 +138,13 @@ fn read_attribute(p: &[u8]) -> Attribute
 {
     let t = p[1];
     match t {
-        0..=1 => read_numbered(p),
-        2..=3 => read_coordinate(p, t as usize),
-        4 => read_coordinate(p, 1),
-        5 => read_numbered(p),
-        6 => read_plain(p, 0),
-        7 => read_numbered(p),
-        8..=255 => read_line(p),
+        0..=REFERENCE => read_numbered(p),
+        COORDINATE_2..=COORDINATE_3 => read_coordinate(p, t as usize),
+        NUMBER => read_coordinate(p, 1),
+        TEXT => read_numbered(p),
+        DATE => read_plain(p, 0),
+        ENUMERATION => read_numbered(p),
+        LINE..=255 => read_line(p),
     }
 }
 
@@ -177,13 +185,13 @@ fn is_good(a: Attribute) -> bool
     let components = a.components;
     match kind {
         0 => is_line(number, are_coordinates(components)),
-        1 => true,
-        2..=3 => are_coordinates(components),
-        4 => is_first(components),
-        5 => 1 <= number,
-        6 => true,
-        7 => 1 <= number,
-        8..=255 => is_line(number, are_coordinates(components)),
+        REFERENCE => true,
+        COORDINATE_2..=COORDINATE_3 => are_coordinates(components),
+        NUMBER => is_first(components),
+        TEXT => 1 <= number,
+        DATE => true,
+        ENUMERATION => 1 <= number,
+        LINE..=255 => is_line(number, are_coordinates(components)),
     }
 }
 
@@ -204,8 +212,8 @@ fn is_type(p: &[u8]) -> bool
 {
     let t = p[1];
     match t {
-        1..=7 => is_good(read_attribute(p)),
-        8..=8 => bools::both(is_dimension(p[3] as usize), is_good(read_attribute(p))),
+        REFERENCE..=ENUMERATION => is_good(read_attribute(p)),
+        LINE..=LINE => bools::both(is_dimension(p[3] as usize), is_good(read_attribute(p))),
         _ => false,
     }
 }

@@ -16,6 +16,12 @@ use crate::references;
 use crate::references::Outside;
 use crate::rules;
 use base::bools;
+use model_records::ATTRIBUTE;
+use model_records::END;
+use model_records::MODEL;
+use model_records::TABLE;
+use model_records::TOPIC;
+use model_records::TRANSFER;
 use model_records::numbers;
 
 // A good model with its count of topics, or the byte of the first bad record.
@@ -76,11 +82,11 @@ fn keeps_rules(
         (seenOf (now (model .entry)) w (now (topics .entry)) (now (tables .entry)) (now (attributes .entry))) ⌝ }
 {
     match kind {
-        1 => rules::keeps_transfer(p),
-        2 => rules::is_name(p, 63),
-        3 => keeps_topic(model, p, topics, w.topics),
-        4 => keeps_table(model, p, tables, w.tables, w.count),
-        5 => attributes::keeps_attribute(model, p, attributes, w.attributes),
+        TRANSFER => rules::keeps_transfer(p),
+        MODEL => rules::is_name(p, 63),
+        TOPIC => keeps_topic(model, p, topics, w.topics),
+        TABLE => keeps_table(model, p, tables, w.tables, w.count),
+        ATTRIBUTE => attributes::keeps_attribute(model, p, attributes, w.attributes),
         _ => p.len() == 0,
     }
 }
@@ -127,19 +133,19 @@ fn advance(model: &[u8], w: Walker) -> Walker
     next.at = records::next_at(model, w.at);
     next.before = kind;
     match kind {
-        3 => {
+        TOPIC => {
             next.topics = w.topics + 1;
             next.tables = 0;
             next.attributes = 0;
             next
         }
-        4 => {
+        TABLE => {
             next.tables = w.tables + 1;
             next.attributes = 0;
             next.count = w.count + 1;
             next
         }
-        5 => {
+        ATTRIBUTE => {
             next.attributes = w.attributes + 1;
             next
         }
@@ -152,7 +158,7 @@ fn finish(model: &[u8], w: Walker, places: &[usize]) -> Checked
     requires { ⌜ Walked (now model) w (now places) ⌝ }
     ensures { λ r. ⌜ checkedMeant r ≡ meaning.checkAnswer (checkedRecords (now (model .entry))) ⌝ }
 {
-    if w.before != 6 {
+    if w.before != END {
         return Checked::Bad(w.at);
     }
     match references::first_outside(model, places, w.count) {

@@ -7,6 +7,8 @@ ghost use Rattle.meaning.specs.Bytes.{u16At};
 ghost use Rattle.model_check.specs.Records.{payloadAt, nextAt, nameStart};
 ghost use Rattle.model_check.specs.Names.{nameOf};
 use crate::attributes;
+use model_records::TABLE;
+use model_records::TOPIC;
 use model_records::numbers;
 
 // Whether a record fits the model: its four bytes, and its payload.
@@ -45,8 +47,8 @@ fn name_start(p: &[u8], kind: u16) -> usize
     ensures { λ r. ⌜ r ≡ nameStart kind (now (p .entry)) ⌝ }
 {
     match kind {
-        3 => 0,
-        4 => 1,
+        TOPIC => 0,
+        TABLE => 1,
         _ => attributes::parameters_end(p),
     }
 }

@@ -9,6 +9,10 @@ ghost use Rattle.meaning.specs.Check.{Checked, judgeReferences, isOutside};
 ghost use Rattle.model_check.specs.Records.{recordsAt, nextAt, payloadAt};
 ghost use Rattle.model_check.specs.References.{topicNumbers, outsideMeant, judges, judged};
 use crate::records;
+use model_records::ATTRIBUTE;
+use model_records::REFERENCE;
+use model_records::TABLE;
+use model_records::TOPIC;
 use model_records::numbers;
 
 // The byte of the first reference to a table that is not there or in another topic, or none.
@@ -51,7 +55,7 @@ fn refers_outside(p: &[u8], places: &[usize], tables: usize, topic: usize) -> bo
         ((ts : List Table) → topicNumbers ts ≡ take tables (now (places .entry))
         → r ≡ isOutside ts topic (targetOf (typeOf (byteAt (now (p .entry)) 1) (drop 2 (now (p .entry)))))) ⌝ }
 {
-    if numbers::byte_at(p, 1) != 1 {
+    if numbers::byte_at(p, 1) != REFERENCE {
         return false;
     }
     let low = numbers::byte_at(p, 2) as usize;
@@ -68,7 +72,7 @@ fn is_bad(model: &[u8], j: Judge, places: &[usize], tables: usize) -> bool
         → r ≡ judges ts (now (model .entry)) j) ⌝ }
 {
     let at = j.at;
-    if records::kind_at(model, at) != 5 {
+    if records::kind_at(model, at) != ATTRIBUTE {
         return false;
     }
     if j.inside {
@@ -90,16 +94,16 @@ fn go_on(model: &[u8], j: Judge) -> Judge
     let kind = records::kind_at(model, j.at);
     next.at = records::next_at(model, j.at);
     match kind {
-        3 => {
+        TOPIC => {
             next.topics = j.topics + 1;
             next.inside = false;
             next
         }
-        4 => {
+        TABLE => {
             next.inside = true;
             next
         }
-        5 => next,
+        ATTRIBUTE => next,
         _ => {
             next.inside = false;
             next

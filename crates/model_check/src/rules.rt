@@ -12,8 +12,14 @@ ghost use Rattle.meaning.specs.Check.{keepsTransfer, follows};
 ghost use Rattle.model_records.specs.Components.{componentOf, componentsOf};
 use base::bools;
 use base::kinds;
+use model_records::ATTRIBUTE;
 use model_records::Component;
 use model_records::Components;
+use model_records::END;
+use model_records::MODEL;
+use model_records::TABLE;
+use model_records::TOPIC;
+use model_records::TRANSFER;
 
 // "lie in 21 to 7E hex, and are no letter, digit, + - . or /"
 fn is_special(b: u8) -> bool
@@ -146,12 +152,12 @@ pub(crate) fn may_follow(before: u16, kind: u16) -> bool
     ensures { λ r. ⌜ r ≡ follows before kind ⌝ }
 {
     match before {
-        0 => kind == 1,
-        1 => kind == 2,
-        2 => kind == 3,
-        3 => kind == 4,
-        4 => kind == 5,
-        5 => bools::both(3 <= kind, kind <= 6),
+        0 => kind == TRANSFER,
+        TRANSFER => kind == MODEL,
+        MODEL => kind == TOPIC,
+        TOPIC => kind == TABLE,
+        TABLE => kind == ATTRIBUTE,
+        ATTRIBUTE => bools::both(TOPIC <= kind, kind <= END),
         _ => false,
     }
 }

@@ -6,6 +6,9 @@ ghost use Rattle.model_records.specs.Records.{modelAt, pairsAt};
 ghost use Rattle.model_records.specs.Standing.{AttributesHere};
 ghost use Rattle.model_records.specs.Counts.{Counted};
 use crate::ATTRIBUTE;
+use crate::COORDINATE_2;
+use crate::COORDINATE_3;
+use crate::LINE;
 
 // How many fields and pairs an attribute has, by its type's number.
 pub struct Counts {
@@ -18,15 +21,15 @@ pub fn count_of(kind: u8) -> Counts
     ensures { λ r. ⌜ Counted kind (r .fields) (r .pairs) ⌝ }
 {
     match kind {
-        2 => Counts {
+        COORDINATE_2 => Counts {
             fields: 2,
             pairs: 2,
         },
-        3 => Counts {
+        COORDINATE_3 => Counts {
             fields: 3,
             pairs: 3,
         },
-        8 => Counts {
+        LINE => Counts {
             fields: 0,
             pairs: 1,
         },

@@ -15,14 +15,35 @@ pub mod counts;
 pub mod numbers;
 pub mod places;
 
-// The kinds of records behind the transfer and the model.
-pub const TOPIC: usize = 3;
+// The kinds of records.
+pub const TRANSFER: u16 = 1;
 
-pub const TABLE: usize = 4;
+pub const MODEL: u16 = 2;
 
-pub const ATTRIBUTE: usize = 5;
+pub const TOPIC: u16 = 3;
 
-pub const END: usize = 6;
+pub const TABLE: u16 = 4;
+
+pub const ATTRIBUTE: u16 = 5;
+
+pub const END: u16 = 6;
+
+// The types of attributes; a coordinate has two or three components.
+pub const REFERENCE: u8 = 1;
+
+pub const COORDINATE_2: u8 = 2;
+
+pub const COORDINATE_3: u8 = 3;
+
+pub const NUMBER: u8 = 4;
+
+pub const TEXT: u8 = 5;
+
+pub const DATE: u8 = 6;
+
+pub const ENUMERATION: u8 = 7;
+
+pub const LINE: u8 = 8;
 
 // A component, and the components of an attribute, by value: a small array and its count.
 pub struct Component {
@@ -46,11 +67,11 @@ pub struct Attribute {
 }
 
 // The kind of the record at a byte.
-pub fn kind_at(model: &[u8], at: usize) -> usize
+pub fn kind_at(model: &[u8], at: usize) -> u16
     requires { ⌜ at + 4 ≤ length (now model) ⌝ }
     ensures { λ r. ⌜ r ≡ kindAt (now (model .entry)) at ⌝ }
 {
-    numbers::u16_at(model, at + 2) as usize
+    numbers::u16_at(model, at + 2)
 }
 
 // The byte of the record behind it.
@@ -109,8 +130,8 @@ fn read_number(q: &[u8], t: u8) -> usize
     ensures { λ r. ⌜ r ≡ numberOf t (now (q .entry)) ⌝ }
 {
     match t {
-        1 | 5 | 7 => numbers::u16_at(q, 0) as usize,
-        8 => q[0] as usize,
+        REFERENCE | TEXT | ENUMERATION => numbers::u16_at(q, 0) as usize,
+        LINE => q[0] as usize,
         _ => 0,
     }
 }
@@ -120,10 +141,10 @@ fn count_components(q: &[u8], t: u8) -> usize
     ensures { λ r. ⌜ r ≡ countOf t (now (q .entry)) ⌝ }
 {
     match t {
-        2 => 2,
-        3 => 3,
-        4 => 1,
-        8 => read_dimension(q[1]),
+        COORDINATE_2 => 2,
+        COORDINATE_3 => 3,
+        NUMBER => 1,
+        LINE => read_dimension(q[1]),
         _ => 0,
     }
 }
@@ -131,7 +152,7 @@ fn count_components(q: &[u8], t: u8) -> usize
 fn skip_forms(t: u8) -> usize
     ensures { λ r. ⌜ r ≡ startOf t ⌝ }
 {
-    if t == 8 { 2 } else { 0 }
+    if t == LINE { 2 } else { 0 }
 }
 
 // The components among the parameters.

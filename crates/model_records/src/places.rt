@@ -57,7 +57,7 @@ fn pass_record(model: &[u8], here: RecordCursor) -> RecordCursor
 }
 
 // Notes a topic's record by its byte, a table's by its byte and its topic, the last of those passed.
-fn note_record(places: &mut [usize], kind: usize, here: RecordCursor)
+fn note_record(places: &mut [usize], kind: u16, here: RecordCursor)
     requires { ⌜ length (now places) ≡ 1088 ⌝ }
     requires { ⌜ (kind ≡ 3 → here .topics < 64) ⌝ }
     requires { ⌜ (kind ≡ 4 → (here .tables < 512) × (1 ≤ here .topics)) ⌝ }

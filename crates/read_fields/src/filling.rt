@@ -18,8 +18,15 @@ use crate::storing;
 use crate::taking;
 use crate::taking::Taken;
 use model_records::Attribute;
+use model_records::COORDINATE_2;
+use model_records::COORDINATE_3;
 use model_records::Component;
 use model_records::Components;
+use model_records::DATE;
+use model_records::ENUMERATION;
+use model_records::NUMBER;
+use model_records::REFERENCE;
+use model_records::TEXT;
 use value_read::Value;
 
 // How far a row is filled: the byte of the rest of the line, the place of the next field, the cells used, and whether
@@ -50,23 +57,17 @@ pub enum Filled {
 
 // The value of a defined field, by the number of its type: coordinates come component by component, and lines have no
 // field.
-fn read_value(
-    kind: u8,
-    number: usize,
-    component: Component,
-    field: &[u8],
-    start: usize,
-) -> Value
+fn read_value(kind: u8, number: usize, component: Component, field: &[u8], start: usize) -> Value
     requires { ⌜ start + (1 + length (now field)) < 2 ^ 63 ⌝ }
     ensures { λ r. ⌜ valueMeant r
         ≡ valueOf (typeAsked kind number (componentOf component)) (fieldOf start (now (field .entry))) ⌝ }
 {
     match kind {
-        1 => value_read::stretches::read_reference(field, start),
-        4 => value_read::numbers::read_number(field, component),
-        5 => value_read::stretches::read_text(field, start, number),
-        6 => value_read::dates::read_date(field),
-        7 => value_read::dates::read_enumeration(field, number as u64),
+        REFERENCE => value_read::stretches::read_reference(field, start),
+        NUMBER => value_read::numbers::read_number(field, component),
+        TEXT => value_read::stretches::read_text(field, start, number),
+        DATE => value_read::dates::read_date(field),
+        ENUMERATION => value_read::dates::read_enumeration(field, number as u64),
         _ => Value::Wrong(13),
     }
 }
@@ -334,8 +335,16 @@ pub fn put_attribute(
     let kind = a.kind;
     let components = a.components;
     match kind {
-        2..=3 => put_coordinate(a.optional, components, rest, start, undefined, cells, s),
-        1..=7 => put_own(a, rest, start, undefined, cells, s),
+        COORDINATE_2..=COORDINATE_3 => put_coordinate(
+            a.optional,
+            components,
+            rest,
+            start,
+            undefined,
+            cells,
+            s,
+        ),
+        REFERENCE..=ENUMERATION => put_own(a, rest, start, undefined, cells, s),
         _ => put_line(cells, s),
     }
 }

@@ -13,6 +13,8 @@ ghost use Rattle.read_objects.specs.Fields.{recordPairs, EndsHere, Ends}
 use base::fields::Next;
 use model_records::ATTRIBUTE;
 use model_records::Attribute;
+use model_records::ENUMERATION;
+use model_records::REFERENCE;
 use model_records::counts;
 use read_fields::filling;
 use read_fields::filling::Filled;
@@ -32,7 +34,7 @@ fn is_mandatory(a: Attribute) -> bool
 {
     let kind = a.kind;
     match kind {
-        1..=7 => !a.optional,
+        REFERENCE..=ENUMERATION => !a.optional,
         _ => false,
     }
 }

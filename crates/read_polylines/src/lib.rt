@@ -21,6 +21,7 @@ pub mod points;
 
 use model_records::ATTRIBUTE;
 use model_records::Attribute;
+use model_records::LINE;
 use model_records::counts;
 use read_state::Due;
 use read_state::LineCode;
@@ -45,7 +46,7 @@ pub fn due_lines(model: &[u8], table: usize, at: usize, cell: usize, first: usiz
     let mut pair = cell;
     while model_records::kind_at(model, byte) == ATTRIBUTE {
         let kind = model[byte + 5];
-        if kind == 8 {
+        if kind == LINE {
             return Due::Line(OpenLine {
                 table,
                 state: LineState::Unstarted,

@@ -48,7 +48,13 @@ fn behind_line(model: &[u8], u: OpenLine, s: State, first: usize) -> State
 }
 
 // "ELIN alone is an undefined line".
-pub(crate) fn undefined_line(model: &[u8], optional: bool, rest: &[u8], u: OpenLine, s: State) -> Step
+pub(crate) fn undefined_line(
+    model: &[u8],
+    optional: bool,
+    rest: &[u8],
+    u: OpenLine,
+    s: State,
+) -> Step
     requires { ⌜ Ready (now model) u s ⌝ }
     ensures { λ r. ⌜ ((a : Attribute) (rooms : Rooms) (text : List ℕ) (fs : List Field) (start : ℕ)
         (cells points : List ℤ) → let b = now (model .entry) in

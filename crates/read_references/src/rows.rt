@@ -14,6 +14,7 @@ ghost use Rattle.read_references.specs.Resolved.{resolvedOf, PairHere, R
 use crate::Resolved;
 use crate::pairs;
 use model_records::ATTRIBUTE;
+use model_records::REFERENCE;
 use model_records::counts;
 use model_records::places;
 use model_records::places::Shape;
@@ -41,7 +42,7 @@ fn resolve_attribute(
         ≡ resolvePair t (objectsOf t cs (take objects (now (rows .entry)))) object field cell
         (targetOf (attributeOf at (payloadAt (now (model .entry)) at) .type)) cs) ⌝ }
 {
-    if model[at + 5] != 1 {
+    if model[at + 5] != REFERENCE {
         return Resolved::All;
     }
     let table = model_records::numbers::u16_at(model, at + 6) as usize;

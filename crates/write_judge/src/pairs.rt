@@ -21,8 +21,16 @@ use crate::points;
 use base::bools;
 use model_records::ATTRIBUTE;
 use model_records::Attribute;
+use model_records::COORDINATE_2;
+use model_records::COORDINATE_3;
 use model_records::Component;
 use model_records::Components;
+use model_records::DATE;
+use model_records::ENUMERATION;
+use model_records::LINE;
+use model_records::NUMBER;
+use model_records::REFERENCE;
+use model_records::TEXT;
 use model_records::counts;
 
 // The pairs are fine, with so many points before what follows; or one is not.
@@ -104,10 +112,10 @@ fn judge_second(attribute: Attribute, rows: &[u64], cells: &[i64], b: i64) -> bo
     let components = attribute.components;
     let items = components.items;
     match kind {
-        1 => judge_reference(rows, cells, attribute.number, b),
-        4 => value_read::numbers::is_within(items[0], b),
-        6 => judge_date(b),
-        7 => judge_leaf(attribute.number, b),
+        REFERENCE => judge_reference(rows, cells, attribute.number, b),
+        NUMBER => value_read::numbers::is_within(items[0], b),
+        DATE => judge_date(b),
+        ENUMERATION => judge_leaf(attribute.number, b),
         _ => false,
     }
 }
@@ -129,7 +137,7 @@ fn judge_value(
 {
     let kind = attribute.kind;
     match kind {
-        5 => judge_text(text, undefined, attribute.number, a, b),
+        TEXT => judge_text(text, undefined, attribute.number, a, b),
         _ => bools::both(
             cells::is_number(a, 1),
             judge_second(attribute, rows, cells, b),
@@ -308,11 +316,11 @@ fn judge_attribute(
     let kind = attribute.kind;
     let components = attribute.components;
     match kind {
-        2 | 3 => fine_if(
+        COORDINATE_2 | COORDINATE_3 => fine_if(
             judge_coordinate(attribute.optional, components, cells, cell),
             k,
         ),
-        8 => judge_line(attribute, points, k, cells[cell], cells[cell + 1]),
+        LINE => judge_line(attribute, points, k, cells[cell], cells[cell + 1]),
         _ => fine_if(
             judge_own(
                 attribute,
