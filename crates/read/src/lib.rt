@@ -137,17 +137,7 @@ fn read_into(
     let checked = model_check::check::check(model);
     match checked {
         Checked::Bad(at) => Answer::Refused(2, at, 0),
-        Checked::Good(_) => read_good(
-            model,
-            file,
-            text,
-            marks,
-            rows,
-            cells,
-            points,
-            index,
-            seed,
-        ),
+        Checked::Good(_) => read_good(model, file, text, marks, rows, cells, points, index, seed),
     }
 }
 
