@@ -24,8 +24,10 @@ resolve-references-requires c κs =
     let a = q .args in
     let h = q .pre .0 in (
       q .pre .1 .1,
-      (first-held (a .seed) (a .text .now) (a .s .rows) (a .s .cells) (a .rows .now) (a .cells .now) (a .index .now) h,
-       first-laid (a .seed) (a .text .now) (a .s .rows) (a .s .cells) (a .rows .now) (a .cells .now) (a .index .now) h (modelAt (a .model .now)) (q .pre .1 .0)),
+      (
+        first-held (a .seed) (a .text .now) (a .s .rows) (a .s .cells) (a .rows .now) (a .cells .now) (a .index .now) h,
+        first-laid (a .seed) (a .text .now) (a .s .rows) (a .s .cells) (a .rows .now) (a .cells .now) (a .index .now) h (modelAt (a .model .now)) (q .pre .1 .0),
+      ),
     )
 
 enum-told : tie.Need-enum-told
