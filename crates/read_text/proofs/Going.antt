@@ -1,17 +1,17 @@
 -- The loop over the lines: what it holds between two of them. Assumes nothing.
-use Prim.Native.Nat.{ℕ, _+_, _*_, _-_, _≤_, _<_}
+use Prim.Native.Nat.{ℕ, _+_, _-_, _≤_, _<_}
 use native.Mathlib.Omega.{arith}
 use mathlib.Core.Path.{_≡_, refl, sym, ap, subst, _∙_}
 use mathlib.Core.Bool.{true, false, false≢true}
 use mathlib.Core.List.{List, [], _∷_}
 use lib.IntN.{ℤ}
-use lib.ListN.{length, take, drop, replicate, length-replicate}
+use lib.ListN.{length, drop, replicate}
 use lib.Seq.{take-length}
 use Rattle.meaning.specs.Bytes.{refuse}
 use Rattle.meaning.specs.Reading as meaning
-use Rattle.meaning.specs.Reading.{Rooms, Content, startOf, nothingRead, nothing, isComplete, stretch}
+use Rattle.meaning.specs.Reading.{Rooms, startOf, nothingRead, isComplete}
 use Rattle.meaning.specs.Lines as lines
-use Rattle.meaning.specs.Lines.{run, ran, stopped, atEnd, readLines, go, no}
+use Rattle.meaning.specs.Lines.{run, ran, stopped, atEnd, readLines}
 use Rattle.model_records.specs.Records.{modelAt}
 use Rattle.read_state.specs.declared.OpenLine.{OpenLine}
 use Rattle.read_state.specs.declared.Due.the-variants.{Frame}

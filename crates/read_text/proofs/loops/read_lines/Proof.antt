@@ -2,7 +2,7 @@
 use borrow.Author.Needs.{needs}
 use Prim.Native.Nat.{_+_, _-_, _≤_}
 use native.Mathlib.Omega.{arith}
-use mathlib.Core.Path.{_≡_, subst, _∙_}
+use mathlib.Core.Path.{subst, _∙_}
 use lib.ListN.{length}
 use Rattle.read_step.specs.Steps.{Steps}
 use Rattle.read_text.proofs.Going.{Going, begin, again, stops, ends}
