@@ -1,15 +1,12 @@
 -- Two outcomes of a call coincide. Assumes nothing.
 use Prim.Native.Nat.{ℕ}
-use mathlib.Core.Path.{_≡_, refl, sym, ap, _∙_}
-use mathlib.Core.List.{List}
+use mathlib.Core.Path.{_≡_, sym, _∙_}
 use native.Mathlib.Omega.{arith}
-use lib.IntN.{ℤ}
 use lib.ListN.{length}
 use borrow.Fn.Kinds.{Dens, endedOf}
 use contract.Lifetimes.{Lfts}
 use denote.Ref.{now}
 use denote.Triple.Clauses.{AtExit}
-use Rattle.meaning.specs.Answer as meaning
 use Rattle.meaning.specs.Reading.{roomsOf}
 use Rattle.read_text.specs.Outcomes.{answerOf}
 use Rattle.read.specs.Same.{Outcome, Allowed, OutcomesCoincide, SameTable, CallsCoincide}

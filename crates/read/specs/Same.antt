@@ -1,4 +1,5 @@
--- "Show that two outcomes allowed by it coincide": what `read` states leaves one answer and one content for each lent buffer. Proved in proofs/Same.antt.
+-- "Show that two outcomes allowed by it coincide": what `read` states leaves one answer and one content for each lent
+-- buffer. Proved in proofs/Same.antt.
 use Prim.Native.Nat.{ℕ}
 use mathlib.Core.Path.{_≡_}
 use mathlib.Core.List.{List}
@@ -19,7 +20,7 @@ pub record Outcome : Type 0 where
   pub points : List ℤ
   pub index : List ℕ
 
--- what `read` states of its outcome, for this model and file, in rooms of these sizes and with an index of so many words
+-- what `read` states of its outcome, for this model and file, in rooms of these sizes, with an index of so many words
 pub record Allowed (model file : List ℕ) (rooms : Rooms) (words : ℕ) (o : Outcome) : Type 0 where
   pub answerIs : answerOf (o .answer) ≡ read model file rooms .answer
   pub textIs : o .text ≡ read model file rooms .text
@@ -31,7 +32,8 @@ pub record Allowed (model file : List ℕ) (rooms : Rooms) (words : ℕ) (o : Ou
 
 -- two outcomes that are allowed for the same call coincide
 abbrev pub OutcomesCoincide : Type 0
-OutcomesCoincide = (model file : List ℕ) (rooms : Rooms) (words : ℕ) (o p : Outcome) → Allowed model file rooms words o → Allowed model file rooms words p → o ≡ p
+OutcomesCoincide = (model file : List ℕ) (rooms : Rooms) (words : ℕ) (o p : Outcome)
+    → Allowed model file rooms words o → Allowed model file rooms words p → o ≡ p
 
 -- the same answer and the same table
 pub record SameTable (o p : Outcome) : Type 0 where
@@ -42,6 +44,8 @@ pub record SameTable (o p : Outcome) : Type 0 where
   pub cellsSame : o .cells ≡ p .cells
   pub pointsSame : o .points ≡ p .points
 
--- the index, its size, the seed and what the rooms held before change nothing: two calls with the same model and file, in rooms of the same sizes
+-- the index, its size, the seed and what the rooms held before change nothing: two calls with the same model and file,
+-- in rooms of the same sizes
 abbrev pub CallsCoincide : Type 0
-CallsCoincide = (model file : List ℕ) (rooms : Rooms) (words words′ : ℕ) (o p : Outcome) → Allowed model file rooms words o → Allowed model file rooms words′ p → SameTable o p
+CallsCoincide = (model file : List ℕ) (rooms : Rooms) (words words′ : ℕ) (o p : Outcome)
+    → Allowed model file rooms words o → Allowed model file rooms words′ p → SameTable o p

@@ -1,7 +1,7 @@
 -- One line by what is due: the state behind it, its mark, and what a good model bounds. Assumes nothing.
-use Prim.Native.Nat.{ℕ, _+_, _-_, _*_, _≤_, _<_, _^_}
+use Prim.Native.Nat.{ℕ, _+_, _-_, _*_, _≤_, _<_}
 use mathlib.Core.Path.{_≡_, refl, sym, ap, subst, _∙_}
-use mathlib.Core.List.{List, []}
+use mathlib.Core.List.{List}
 use native.Mathlib.Omega.{arith}
 use lib.Dec.{eqb}
 use lib.IntN.{ℤ}
@@ -12,30 +12,32 @@ use Rattle.meaning.specs.Bytes.{choose}
 use Rattle.meaning.specs.Model as model
 use Rattle.meaning.specs.Check.{good, bad, checkModel}
 use Rattle.meaning.specs.Field.{Field, fieldsOf, hasCode, OBJE}
-use Rattle.meaning.specs.Reading.{Content, Rooms, stretch}
+use Rattle.meaning.specs.Reading.{Content, Rooms, roomsOf, stretch}
 use Rattle.meaning.specs.Lines as lines
 use Rattle.meaning.specs.Lines.{lineDue, objectLine, objectFields, behindObjects}
-use Rattle.meaning.proofs.Model.GoodModels.{checked-good}
 use Rattle.meaning.proofs.Tests.Refuse.{passed}
 use Rattle.model_records.specs.Records.{modelAt}
+use Rattle.model_records.specs.Places.{Placed, attributesPlace}
+use Rattle.model_records.specs.declared.places.Shape.{Shape}
 use Rattle.read_state.specs.declared.Due.{Due}
-use Rattle.read_state.specs.declared.Due.the-variants.{Opening, Description, Transfer, ModelName, TopicFrom, TableFrom, ObjectOf, LineOf, Closing, Nothing}
+use Rattle.read_state.specs.declared.Due.the-variants.{Frame, Object, Line}
+use Rattle.read_state.specs.declared.FrameDue.{FrameDue}
+use Rattle.read_state.specs.declared.FrameDue.the-variants as frame
 use Rattle.read_state.specs.declared.Moved.{Moved}
 use Rattle.read_state.specs.declared.Moved.the-variants.{To, No}
 use Rattle.read_state.specs.declared.State.{State}
-use Rattle.read_state.specs.declared.TableHere.{TableHere}
-use Rattle.read_state.specs.declared.Underway.{Underway}
+use Rattle.read_state.specs.declared.OpenLine.{OpenLine}
 use Rattle.read_state.specs.declared.Step.{Step}
-use Rattle.read_state.specs.Meaning.{dueOf, markedBy, movedOf, markedOf, contentOf, stepOf}
-use Rattle.read_state.specs.Holds.{DueHolds, Holds}
+use Rattle.read_state.specs.Meaning.{frameDueOf, dueOf, topicMarkedBy, markedBy, movedOf, markedOf, contentOf, stepOf}
+use Rattle.read_state.specs.Holds.{Holds}
 use Rattle.read_frame.specs.Heads.{HeadOf}
 use Rattle.read_frame.specs.Moves.{MovedHolds}
 use Rattle.read_frame.specs.declared.codes.Head.{Head}
 use Rattle.read_polylines.specs.Ways.{StepHolds, Does}
 use Rattle.read_polylines.proofs.Ways.{line-held}
 use Rattle.read_objects.specs.Rows.{Adds}
-use Rattle.read_step.specs.Steps.{marksBy, Small, SmallMoved, Framed, Steps, lineMeant}
-use Rattle.meaning.specs.Reading.{roomsOf}
+use Rattle.read_objects.specs.Tables.{TableHolds}
+use Rattle.read_step.specs.Steps.{topicMarksBy, marksBy, Steps, lineMeant}
 
 -- ## The state behind a line that adds no row, cell or point
 
@@ -64,37 +66,32 @@ next-holds b text seed s moved due marks marks′ rows cells points index e n d 
 
 -- ## Marks
 
--- only the marks change
-marked-content : (topics : ℕ) (due : Due) (c : Content) → record { marks = marksBy topics due (c .marks); rows = c .rows; cells = c .cells; points = c .points } ≡ markedBy topics due c
-unfolding markedBy
-marked-content topics Opening c = refl
-marked-content topics Description c = refl
-marked-content topics Transfer c = refl
-marked-content topics ModelName c = refl
-marked-content topics (TopicFrom s) c = refl
-marked-content topics (TableFrom from s) c = refl
-marked-content topics (ObjectOf h) c = refl
-marked-content topics (LineOf u) c = refl
-marked-content topics Closing c = refl
-marked-content topics Nothing c = refl
+-- only the marks change, and their count stays
+abbrev Marks : (Content → Content) → (List ℕ → List ℕ) → Type 0
+Marks marked by =
+    ((c : Content) → record { marks = by (c .marks); rows = c .rows; cells = c .cells; points = c .points } ≡ marked c)
+    × ((marks : List ℕ) → length (by marks) ≡ length marks)
 
--- their count stays
-pub marks-length : (topics : ℕ) (due : Due) (marks : List ℕ) → length (marksBy topics due marks) ≡ length marks
+topic-marks : (due : FrameDue) → Marks (topicMarkedBy due) (topicMarksBy due)
+unfolding topicMarkedBy
+topic-marks frame.Opening = ((λ c. refl), (λ marks. refl))
+topic-marks frame.Description = ((λ c. refl), (λ marks. refl))
+topic-marks frame.Transfer = ((λ c. refl), (λ marks. refl))
+topic-marks frame.ModelName = ((λ c. refl), (λ marks. refl))
+topic-marks (frame.Topic from) = ((λ c. refl), (λ marks. refl))
+topic-marks (frame.Table topic from) = ((λ c. refl), (λ marks. length-set marks topic 1))
+topic-marks frame.Closing = ((λ c. refl), (λ marks. refl))
+topic-marks frame.Nothing = ((λ c. refl), (λ marks. refl))
+
+due-marks : (topics : ℕ) (due : Due) → Marks (markedBy topics due) (marksBy topics due)
 unfolding markedBy
-marks-length topics Opening marks = refl
-marks-length topics Description marks = refl
-marks-length topics Transfer marks = refl
-marks-length topics ModelName marks = refl
-marks-length topics (TopicFrom s) marks = refl
-marks-length topics (TableFrom from s) marks = length-set marks (s .topics - 1) 1
-marks-length topics (ObjectOf h) marks = length-set marks (topics + h .table) 1
-marks-length topics (LineOf u) marks = refl
-marks-length topics Closing marks = refl
-marks-length topics Nothing marks = refl
+due-marks topics (Frame due) = topic-marks due
+due-marks topics (Object table) = ((λ c. refl), (λ marks. length-set marks (topics + table) 1))
+due-marks topics (Line u) = ((λ c. refl), (λ marks. refl))
 
 module _ (topics : ℕ) (due : Due) (marks marks′ : List ℕ) (e : marks′ ≡ marksBy topics due marks) where
   pub marks-kept : length marks′ ≡ length marks
-  marks-kept = ap length e ∙ marks-length topics due marks
+  marks-kept = ap length e ∙ due-marks topics due .1 marks
 
   all-marks : take (length marks) marks′ ≡ marksBy topics due (take (length marks) marks)
   all-marks = take-all (length marks) marks′ (omega (arith, marks-kept)) ∙ e ∙ ap (marksBy topics due) (sym (take-length marks))
@@ -102,17 +99,13 @@ module _ (topics : ℕ) (due : Due) (marks marks′ : List ℕ) (e : marks′ �
   marked-taken : (s : State) (rows : List ℕ) (cells points : List ℤ) → contentOf (length marks) s marks′ rows cells points ≡ markedBy topics due (contentOf (length marks) s marks rows cells points)
   marked-taken s rows cells points =
       ap (λ (x : List ℕ). record { marks = x; rows = take (s .rows) rows; cells = take (s .cells) cells; points = take (4 * s .points) points }) all-marks
-      ∙ marked-content topics due (contentOf (length marks) s marks rows cells points)
+      ∙ due-marks topics due .0 (contentOf (length marks) s marks rows cells points)
 
   pub marked-to : (b : List ℕ) (moved : Moved) → moved ≡ To due → (s : State) (rows : List ℕ) (cells points : List ℤ)
       → lines.go (dueOf b due) (contentOf (length marks) s marks′ rows cells points) ≡ markedOf b topics moved (contentOf (length marks) s marks rows cells points)
   marked-to b moved m s rows cells points =
       ap (lines.go (dueOf b due)) (marked-taken s rows cells points)
       ∙ sym (ap (λ (x : Moved). markedOf b topics x (contentOf (length marks) s marks rows cells points)) m)
-
--- behind such a line, under a model of so many topics
-pub marked-line : (b : List ℕ) (topics n : ℕ) (moved : Moved) (c : Content) (x y : lines.Step) → topics ≡ n → x ≡ markedOf b topics moved c → markedOf b n moved c ≡ y → x ≡ y
-marked-line b topics n moved c x y e p q = p ∙ ap (λ (t : ℕ). markedOf b t moved c) e ∙ q
 
 -- ## What a good model bounds
 
@@ -124,46 +117,61 @@ module _ (b : List ℕ) (g : checkModel b ≡ good (modelAt b)) where
       other : bad 0 ≡ good (modelAt b) → ⊥
       other e = let z : _≡_ {A = ℕ} 0 1 = cc in omega arith
 
-  pub few-topics : length (modelAt b .topics) < 2 ^ 32
-  few-topics = omega (arith, checked-good b (modelAt b) g .topicLimit)
-
-  small-due : (due : Due) → DueHolds (modelAt b) b [] 0 0 0 due → Small due
-  small-due Opening h = tt
-  small-due Description h = tt
-  small-due Transfer h = tt
-  small-due ModelName h = tt
-  small-due (TopicFrom s) h = tt
-  small-due (TableFrom from s) h = tt
-  small-due (ObjectOf t) h = omega (arith, h .table, checked-good b (modelAt b) g .tableLimit)
-  small-due (LineOf u) h = tt
-  small-due Closing h = tt
-  small-due Nothing h = tt
-
-  pub small-moved : (moved : Moved) → MovedHolds (modelAt b) b moved → SmallMoved moved
-  small-moved (To due) h = small-due due (h [] 0 0 0)
-  small-moved (No number field) h = tt
-
 -- ## A line outside objects
 
--- what is due outside objects does not look at the table
-pub framed-holds : (m : model.Model) (b rows : List ℕ) (n used points : ℕ) (due : Due) → DueHolds m b rows n used points due → Framed due → DueHolds m b [] 0 0 0 due
-framed-holds m b rows n used points Opening h f = tt
-framed-holds m b rows n used points Description h f = tt
-framed-holds m b rows n used points Transfer h f = tt
-framed-holds m b rows n used points ModelName h f = tt
-framed-holds m b rows n used points (TopicFrom s) h f = h
-framed-holds m b rows n used points (TableFrom from s) h f = h
-framed-holds m b rows n used points (ObjectOf t) h f = absurd f
-framed-holds m b rows n used points (LineOf u) h f = absurd f
-framed-holds m b rows n used points Closing h f = tt
-framed-holds m b rows n used points Nothing h f = tt
-
 -- a line of what is due, once it is known which
-pub by-due : (m : model.Model) (rooms : Rooms) (text b : List ℕ) (due due′ : Due) (l : List ℕ) (fs : List Field) (c : Content) (x : lines.Step) → due ≡ due′
-    → x ≡ lineDue m rooms text (dueOf b due′) l fs c → x ≡ lineDue m rooms text (dueOf b due) l fs c
-by-due m rooms text b due due′ l fs c x e h = h ∙ sym (ap (λ (d : Due). lineDue m rooms text (dueOf b d) l fs c) e)
+pub by-frame : (m : model.Model) (rooms : Rooms) (text : List ℕ) (due due′ : FrameDue) (l : List ℕ) (fs : List Field) (c : Content) (x : lines.Step) → due ≡ due′
+    → x ≡ lineDue m rooms text (frameDueOf due′) l fs c → x ≡ lineDue m rooms text (frameDueOf due) l fs c
+by-frame m rooms text due due′ l fs c x e h = h ∙ sym (ap (λ (d : FrameDue). lineDue m rooms text (frameDueOf d) l fs c) e)
+
+-- what a line outside objects does: it means this, and what holds stays
+abbrev FrameSteps : (b : List ℕ) (s : State) (l marks marks′ : List ℕ) (due : FrameDue) (r : Step) → Type 0
+FrameSteps b s l marks marks′ due r =
+    ((rooms : Rooms) (text : List ℕ) (start : ℕ) (rows : List ℕ) (cells points : List ℤ)
+    → stepOf b (length marks) r marks′ rows cells points
+    ≡ lineDue (modelAt b) rooms text (frameDueOf due) l (fieldsOf start l) (contentOf (length marks) s marks rows cells points))
+    × ((text : List ℕ) (seed : ℕ) (rows : List ℕ) (cells points : List ℤ) (index : List ℕ)
+    → Holds (modelAt b) b text seed s marks rows cells points index → StepHolds (modelAt b) b text seed r marks′ rows cells points index)
+
+module _ (b : List ℕ) (s : State) (l marks : List ℕ) (due due′ : FrameDue) (e : due ≡ due′) (moved : Moved) (r : Step) (d : MovedHolds (modelAt b) b moved) where
+  -- by a step that leaves the marks
+  pub plain-frame :
+      ((k : ℕ) (marks rows : List ℕ) (cells points : List ℤ) → stepOf b k r marks rows cells points ≡ movedOf b moved (contentOf k s marks rows cells points))
+      → ((text : List ℕ) (seed : ℕ) (marks rows : List ℕ) (cells points : List ℤ) (index : List ℕ) → MovedHolds (modelAt b) b moved
+      → Holds (modelAt b) b text seed s marks rows cells points index → StepHolds (modelAt b) b text seed r marks rows cells points index)
+      → ((rooms : Rooms) (text : List ℕ) (start : ℕ) (c : Content) → movedOf b moved c ≡ lineDue (modelAt b) rooms text (frameDueOf due′) l (fieldsOf start l) c)
+      → FrameSteps b s l marks marks due r
+  plain-frame step holds meant = (
+    (λ rooms text start rows cells points.
+        by-frame (modelAt b) rooms text due due′ l (fieldsOf start l) _ _ e
+        (step (length marks) marks rows cells points ∙ meant rooms text start (contentOf (length marks) s marks rows cells points))),
+    (λ text seed rows cells points index h. holds text seed marks rows cells points index d h),
+  )
+
+  -- by a step that may mark one of so many topics, or a table
+  pub marked-frame : (marks′ : List ℕ) (topics : ℕ) → topics ≡ length (modelAt b .topics)
+      → ((rows : List ℕ) (cells points : List ℤ) → stepOf b (length marks) r marks′ rows cells points ≡ markedOf b topics moved (contentOf (length marks) s marks rows cells points))
+      → ((text : List ℕ) (seed : ℕ) (rows : List ℕ) (cells points : List ℤ) (index : List ℕ) → MovedHolds (modelAt b) b moved
+      → Holds (modelAt b) b text seed s marks rows cells points index → StepHolds (modelAt b) b text seed r marks′ rows cells points index)
+      → ((rooms : Rooms) (text : List ℕ) (start : ℕ) (c : Content) → markedOf b (length (modelAt b .topics)) moved c ≡ lineDue (modelAt b) rooms text (frameDueOf due′) l (fieldsOf start l) c)
+      → FrameSteps b s l marks marks′ due r
+  marked-frame marks′ topics t step holds meant = (
+    (λ rooms text start rows cells points.
+        let c = contentOf (length marks) s marks rows cells points in
+        by-frame (modelAt b) rooms text due due′ l (fieldsOf start l) c _ e
+        (step rows cells points ∙ ap (λ (n : ℕ). markedOf b n moved c) t ∙ meant rooms text start c)),
+    (λ text seed rows cells points index h. holds text seed rows cells points index d h),
+  )
 
 -- ## A line among objects
+
+-- the table whose objects are read, by its number and the byte of its attributes
+pub table-open : (b : List ℕ) (shape : Shape) (places : List ℕ) (t first : ℕ) → Placed b shape places → t < shape .tables → first ≡ attributesPlace b places t
+    → TableHolds (modelAt b) b (record { table = t; at = first })
+table-open b shape places t first p l e =
+    let r = p .noted .table t l in
+    rw e
+    (record { table = omega (arith, l, p .tables); attributes = r .attributes; here = record { topics = _; tables = _; standing = r .standing } })
 
 -- where the rest of a line in the text begins
 pub behind-within : (text : List ℕ) (at end behind : ℕ) → at ≤ end → end ≤ length text → behind ≤ length (stretch text at (end - at)) → at + behind ≤ end
@@ -193,33 +201,41 @@ module _ (m : model.Model) (rooms : Rooms) (text l : List ℕ) (h : Head) (o : H
 
 -- ## What a line does to the buffers
 
+by-due : (m : model.Model) (rooms : Rooms) (text b : List ℕ) (due due′ : Due) (l : List ℕ) (fs : List Field) (c : Content) (x : lines.Step) → due ≡ due′
+    → x ≡ lineDue m rooms text (dueOf b due′) l fs c → x ≡ lineDue m rooms text (dueOf b due) l fs c
+by-due m rooms text b due due′ l fs c x e h = h ∙ sym (ap (λ (d : Due). lineDue m rooms text (dueOf b d) l fs c) e)
+
 module _ (b text : List ℕ) (seed : ℕ) (s : State) (at size : ℕ) (marks rows : List ℕ) (cells points : List ℤ) (index : List ℕ) (h : Holds (modelAt b) b text seed s marks rows cells points index) where
   -- a line outside objects
-  pub frame-steps : (marks′ : List ℕ) (r : Step) → Framed (s .due)
-      → (Framed (s .due) → (rooms : Rooms) (t : List ℕ) (start : ℕ) (rows : List ℕ) (cells points : List ℤ) → stepOf b (length marks) r marks′ rows cells points ≡ lineDue (modelAt b) rooms t (dueOf b (s .due)) (stretch text at size) (fieldsOf start (stretch text at size)) (contentOf (length marks) s marks rows cells points))
-      → (Framed (s .due) → (t : List ℕ) (seed : ℕ) (rows : List ℕ) (cells points : List ℤ) (index : List ℕ) → Holds (modelAt b) b t seed s marks rows cells points index → StepHolds (modelAt b) b t seed r marks′ rows cells points index)
+  pub frame-steps : (due : FrameDue) (marks′ : List ℕ) (r : Step) → s .due ≡ Frame due → FrameSteps b s (stretch text at size) marks marks′ due r
       → Steps b text seed s (lineMeant b text at size (s .due)) marks rows cells points index marks′ rows cells points index r
-  frame-steps marks′ r f e k = record { step = λ rooms er ec ep. e f rooms text at rows cells points; holds = k f text seed rows cells points index h }
+  unfolding dueOf
+  frame-steps due marks′ r e f = record {
+    step = λ rooms er ec ep.
+        by-due (modelAt b) rooms text b (s .due) (Frame due) (stretch text at size) (fieldsOf at (stretch text at size)) (contentOf (length marks) s marks rows cells points) _ e
+        (f .0 rooms text at rows cells points);
+    holds = f .1 text seed rows cells points index h;
+  }
 
   -- a line among the objects of a table
-  pub object-steps : (here : TableHere) (rows′ : List ℕ) (cells′ : List ℤ) (index′ : List ℕ) (r : Step) → s .due ≡ ObjectOf here
-      → Adds b text seed s (λ rooms c. objectLine (modelAt b) rooms text (here .table) (fieldsOf at (stretch text at size)) c) rows rows′ cells cells′ index index′ r
+  pub object-steps : (table : ℕ) (rows′ : List ℕ) (cells′ : List ℤ) (index′ : List ℕ) (r : Step) → s .due ≡ Object table
+      → Adds b text seed s (λ rooms c. objectLine (modelAt b) rooms text table (fieldsOf at (stretch text at size)) c) rows rows′ cells cells′ index index′ r
       → Steps b text seed s (lineMeant b text at size (s .due)) marks rows cells points index marks rows′ cells′ points index′ r
   unfolding lineDue dueOf
-  object-steps here rows′ cells′ index′ r e a = record {
+  object-steps table rows′ cells′ index′ r e a = record {
     step = λ rooms er ec ep.
-        by-due (modelAt b) rooms text b (s .due) (ObjectOf here) (stretch text at size) (fieldsOf at (stretch text at size)) (contentOf (length marks) s marks rows cells points) _ e
+        by-due (modelAt b) rooms text b (s .due) (Object table) (stretch text at size) (fieldsOf at (stretch text at size)) (contentOf (length marks) s marks rows cells points) _ e
         (a .step (length marks) rooms marks points er ec (h .pointsFit));
     holds = a .holds marks points h;
   }
 
   -- a line of the line attribute under way
-  pub line-steps : (u : Underway) (cells′ points′ : List ℤ) (r : Step) → s .due ≡ LineOf u
-      → ((rooms : Rooms) (t : List ℕ) (start : ℕ) → rooms .points ≡ length points → Does b u s (λ c. lineDue (modelAt b) rooms t (dueOf b (LineOf u)) (stretch text at size) (fieldsOf start (stretch text at size)) c) cells points cells′ points′ r)
+  pub line-steps : (u : OpenLine) (cells′ points′ : List ℤ) (r : Step) → s .due ≡ Line u
+      → ((rooms : Rooms) (t : List ℕ) (start : ℕ) → rooms .points ≡ length points → Does b u s (λ c. lineDue (modelAt b) rooms t (dueOf b (Line u)) (stretch text at size) (fieldsOf start (stretch text at size)) c) cells points cells′ points′ r)
       → Steps b text seed s (lineMeant b text at size (s .due)) marks rows cells points index marks rows cells′ points′ index r
   line-steps u cells′ points′ r e d = record {
     step = λ rooms er ec ep.
-        by-due (modelAt b) rooms text b (s .due) (LineOf u) (stretch text at size) (fieldsOf at (stretch text at size)) (contentOf (length marks) s marks rows cells points) _ e
+        by-due (modelAt b) rooms text b (s .due) (Line u) (stretch text at size) (fieldsOf at (stretch text at size)) (contentOf (length marks) s marks rows cells points) _ e
         (d rooms text at ep .step (length marks) marks rows);
     holds = d (roomsOf text marks rows cells points) text at refl .holds text seed marks rows index (line-held b text seed s marks rows cells points index u e h) h;
   }

@@ -1,15 +1,15 @@
 // One line, by what is due.
 ghost use mathlib.Core.Path.{_≡_};
-ghost use mathlib.Core.List.{List, []};
-ghost use Prim.Native.Nat.{ℕ, _+_, _-_, _≤_, _<_, _^_};
+ghost use mathlib.Core.List.{List};
+ghost use Prim.Native.Nat.{ℕ, _-_, _≤_, _<_, _^_};
 ghost use lib.IntN.{ℤ};
 ghost use lib.ListN.{length};
 ghost use Rattle.meaning.specs.Field.{fieldsOf};
-ghost use Rattle.meaning.specs.Reading.{Content, Rooms, stretch};
+ghost use Rattle.meaning.specs.Reading.{Rooms, stretch};
 ghost use Rattle.meaning.specs.Lines.{lineDue, objectLine};
 ghost use Rattle.model_records.specs.Records.{modelAt};
 ghost use Rattle.model_records.specs.Places.{Placed};
-ghost use Rattle.read_state.specs.Meaning.{frameDueOf, dueOf, movedOf, markedOf, contentOf, stepOf};
+ghost use Rattle.read_state.specs.Meaning.{frameDueOf, movedOf, markedOf, contentOf, stepOf};
 ghost use Rattle.read_state.specs.Holds.{FrameHolds, Holds};
 ghost use Rattle.table_index.specs.Holds.{Held};
 ghost use Rattle.read_frame.specs.Moves.{MovedHolds};
@@ -219,6 +219,6 @@ pub fn step_line(
             u,
             s,
         ),
-        Due::Frame(frame) => { frame_line(model, places, shape, &text[at..end], marks, frame, s) }
+        Due::Frame(frame) => frame_line(model, places, shape, &text[at..end], marks, frame, s),
     }
 }

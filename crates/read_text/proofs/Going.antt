@@ -1,31 +1,33 @@
 -- The loop over the lines: what it holds between two of them. Assumes nothing.
-use Prim.Native.Nat.{ℕ, _+_, _*_, _-_, _≤_, _<_}
+use Prim.Native.Nat.{ℕ, _+_, _-_, _≤_, _<_}
 use native.Mathlib.Omega.{arith}
 use mathlib.Core.Path.{_≡_, refl, sym, ap, subst, _∙_}
-use mathlib.Core.Bool.{Bool, true, false}
+use mathlib.Core.Bool.{true, false, false≢true}
 use mathlib.Core.List.{List, [], _∷_}
 use lib.IntN.{ℤ}
-use lib.ListN.{length, take, drop, replicate, length-replicate}
+use lib.ListN.{length, drop, replicate}
 use lib.Seq.{take-length}
 use Rattle.meaning.specs.Bytes.{refuse}
 use Rattle.meaning.specs.Reading as meaning
-use Rattle.meaning.specs.Reading.{Rooms, Content, startOf, nothingRead, nothing, isComplete, stretch}
+use Rattle.meaning.specs.Reading.{Rooms, startOf, nothingRead, isComplete}
 use Rattle.meaning.specs.Lines as lines
-use Rattle.meaning.specs.Lines.{run, ran, stopped, atEnd, readLines, go, no}
+use Rattle.meaning.specs.Lines.{run, ran, stopped, atEnd, readLines}
 use Rattle.model_records.specs.Records.{modelAt}
-use Rattle.read_state.specs.declared.Underway.{Underway}
-use Rattle.read_state.specs.declared.Due.the-variants.{Opening, Nothing}
+use Rattle.read_state.specs.declared.OpenLine.{OpenLine}
+use Rattle.read_state.specs.declared.Due.the-variants.{Frame}
+use Rattle.read_state.specs.declared.FrameDue.{FrameDue}
+use Rattle.read_state.specs.declared.FrameDue.the-variants as frame
 use Rattle.read_state.specs.declared.State.{State}
 use Rattle.read_state.specs.declared.Step.{Step}
 use Rattle.read_state.specs.declared.Step.the-variants.{Go}
-use Rattle.read_state.specs.Meaning.{underwayOf, dueOf, contentOf}
+use Rattle.model_records.specs.declared.places.Shape.{Shape}
+use Rattle.read_state.specs.Meaning.{openLineOf, frameDueOf, dueOf, contentOf}
 use Rattle.read_state.specs.Holds.{Holds}
 use Rattle.table_index.proofs.Kept.{held-start}
 use Rattle.read_text.specs.declared.loops.Ran.{Ran}
 use Rattle.read_text.specs.declared.loops.Ran.the-variants.{Read, Stopped}
 use Rattle.read_text.specs.Text.{linesOf, lineEnd}
-use Rattle.read_step.specs.Steps as line
-use Rattle.read_step.specs.Steps.{Steps, lineMeant}
+use Rattle.read_step.specs.Steps.{Prepared, Steps, lineMeant}
 use Rattle.read_text.specs.Outcomes.{RanTo, EndsAs}
 use Rattle.read_text.proofs.Turns.{forward, refused, run-end}
 
@@ -39,8 +41,8 @@ pub record Lends (rows : List ℕ) (cells points : List ℤ) (rooms : Rooms) : T
 abbrev pub stateAt : (b : List ℕ) (line at : ℕ) → State → (marks rows : List ℕ) (cells points : List ℤ) → meaning.State
 stateAt b line at s marks rows cells points = record { line = line; start = at; due = dueOf b (s .due); content = contentOf (length marks) s marks rows cells points }
 
-pub record Going (b text : List ℕ) (undefined topics seed : ℕ) (marks₀ rows₀ : List ℕ) (cells₀ points₀ : List ℤ) (index₀ : List ℕ) (marks rows : List ℕ) (cells points : List ℤ) (index : List ℕ) (s : State) (number at : ℕ) : Type 0 where
-  pub model : line.Model b undefined topics marks
+pub record Going (b : List ℕ) (shape : Shape) (places text : List ℕ) (seed : ℕ) (marks₀ rows₀ : List ℕ) (cells₀ points₀ : List ℤ) (index₀ : List ℕ) (marks rows : List ℕ) (cells points : List ℤ) (index : List ℕ) (s : State) (number at : ℕ) : Type 0 where
+  pub prepared : Prepared b shape places marks
   pub markSize : length marks ≡ length marks₀
   pub rowSize : length rows ≡ length rows₀
   pub cellSize : length cells ≡ length cells₀
@@ -52,27 +54,40 @@ pub record Going (b text : List ℕ) (undefined topics seed : ℕ) (marks₀ row
       → run (modelAt b) rooms text (stateAt b number at s marks rows cells points) (linesOf (drop at text)) ≡ run (modelAt b) rooms text (startOf (modelAt b)) (linesOf text)
 
 -- a line of a line attribute is still due
-pub line-due : (u : Underway) (ls : List meaning.LineAttribute) → isComplete (underwayOf u ls) ≡ false
-unfolding isComplete underwayOf
+pub line-due : (u : OpenLine) (ls : List meaning.LineAttribute) → isComplete (openLineOf u ls) ≡ false
+unfolding isComplete openLineOf
 line-due u [] = refl
 line-due u (a ∷ ls) = refl
 
+-- no line is due behind ENDE alone
+pub last-due : (due : FrameDue) → isComplete (frameDueOf due) ≡ true → due ≡ frame.Nothing
+unfolding isComplete frameDueOf
+last-due frame.Opening e = absurd (false≢true e)
+last-due frame.Description e = absurd (false≢true e)
+last-due frame.Transfer e = absurd (false≢true e)
+last-due frame.ModelName e = absurd (false≢true e)
+last-due (frame.Topic from) e = absurd (false≢true e)
+last-due (frame.Table topic from) e = absurd (false≢true e)
+last-due frame.Closing e = absurd (false≢true e)
+last-due frame.Nothing e = refl
+
 -- before the first line
 abbrev pub first : State
-first = record { due = Opening; rows = 0; cells = 0; points = 0 }
+first = record { due = Frame frame.Opening; rows = 0; cells = 0; points = 0 }
 
-module _ (b text : List ℕ) (undefined topics seed : ℕ) where
-  start-is : (marks rows : List ℕ) (cells points : List ℤ) → line.Model b undefined topics marks → marks ≡ replicate (length marks) 0
+module _ (b : List ℕ) (shape : Shape) (places text : List ℕ) (seed : ℕ) where
+  start-is : (marks rows : List ℕ) (cells points : List ℤ) → Prepared b shape places marks → marks ≡ replicate (length marks) 0
       → stateAt b 1 0 first marks rows cells points ≡ startOf (modelAt b)
-  unfolding startOf nothingRead dueOf
+  unfolding startOf nothingRead dueOf frameDueOf
   start-is marks rows cells points m e =
+      let count : length marks ≡ length (modelAt b .topics) + length (modelAt b .tables) = omega (arith, m .markCount, m .placed .topics, m .placed .tables) in
       ap (λ (k : List ℕ). record { line = 1; start = 0; due = meaning.opening; content = record { marks = k; rows = []; cells = []; points = [] } })
-      (take-length marks ∙ e ∙ ap (λ (n : ℕ). replicate n 0) (m .markCount ∙ ap (λ (n : ℕ). n + length (modelAt b .tables)) (m .topicCount)))
+      (take-length marks ∙ e ∙ ap (λ (n : ℕ). replicate n 0) count)
 
-  pub begin : (marks rows : List ℕ) (cells points : List ℤ) (index : List ℕ) → line.Model b undefined topics marks → marks ≡ replicate (length marks) 0 → index ≡ replicate (length index) 0
-      → Going b text undefined topics seed marks rows cells points index marks rows cells points index first 1 0
+  pub begin : (marks rows : List ℕ) (cells points : List ℤ) (index : List ℕ) → Prepared b shape places marks → marks ≡ replicate (length marks) 0 → index ≡ replicate (length index) 0
+      → Going b shape places text seed marks rows cells points index marks rows cells points index first 1 0
   begin marks rows cells points index m e z = record {
-    model = m;
+    prepared = m;
     markSize = refl;
     rowSize = refl;
     cellSize = refl;
@@ -83,14 +98,14 @@ module _ (b text : List ℕ) (undefined topics seed : ℕ) where
       objects = held-start seed text rows cells index (length index) z;
       laid = record { table = λ o l. absurd (omega arith); ends = λ o l. absurd (omega arith); apart = λ o p l k. absurd (omega arith) };
       pointsFit = omega arith;
-      marksFit = omega (arith, m .markCount, m .topicCount);
+      marksFit = omega (arith, m .markCount, m .placed .topics, m .placed .tables);
     };
     numbered = omega arith;
     runs = λ rooms l. ap (λ (x : meaning.State). run (modelAt b) rooms text x (linesOf text)) (start-is marks rows cells points m e);
   }
 
   module _ {marks₀ rows₀ : List ℕ} {cells₀ points₀ : List ℤ} {index₀ marks rows : List ℕ} {cells points : List ℤ} {index : List ℕ} {s : State} {number at : ℕ}
-      (g : Going b text undefined topics seed marks₀ rows₀ cells₀ points₀ index₀ marks rows cells points index s number at) where
+      (g : Going b shape places text seed marks₀ rows₀ cells₀ points₀ index₀ marks rows cells points index s number at) where
     -- the rooms, as the next line sees them
     lends : (rooms : Rooms) → Lends rows₀ cells₀ points₀ rooms → Lends rows cells points rooms
     lends rooms l = record { rowRoom = l .rowRoom ∙ sym (g .rowSize); cellRoom = l .cellRoom ∙ sym (g .cellSize); pointRoom = l .pointRoom ∙ sym (g .pointSize) }
@@ -99,10 +114,10 @@ module _ (b text : List ℕ) (undefined topics seed : ℕ) where
     module _ (e : ℕ) (inside : at < length text) (end : e ≡ at + lineEnd (drop at text)) (within : e ≤ length text) {marks′ rows′ : List ℕ} {cells′ points′ : List ℤ} {index′ : List ℕ} where
       pub again : (next : State) → length marks′ ≡ length marks → length rows′ ≡ length rows → length cells′ ≡ length cells → length points′ ≡ length points → length index′ ≡ length index
           → Steps b text seed s (lineMeant b text at (e - at) (s .due)) marks rows cells points index marks′ rows′ cells′ points′ index′ (Go next)
-          → Going b text undefined topics seed marks₀ rows₀ cells₀ points₀ index₀ marks′ rows′ cells′ points′ index′ next (number + 1) (e + 1)
+          → Going b shape places text seed marks₀ rows₀ cells₀ points₀ index₀ marks′ rows′ cells′ points′ index′ next (number + 1) (e + 1)
       unfolding lines.stepOf
       again next ma ro ce po ix t = record {
-        model = record { good = g .model .good; undefinedByte = g .model .undefinedByte; topicCount = g .model .topicCount; markCount = ma ∙ g .model .markCount };
+        prepared = record { placed = g .prepared .placed; markCount = ma ∙ g .prepared .markCount };
         markSize = ma ∙ g .markSize;
         rowSize = ro ∙ g .rowSize;
         cellSize = ce ∙ g .cellSize;
@@ -133,7 +148,7 @@ module _ (b text : List ℕ) (undefined topics seed : ℕ) where
 
       pub ends : (r : Ran) → EndsAs s number r → (rooms : Rooms) → Lends rows₀ cells₀ points₀ rooms
           → RanTo b text seed marks rows cells points index (readLines (modelAt b) rooms text (startOf (modelAt b)) (linesOf text)) r
-      unfolding readLines atEnd isComplete dueOf refuse
+      unfolding readLines atEnd isComplete dueOf frameDueOf refuse
       ends (Read t) h rooms l = record {
         line = number;
         start = at;

@@ -1,13 +1,13 @@
 -- One turn of the loop over the lines: what the rest means is what the whole meant. Assumes nothing.
 use Prim.Native.Nat.{ℕ, _+_, _-_, _≤_, _<_}
-use mathlib.Core.Path.{_≡_, refl, sym, ap, _∙_}
-use mathlib.Core.List.{List, [], _∷_}
+use mathlib.Core.Path.{_≡_, sym, ap, _∙_}
+use mathlib.Core.List.{List, _∷_}
 use native.Mathlib.Omega.{arith}
 use lib.ListN.{length, take, drop, length-drop}
 use lib.Seq.{length-take-le}
 use Rattle.meaning.specs.Model.{Model}
 use Rattle.meaning.specs.Reading.{Due, Content, State, behind, Rooms}
-use Rattle.meaning.specs.Lines.{Step, go, no, stepOf, Run, ran, stopped, run}
+use Rattle.meaning.specs.Lines.{go, no, stepOf, Run, ran, stopped, run}
 use Rattle.read_text.specs.Text.{linesOf, lineEnd}
 use Rattle.read_text.proofs.TextLines.{split, past}
 

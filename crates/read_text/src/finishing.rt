@@ -1,7 +1,7 @@
 // What is left in the lent buffers.
 ghost use mathlib.Core.Path.{_≡_};
 ghost use lib.ListN.{length, replicate};
-ghost use Rattle.read_text.specs.Outcomes.{Fits, Finished, Zeroed, Closed};
+ghost use Rattle.read_text.specs.Outcomes.{Fits, Finished, Zeroed};
 use crate::Answer;
 use base::rooms;
 
@@ -13,7 +13,9 @@ fn clear_all(
     cells: &mut [i64],
     points: &mut [i64],
 )
-    ensures { λ _. ⌜ Zeroed (now (text .entry)) (now (marks .entry)) (now (rows .entry)) (now (cells .entry)) (now (points .entry)) (now (text .exit)) (now (marks .exit)) (now (rows .exit)) (now (cells .exit)) (now (points .exit)) ⌝ }
+    ensures { λ _. ⌜ Zeroed
+        (now (text .entry)) (now (marks .entry)) (now (rows .entry)) (now (cells .entry)) (now (points .entry))
+        (now (text .exit)) (now (marks .exit)) (now (rows .exit)) (now (cells .exit)) (now (points .exit)) ⌝ }
 {
     rooms::clear(text);
     rooms::clear(marks);
@@ -33,7 +35,9 @@ pub fn finish(
     index: &mut [u64],
 )
     requires { ⌜ Fits (now rows) (now cells) (now points) answer ⌝ }
-    ensures { λ _. ⌜ Finished (now (text .entry)) (now (marks .entry)) (now (rows .entry)) (now (cells .entry)) (now (points .entry)) (now (text .exit)) (now (marks .exit)) (now (rows .exit)) (now (cells .exit)) (now (points .exit)) answer ⌝ }
+    ensures { λ _. ⌜ Finished
+        (now (text .entry)) (now (marks .entry)) (now (rows .entry)) (now (cells .entry)) (now (points .entry))
+        (now (text .exit)) (now (marks .exit)) (now (rows .exit)) (now (cells .exit)) (now (points .exit)) answer ⌝ }
     ensures { λ _. ⌜ now (index .exit) ≡ replicate (length (now (index .entry))) 0 ⌝ }
 {
     table_index::clear(index);

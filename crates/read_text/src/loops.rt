@@ -71,7 +71,11 @@ pub fn read_lines(
     requires { ⌜ Prepared (now model) shape (now places) (now marks) ⌝ }
     requires { ⌜ length (now text) < 2 ^ 62 ⌝ }
     requires { ⌜ (now marks ≡ replicate (length (now marks)) 0) × (now index ≡ replicate (length (now index)) 0) ⌝ }
-    ensures { λ r. ⌜ ((rooms : Rooms) → rooms .rows ≡ length (now (rows .entry)) → rooms .cells ≡ length (now (cells .entry)) → rooms .points ≡ length (now (points .entry)) → RanTo (now (model .entry)) (now (text .entry)) seed (now (marks .exit)) (now (rows .exit)) (now (cells .exit)) (now (points .exit)) (now (index .exit)) (readLines (modelAt (now (model .entry))) rooms (now (text .entry)) (startOf (modelAt (now (model .entry)))) (linesOf (now (text .entry)))) r) ⌝ }
+    ensures { λ r. ⌜ (let m = modelAt (now (model .entry)) in let t = now (text .entry) in
+        (rooms : Rooms) → rooms .rows ≡ length (now (rows .entry)) → rooms .cells ≡ length (now (cells .entry))
+        → rooms .points ≡ length (now (points .entry))
+        → RanTo (now (model .entry)) t seed (now (marks .exit)) (now (rows .exit)) (now (cells .exit))
+        (now (points .exit)) (now (index .exit)) (readLines m rooms t (startOf m) (linesOf t)) r) ⌝ }
 {
     let mut s = State {
         due: Due::Frame(FrameDue::Opening),

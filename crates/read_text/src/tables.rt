@@ -2,7 +2,7 @@
 ghost use mathlib.Core.Path.{_≡_};
 ghost use mathlib.Core.List.{List};
 ghost use lib.IntN.{ℤ};
-ghost use Prim.Native.Nat.{ℕ, _+_, _*_, _≤_, _<_, _^_};
+ghost use Prim.Native.Nat.{ℕ, _*_, _≤_, _<_, _^_};
 ghost use lib.ListN.{length};
 ghost use Rattle.meaning.specs.Reading.{startOf, Rooms};
 ghost use Rattle.meaning.specs.Lines.{readLines};
@@ -37,8 +37,13 @@ fn resolve_all(
     requires { ⌜ Held seed (now text) (s .rows) (s .cells) (now rows) (now cells) (now index) ⌝ }
     requires { ⌜ Laid (modelAt (now model)) (s .rows) (s .cells) (now rows) (now cells) ⌝ }
     requires { ⌜ Placed (now model) shape (now places) ⌝ }
-    ensures read { λ r. ⌜ ((rooms : Rooms) (marks : List ℕ) (points : List ℤ) → 4 * s .points ≤ length points → TableRead (readResolved rooms (now (text .entry)) (usedOf marks (now (rows .entry)) (now (cells .entry)) points (s .rows) (s .cells) (s .points)) (resolve (modelAt (now (model .entry))) (now (text .entry)) (usedOf marks (now (rows .entry)) (now (cells .entry)) points (s .rows) (s .cells) (s .points)))) rooms (now (text .entry)) marks (now (rows .entry)) (now (cells .exit)) points r) ⌝ }
-    ensures fits { λ r. ⌜ ((points : List ℤ) → 4 * s .points ≤ length points → Fits (now (rows .entry)) (now (cells .exit)) points r) ⌝ }
+    ensures read { λ r. ⌜ (let m = modelAt (now (model .entry)) in let t = now (text .entry) in
+        (rooms : Rooms) (marks : List ℕ) (points : List ℤ) → 4 * s .points ≤ length points
+        → let used = usedOf marks (now (rows .entry)) (now (cells .entry)) points (s .rows) (s .cells) (s .points) in
+        TableRead (readResolved rooms t used (resolve m t used)) rooms t
+        marks (now (rows .entry)) (now (cells .exit)) points r) ⌝ }
+    ensures fits { λ r. ⌜ ((points : List ℤ) → 4 * s .points ≤ length points
+        → Fits (now (rows .entry)) (now (cells .exit)) points r) ⌝ }
 {
     let used = s.cells;
     let done = read_references::rows::resolve_references(
@@ -73,7 +78,11 @@ pub fn read_table(
 ) -> Answer
     requires { ⌜ Prepared (now model) shape (now places) (now marks) ⌝ }
     requires { ⌜ length (now text) < 2 ^ 62 ⌝ }
-    ensures read { λ r. ⌜ ((rooms : Rooms) → rooms .rows ≡ length (now (rows .entry)) → rooms .cells ≡ length (now (cells .entry)) → rooms .points ≡ length (now (points .entry)) → TableRead (readRun (modelAt (now (model .entry))) rooms (now (text .entry)) (readLines (modelAt (now (model .entry))) rooms (now (text .entry)) (startOf (modelAt (now (model .entry)))) (linesOf (now (text .entry))))) rooms (now (text .entry)) (now (marks .exit)) (now (rows .exit)) (now (cells .exit)) (now (points .exit)) r) ⌝ }
+    ensures read { λ r. ⌜ (let m = modelAt (now (model .entry)) in let t = now (text .entry) in
+        (rooms : Rooms) → rooms .rows ≡ length (now (rows .entry)) → rooms .cells ≡ length (now (cells .entry))
+        → rooms .points ≡ length (now (points .entry))
+        → TableRead (readRun m rooms t (readLines m rooms t (startOf m) (linesOf t))) rooms t
+        (now (marks .exit)) (now (rows .exit)) (now (cells .exit)) (now (points .exit)) r) ⌝ }
     ensures fits { λ r. ⌜ Fits (now (rows .exit)) (now (cells .exit)) (now (points .exit)) r ⌝ }
 {
     rooms::clear(marks);

@@ -1,14 +1,14 @@
 -- `read::read_into` meets its contract. Assumes nothing.
-use borrow.Author.Needs.{needs}
 use mathlib.Core.Path.{sym, ap, subst, _∙_}
 use native.Mathlib.Omega.{arith}
 use Rattle.meaning.specs.Table.{Result}
+use Rattle.meaning.specs.Reading.{roomsOf}
 use Rattle.model_records.specs.Records.{modelAt}
 use Rattle.model_check.specs.Walk.{checkedMeant}
-use Rattle.model_check.proofs.Found.{found-good, found-topics, found-bad}
-use Rattle.meaning.specs.Reading.{roomsOf}
+use Rattle.model_check.proofs.Found.{found-good, found-bad}
 use Rattle.read_text.specs.Outcomes.{ReadInto}
 use Rattle.read.proofs.Files.{too-long, under-bad, under-good}
+use borrow.Author.Needs.{needs}
 use Rattle.read.proofs.read_into.Statement.{statement}
 use Rattle.read.proofs.read_into.Tie as tie
 
@@ -23,22 +23,23 @@ check-requires c κs = search needs
 enum-known-checked : tie.Need-enum-known-checked
 enum-known-checked c = search needs
 
-enum-known-checked-2 : tie.Need-enum-known-checked-2
-enum-known-checked-2 c = search needs
+enum-told : tie.Need-enum-told
+enum-told c = search needs
 
 read-good-requires : tie.Need-read-good-requires
 unfolding checkedMeant
 read-good-requires c κs =
-    let b = c .before .before .before .before .before .before .before .before .before .before .before .before .before .before .before .before .before .args .model .now in
-    let e = sym (ap checkedMeant (c .before .before .before .before .before .before .before .checked2 .given .1)) ∙ c .before .before .before .before .before .before .before .before .before .check .ensures in
-    (found-good b _ e, (found-topics b _ e, omega (arith, c .before .before .before .before .before .before .before .before .before .before .if1 .left)))
+    let q = c .before .before .before .before .before .before .before .before in
+    let e = sym (ap checkedMeant (c .before .before .before .before .before .before .enum-told .given .1)) ∙ q .check .ensures in
+    (found-good (q .before .before .before .before .before .before .before .before .args .model .now) _ e, omega (arith, q .before .if1 .left))
 
 returns-2 : tie.Need-returns-2
 unfolding checkedMeant
 returns-2 c =
-    let a = c .before .before .before .before .before .before .before .before .before .before .before .args in
-    let e = sym (ap checkedMeant (c .before .checked .given .1)) ∙ c .before .before .before .check .ensures in
-    (under-bad (a .model .now) (a .file .now) _ (omega (arith, c .before .before .before .before .if1 .left)) _ (found-bad (a .model .now) _ e), tt)
+    let q = c .before .before .before in
+    let a = q .before .before .before .before .before .before .before .before .args in
+    let e = sym (ap checkedMeant (c .before .checked .given .1)) ∙ q .check .ensures in
+    (under-bad (a .model .now) (a .file .now) _ (omega (arith, q .before .if1 .left)) _ (found-bad (a .model .now) _ e), tt)
 
 same-length : tie.Need-same-length
 same-length c = search needs
@@ -61,12 +62,15 @@ same-length-6 c = search needs
 returns-3 : tie.Need-returns-3
 unfolding checkedMeant
 returns-3 c =
-    let a = c .before .before .before .before .before .before .before .before .before .before .before .before .before .before .before .before .before .before .before .before .before .before .before .before .before .before .before .before .args in
+    let q = c .before .before .before .before .before .before .before .before .before .before .before .before .before .before .before .before .before .before .before in
+    let a = q .before .before .before .before .before .before .before .before .args in
+    let b = a .model .now in
     let r = c .before .before .before .before .before .before .before .before .before .before .read-good in
+    let x = r .last .1 .1 in
     let rooms = roomsOf (a .text .now) (a .marks .now) (a .rows .now) (a .cells .now) (a .points .now) in
-    let e = sym (ap checkedMeant (c .before .before .before .before .before .before .before .before .before .before .before .before .before .before .before .before .before .before .checked2 .given .1)) ∙ c .before .before .before .before .before .before .before .before .before .before .before .before .before .before .before .before .before .before .before .before .check .ensures in (
-      subst (λ (q : Result). ReadInto q rooms (r .last .1 .1 .1 .0) (r .last .1 .1 .1 .1 .0) (r .last .1 .1 .1 .1 .1 .0) (r .last .1 .1 .1 .1 .1 .1 .0) (r .last .1 .1 .1 .1 .1 .1 .1 .0) (r .result))
-          (under-good (a .model .now) (a .file .now) rooms (omega (arith, c .before .before .before .before .before .before .before .before .before .before .before .before .before .before .before .before .before .before .before .before .before .if1 .left)) (modelAt (a .model .now)) (found-good (a .model .now) _ e)) (r .ensures .0),
+    let e = sym (ap checkedMeant (c .before .before .before .before .before .before .before .before .before .before .before .before .before .before .before .before .before .enum-told .given .1)) ∙ q .check .ensures in (
+      subst (λ (o : Result). ReadInto o rooms (x .0) (x .1 .0) (x .1 .1 .0) (x .1 .1 .1 .0) (x .1 .1 .1 .1 .0) (r .result))
+          (under-good b (a .file .now) rooms (omega (arith, q .before .if1 .left)) (modelAt b) (found-good b _ e)) (r .ensures .0),
       r .ensures .1,
     )
 
@@ -77,7 +81,7 @@ read-into-spec =
     returns
     check-requires
     enum-known-checked
-    enum-known-checked-2
+    enum-told
     read-good-requires
     returns-2
     same-length

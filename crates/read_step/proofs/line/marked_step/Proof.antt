@@ -1,10 +1,8 @@
 -- `read_step::marked_step` meets its contract. Assumes nothing.
-use borrow.Author.Needs.{needs}
-use mathlib.Core.Path.{subst}
 use lib.ListN.{length}
 use Rattle.read_state.specs.Meaning.{contentOf}
-use Rattle.read_step.specs.Steps.{SmallMoved}
 use Rattle.read_step.proofs.Stepping.{marked-to, marked-no, marks-kept, next-holds}
+use borrow.Author.Needs.{needs}
 use Rattle.read_step.proofs.line.marked_step.Statement.{statement}
 use Rattle.read_step.proofs.line.marked_step.Tie as tie
 
@@ -12,9 +10,7 @@ enum-known-moved : tie.Need-enum-known-moved
 enum-known-moved c = search needs
 
 mark-due-requires : tie.Need-mark-due-requires
-mark-due-requires c κs =
-    let p = c .before .before .before .before .before .pre in
-    (p .0, subst SmallMoved (c .before .before .moved .given .1) (p .1))
+mark-due-requires c κs = search needs
 
 enum-known-moved-2 : tie.Need-enum-known-moved-2
 enum-known-moved-2 c = search needs

@@ -1,12 +1,12 @@
 -- `read_step::object_line` meets its contract. Assumes nothing.
-use borrow.Author.Needs.{needs}
-use mathlib.Core.Path.{_∙_}
 use Prim.Native.Nat.{_-_}
+use mathlib.Core.Path.{_∙_}
 use native.Mathlib.Omega.{arith}
 use Rattle.meaning.specs.Reading.{stretch}
 use Rattle.model_records.specs.Records.{modelAt}
 use Rattle.read_state.specs.Meaning.{contentOf}
-use Rattle.read_step.proofs.Stepping.{behind-within, adds-as, object-here, object-none}
+use Rattle.read_step.proofs.Stepping.{model-short, behind-within, adds-as, table-open, object-here, object-none}
+use borrow.Author.Needs.{needs}
 use Rattle.read_step.proofs.line.object_line.Statement.{statement}
 use Rattle.read_step.proofs.line.object_line.Tie as tie
 
@@ -39,29 +39,41 @@ plain-step-requires c κs = search needs
 
 returns : tie.Need-returns
 returns c =
-    let a = c .before .before .before .before .before .before .before .before .before .before .before .args in
+    let q = c .before .before .before .before .before in
+    let a = q .before .before .before .before .before .before .before .args in
     let b = a .model .now in
     let l = stretch (a .text .now) (a .at) (a .end - a .at) in
-    let h = c .before .before .before .before .before .head-of in
     let m = c .before .behind-objects in
-    let p = c .plain-step in
     record {
       step = λ k rooms marks points er ec fits.
           let x = contentOf k (a .s) marks (a .rows .now) (a .cells .now) points in
-          p .ensures .0 b k marks (a .rows .now) (a .cells .now) points
+          c .plain-step .ensures .0 b k marks (a .rows .now) (a .cells .now) points
           ∙ m .ensures .0 rooms (a .text .now) (a .at) x
-          ∙ object-none (modelAt b) rooms (a .text .now) l (h .result) (h .ensures) (a .here .table) (a .at) x (c .before .before .before .if1 .taken);
-      holds = λ marks points g. p .ensures .1 b (a .text .now) (a .seed) marks (a .rows .now) (a .cells .now) points (a .index .now) (m .ensures .1) g;
+          ∙ object-none (modelAt b) rooms (a .text .now) l (q .head-of .result) (q .head-of .ensures) (a .table) (a .at) x (c .before .before .before .if1 .taken);
+      holds = λ marks points g. c .plain-step .ensures .1 b (a .text .now) (a .seed) marks (a .rows .now) (a .cells .now) points (a .index .now) (m .ensures .1) g;
     }
+
+attributes-at-requires : tie.Need-attributes-at-requires
+attributes-at-requires c κs = search needs
 
 object-fields-requires : tie.Need-object-fields-requires
 object-fields-requires c κs =
-    let q = c .before .before .before .before .before .before .before .before .before .before .before in
-    let a = q .args in
-    let p = q .pre in
-    let h = c .before .before .before .before .before .head-of in
-    let e = c .before .before .before .if1 .left in
-    (p .0, ((behind-within (a .text .now) (a .at) (a .end) (h .result .behind) (p .1 .0 .0) (p .1 .0 .1) (h .ensures .within), p .1 .0 .1, p .1 .0 .2), (p .1 .1 .0, ((h .ensures .some (omega (arith, e)) (a .at), h .ensures .others (a .at)), p .1 .1 .1))))
+    let q = c .before .before .before .before .before .before in
+    let g = q .before .before .before .before .before .before .before in
+    let a = g .args in
+    let b = a .model .now in
+    let p = g .pre in
+    let h = q .head-of in
+    let t = p .1 .1 .0 in (
+      table-open b (a .shape) (a .places .now) (a .table) _ (p .0) (p .1 .0) (c .before .before .before .attributes-at .ensures),
+      (
+        (behind-within (a .text .now) (a .at) (a .end) (h .result .behind) (t .0) (t .1) (h .ensures .within), t .1, t .2),
+        (
+          (model-short b (p .0 .good), p .0 .undefined),
+          ((h .ensures .some (omega (arith, c .before .before .before .before .if1 .left)) (a .at), h .ensures .others (a .at)), p .1 .1 .1),
+        ),
+      ),
+    )
 
 same-length : tie.Need-same-length
 same-length c = search needs
@@ -74,12 +86,13 @@ same-length-3 c = search needs
 
 returns-2 : tie.Need-returns-2
 returns-2 c =
-    let a = c .before .before .before .before .before .before .before .before .before .before .before .before .before .before .before .before .before .args in
+    let q = c .before .before .before .before .before .before .before .before .before .before .before .before in
+    let a = q .before .before .before .before .before .before .before .args in
     let b = a .model .now in
     let l = stretch (a .text .now) (a .at) (a .end - a .at) in
-    let h = c .before .before .before .before .before .before .before .before .before .before .before .head-of in
-    let e = c .before .before .before .before .before .before .before .before .before .if1 .left in
-    adds-as b (a .text .now) (a .seed) (a .s) _ _ (a .rows .now) _ (a .cells .now) _ (a .index .now) _ _ (λ rooms x. object-here (modelAt b) rooms (a .text .now) l (h .result) (h .ensures) (a .here .table) (a .at) x e)
+    let h = q .head-of in
+    adds-as b (a .text .now) (a .seed) (a .s) _ _ (a .rows .now) _ (a .cells .now) _ (a .index .now) _ _
+    (λ rooms x. object-here (modelAt b) rooms (a .text .now) l (h .result) (h .ensures) (a .table) (a .at) x (c .before .before .before .before .before .before .before .before .before .before .if1 .left))
     (c .before .before .before .before .before .object-fields .ensures)
 
 pub object-line-spec : {M : Type 1} → statement M
@@ -96,6 +109,7 @@ object-line-spec =
     behind-objects-requires
     plain-step-requires
     returns
+    attributes-at-requires
     object-fields-requires
     same-length
     same-length-2

@@ -1,8 +1,8 @@
 -- `read_step::plain_step` meets its contract. Assumes nothing.
-use borrow.Author.Needs.{needs}
 use mathlib.Core.Path.{refl}
 use Rattle.read_state.specs.Meaning.{contentOf}
 use Rattle.read_step.proofs.Stepping.{moved-to, moved-no, next-holds}
+use borrow.Author.Needs.{needs}
 use Rattle.read_step.proofs.line.plain_step.Statement.{statement}
 use Rattle.read_step.proofs.line.plain_step.Tie as tie
 

@@ -1,11 +1,23 @@
 -- `read_text::loops::at_end` meets its contract. Assumes nothing.
-use borrow.Author.Needs.{needs}
-use mathlib.Core.Path.{refl}
+use mathlib.Core.Path.{refl, sym, ap, _∙_}
 use Rattle.meaning.specs.Reading.{isComplete}
 use Rattle.read_state.specs.Meaning.{dueOf}
-use Rattle.read_text.proofs.Going.{line-due}
+use Rattle.read_state.specs.declared.Due.the-variants.{Frame}
+use Rattle.read_text.proofs.Going.{line-due, last-due}
+use borrow.Author.Needs.{needs}
 use Rattle.read_text.proofs.loops.at_end.Statement.{statement}
 use Rattle.read_text.proofs.loops.at_end.Tie as tie
+
+enum-known-due : tie.Need-enum-known-due
+enum-known-due c = search needs
+
+is-last-requires : tie.Need-is-last-requires
+is-last-requires c κs = search needs
+
+returns : tie.Need-returns
+returns c =
+    let d = c .before .before .before .due .given in
+    (refl, d .1 ∙ ap Frame (last-due (d .0 .0) (sym (c .before .is-last .ensures) ∙ c .if1 .taken)))
 
 enum-told : tie.Need-enum-told
 enum-told c = search needs
@@ -13,90 +25,29 @@ enum-told c = search needs
 enum-told-2 : tie.Need-enum-told-2
 enum-told-2 c = search needs
 
-enum-told-3 : tie.Need-enum-told-3
-enum-told-3 c = search needs
-
-enum-told-4 : tie.Need-enum-told-4
-enum-told-4 c = search needs
-
-enum-told-5 : tie.Need-enum-told-5
-enum-told-5 c = search needs
-
-enum-told-6 : tie.Need-enum-told-6
-enum-told-6 c = search needs
-
-enum-told-7 : tie.Need-enum-told-7
-enum-told-7 c = search needs
-
-enum-told-8 : tie.Need-enum-told-8
-enum-told-8 c = search needs
-
-enum-told-9 : tie.Need-enum-told-9
-enum-told-9 c = search needs
-
-enum-told-10 : tie.Need-enum-told-10
-enum-told-10 c = search needs
-
-returns : tie.Need-returns
-unfolding isComplete dueOf
-returns c = (refl, refl, refl, λ b. rw (c .enum-told .given .1))
-
 returns-2 : tie.Need-returns-2
-unfolding isComplete dueOf
-returns-2 c = (refl, refl, refl, λ b. rw (c .enum-told2 .given .1))
+unfolding dueOf
+returns-2 c =
+    let d = c .before .before .before .due .given in
+    (refl, refl, refl, λ b. rw (d .1) (sym (c .before .is-last .ensures) ∙ c .if1 .left))
 
 returns-3 : tie.Need-returns-3
 unfolding isComplete dueOf
-returns-3 c = (refl, refl, refl, λ b. rw (c .enum-told3 .given .1))
+returns-3 c = (refl, refl, refl, λ b. rw (c .enum-told .given .1))
 
 returns-4 : tie.Need-returns-4
-unfolding isComplete dueOf
-returns-4 c = (refl, refl, refl, λ b. rw (c .enum-told4 .given .1))
-
-returns-5 : tie.Need-returns-5
-unfolding isComplete dueOf
-returns-5 c = (refl, refl, refl, λ b. rw (c .enum-told5 .given .1))
-
-returns-6 : tie.Need-returns-6
-unfolding isComplete dueOf
-returns-6 c = (refl, refl, refl, λ b. rw (c .enum-told6 .given .1))
-
-returns-7 : tie.Need-returns-7
-unfolding isComplete dueOf
-returns-7 c = (refl, refl, refl, λ b. rw (c .enum-told7 .given .1))
-
-returns-8 : tie.Need-returns-8
 unfolding dueOf
-returns-8 c = (refl, refl, refl, λ b. rw (c .enum-told8 .given .1) (line-due _ _))
-
-returns-9 : tie.Need-returns-9
-unfolding isComplete dueOf
-returns-9 c = (refl, refl, refl, λ b. rw (c .enum-told9 .given .1))
-
-returns-10 : tie.Need-returns-10
-returns-10 c = search needs
+returns-4 c = (refl, refl, refl, λ b. rw (c .enum-told2 .given .1) (line-due _ _))
 
 pub at-end-spec : {M : Type 1} → statement M
 at-end-spec =
     tie.close
     (tie.spec
+    enum-known-due
+    is-last-requires
+    returns
     enum-told
     enum-told-2
-    enum-told-3
-    enum-told-4
-    enum-told-5
-    enum-told-6
-    enum-told-7
-    enum-told-8
-    enum-told-9
-    enum-told-10
-    returns
     returns-2
     returns-3
-    returns-4
-    returns-5
-    returns-6
-    returns-7
-    returns-8
-    returns-9
-    returns-10)
+    returns-4)

@@ -1,5 +1,4 @@
 -- `read_text::tables::resolve_all` meets its contract. Assumes nothing.
-use borrow.Author.Needs.{needs}
 use mathlib.Core.Path.{sym, ap, _∙_}
 use lib.Seq.{length-take-le}
 use Rattle.model_records.specs.Records.{modelAt}
@@ -7,6 +6,7 @@ use Rattle.read_references.specs.Resolved.{resolvedOf}
 use Rattle.read_references.specs.declared.Resolved.{Resolved}
 use Rattle.read_text.proofs.Counted.{first-held, first-laid}
 use Rattle.read_text.proofs.Referring.{resolved-read, unresolved-read, resolved-fits}
+use borrow.Author.Needs.{needs}
 use Rattle.read_text.proofs.tables.resolve_all.Statement.{statement}
 use Rattle.read_text.proofs.tables.resolve_all.Tie as tie
 
@@ -14,14 +14,20 @@ slice-relend-prefix-resolve-references : tie.Need-slice-relend-prefix-resolve-re
 slice-relend-prefix-resolve-references c = search needs
 
 slice-aggregate-resolve-references : tie.Need-slice-aggregate-resolve-references
-slice-aggregate-resolve-references c = sym (length-take-le (c .before .before .before .before .before .before .args .s .cells) (c .before .before .before .before .before .before .args .cells .now) (c .before .before .before .before .before .before .pre .0 .cells-in))
+slice-aggregate-resolve-references c =
+    let q = c .before .before .before .before .before .before in
+    sym (length-take-le (q .args .s .cells) (q .args .cells .now) (q .pre .0 .cells-in))
 
 resolve-references-requires : tie.Need-resolve-references-requires
 resolve-references-requires c κs =
-    let a = c .before .before .before .before .before .before .args in
-    let h = c .before .before .before .before .before .before .pre .0 in (
-      first-held (a .seed) (a .text .now) (a .s .rows) (a .s .cells) (a .rows .now) (a .cells .now) (a .index .now) h,
-      (first-laid (a .seed) (a .text .now) (a .s .rows) (a .s .cells) (a .rows .now) (a .cells .now) (a .index .now) h (modelAt (a .model .now)) (c .before .before .before .before .before .before .pre .1 .0), c .before .before .before .before .before .before .pre .1 .1),
+    let q = c .before .before .before .before .before .before in
+    let a = q .args in
+    let h = q .pre .0 in (
+      q .pre .1 .1,
+      (
+        first-held (a .seed) (a .text .now) (a .s .rows) (a .s .cells) (a .rows .now) (a .cells .now) (a .index .now) h,
+        first-laid (a .seed) (a .text .now) (a .s .rows) (a .s .cells) (a .rows .now) (a .cells .now) (a .index .now) h (modelAt (a .model .now)) (q .pre .1 .0),
+      ),
     )
 
 enum-told : tie.Need-enum-told
@@ -35,13 +41,15 @@ same-length c = search needs
 
 returns : tie.Need-returns
 returns c =
-    let a = c .before .before .before .before .before .before .before .before .before .before .args in
+    let q = c .before .before .before .before .before .before .before .before .before .before in
+    let a = q .args in
     let r = c .before .before .before .resolve-references in
-    let h = c .before .before .before .before .before .before .before .before .before .before .pre .0 in
-    let k = r .kept .1 .1 .1 .1 .0 in
-    let e = sym (ap (λ (d : Resolved). resolvedOf d (r .last .1 .1 .1 .1 .0)) (c .enum-told .given .1)) ∙ r .ensures in (
-      λ rooms marks points p. resolved-read (modelAt (a .model .now)) rooms (a .text .now) marks (a .rows .now) (a .cells .now) points (a .s .rows) (a .s .cells) (a .s .points) (r .last .1 .1 .1 .1 .0) k (h .cells-in) e,
-      λ points p. resolved-fits (a .rows .now) (a .cells .now) (r .last .1 .1 .1 .1 .0) points (a .s .rows) (a .s .cells) (a .s .points) (h .known .listed .in-rows) (h .cells-in) p k,
+    let h = q .pre .0 in
+    let lent = r .last .1 .1 .1 .1 .1 .0 in
+    let k = r .kept .1 .1 .1 .1 .1 .0 in
+    let e = sym (ap (λ (d : Resolved). resolvedOf d lent) (c .enum-told .given .1)) ∙ r .ensures in (
+      λ rooms marks points p. resolved-read (modelAt (a .model .now)) rooms (a .text .now) marks (a .rows .now) (a .cells .now) points (a .s .rows) (a .s .cells) (a .s .points) lent k (h .cells-in) e,
+      λ points p. resolved-fits (a .rows .now) (a .cells .now) lent points (a .s .rows) (a .s .cells) (a .s .points) (h .known .listed .in-rows) (h .cells-in) p k,
     )
 
 same-length-2 : tie.Need-same-length-2
@@ -51,7 +59,7 @@ returns-2 : tie.Need-returns-2
 returns-2 c =
     let a = c .before .before .before .before .before .before .before .before .before .before .before .args in
     let r = c .before .before .before .before .resolve-references in
-    let e = sym (ap (λ (d : Resolved). resolvedOf d (r .last .1 .1 .1 .1 .0)) (c .before .done .given .1)) ∙ r .ensures in (
+    let e = sym (ap (λ (d : Resolved). resolvedOf d (r .last .1 .1 .1 .1 .1 .0)) (c .before .done .given .1)) ∙ r .ensures in (
       λ rooms marks points p. unresolved-read (modelAt (a .model .now)) rooms (a .text .now) marks (a .rows .now) (a .cells .now) points (a .s .rows) (a .s .cells) (a .s .points) _ _ e,
       λ points p. tt,
     )
