@@ -1,17 +1,15 @@
 -- The two calls for C, by what the model's check finds. Assumes nothing.
-use Prim.Native.Nat.{ℕ, _+_, _*_, _≤_, _<_}
+use Prim.Native.Nat.{ℕ, _≤_, _<_}
 use native.Mathlib.Omega.{arith}
-use mathlib.Core.Path.{_≡_, refl, sym, ap, _∙_}
-use mathlib.Core.Bool.{Bool, true, false}
+use mathlib.Core.Path.{_≡_, refl}
 use mathlib.Core.List.{List}
-use lib.Dec.{ltb}
-use lib.ListN.{length, replicate}
+use lib.ListN.{length}
 use borrow.Author.Tests.{lt-ltb, le-ltb}
 use Rattle.meaning.specs.Bytes.{refuse}
 use Rattle.meaning.specs.Unfold.{unfoldFile}
 use Rattle.meaning.specs.Model.{Model}
 use Rattle.meaning.specs.Check.{Checked, good, bad, checkModel}
-use Rattle.meaning.specs.Answer.{TextResult, textRefused, textUnfolded, textChecked, unfoldText, checkAnswer, check, codeForC}
+use Rattle.meaning.specs.Answer.{textRefused, textUnfolded, textChecked, unfoldText, checkAnswer, check, codeForC}
 use Rattle.meaning.proofs.Model.Bounds.{BadBelow, bad-below}
 use Rattle.meaning.proofs.Model.GoodModels.{checked-good}
 use Rattle.unfold.specs.Answer.{Within}

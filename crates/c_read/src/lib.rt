@@ -3,15 +3,15 @@
 ghost use mathlib.Core.Path.{_≡_};
 ghost use Prim.Native.Nat.{_≤_};
 ghost use lib.ListN.{length, replicate};
-ghost use Rattle.meaning.specs.Check.{good, checkModel};
 ghost use Rattle.meaning.specs.Answer.{check, unfoldText, codeForC};
 ghost use Rattle.model_check.specs.Walk.{checkedMeant};
-ghost use Rattle.model_records.specs.Records.{modelAt};
 ghost use Rattle.meaning.specs.Table as table;
 ghost use Rattle.unfold.specs.Answer.{answerOf, Within};
 ghost use Rattle.meaning.specs.Reading.{roomsOf};
 ghost use Rattle.meaning.specs.Answer.{numbersIn};
-use c_answers::numbers;
+
+mod numbers;
+
 use model_check::check::Checked;
 use unfold::Answer;
 

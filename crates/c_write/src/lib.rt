@@ -5,7 +5,8 @@ ghost use Rattle.meaning.specs.Answer.{codeForC};
 ghost use Rattle.meaning.specs.Width as writes;
 ghost use Rattle.meaning.specs.Writing.{lentOf};
 ghost use Rattle.meaning.specs.Answer.{numbersIn};
-use c_answers::writing;
+
+mod numbers;
 
 // 0 and the number of bytes written, or a refusal's number and the byte of a bad model's record; `answer` gets the four
 // numbers, as many as it has room for. The lines of the table stand in `out`, with zeros behind; a refusal leaves
@@ -56,6 +57,6 @@ pub extern "C" fn vendorfinch_write(
         index,
         seed,
     );
-    writing::store_written(written, answer);
-    writing::code_of_write(written)
+    numbers::store_written(written, answer);
+    numbers::code_of_write(written)
 }

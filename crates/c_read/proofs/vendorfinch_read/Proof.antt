@@ -1,8 +1,7 @@
 -- `c_read::vendorfinch_read` meets its contract. Assumes nothing.
 use mathlib.Core.Path.{ap, _∙_}
 use lib.ListN.{length}
-use Rattle.meaning.specs.Answer.{Answer, codeForC}
-use Rattle.meaning.specs.Answer.{numbersIn}
+use Rattle.meaning.specs.Answer.{codeForC, numbersIn}
 use Rattle.meaning.proofs.Reading.SmallAnswers.{read-small}
 use borrow.Author.Needs.{needs}
 use Rattle.c_read.proofs.vendorfinch_read.Statement.{statement}
@@ -15,7 +14,10 @@ store-requires : tie.Need-store-requires
 store-requires c κs = search needs
 
 code-of-read-requires : tie.Need-code-of-read-requires
-code-of-read-requires c κs = let s = c .before .before .before .before .before .before .before .before .before .before .before .before .before .before .before .before .before .before .before .before .before .before .before .before .before .before .before .before .args in rw (c .before .before .before .before .before .before .before .before .before .before .before .before .before .before .read .ensures .0) (read-small (s .model .now) (s .file .now) _)
+code-of-read-requires c κs =
+    let q = c .before .before .before .before .before .before .before .before .before .before .before .before .before .before in
+    let a = q .before .before .before .before .before .before .before .before .before .before .before .before .before .before .args in
+    rw (q .read .ensures .0) (read-small (a .model .now) (a .file .now) _)
 
 same-length : tie.Need-same-length
 same-length c = search needs
@@ -40,28 +42,11 @@ same-length-7 c = search needs
 
 returns : tie.Need-returns
 returns c =
-    let e = c .before .before .before .before .before .before .before .before .before .before .before .before .before .before .before .read .ensures in (
-      c .code-of-read .ensures ∙ ap codeForC (e .0),
-      (
-        e .1 .0,
-        (
-          e .1 .1 .0,
-          (
-            e .1 .1 .1 .0,
-            (
-              e .1 .1 .1 .1 .0,
-              (
-                e .1 .1 .1 .1 .1 .0,
-                (
-                  e .1 .1 .1 .1 .1 .1,
-                  c .before .before .before .store .ensures ∙ ap (λ (x : Answer). numbersIn (length (c .before .before .before .before .before .before .before .before .before .before .before .before .before .before .before .before .before .before .before .before .before .before .before .before .before .before .before .before .before .args .answer .now)) x) (e .0),
-                ),
-              ),
-            ),
-          ),
-        ),
-      ),
-    )
+    let q = c .before .before .before .before .before .before .before .before .before .before .before .before .before .before .before in
+    let room = length (q .before .before .before .before .before .before .before .before .before .before .before .before .before .before .args .answer .now) in
+    let e = q .read .ensures in
+    let b = e .1 in
+    (c .code-of-read .ensures ∙ ap codeForC (e .0), (b .0, (b .1 .0, (b .1 .1 .0, (b .1 .1 .1 .0, (b .1 .1 .1 .1 .0, (b .1 .1 .1 .1 .1, c .before .before .before .store .ensures ∙ ap (numbersIn room) (e .0))))))))
 
 pub vendorfinch-read-spec : {M : Type 1} → statement M
 vendorfinch-read-spec =

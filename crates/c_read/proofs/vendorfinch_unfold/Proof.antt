@@ -20,8 +20,10 @@ same-length c = search needs
 
 returns : tie.Need-returns
 unfolding codeForC checkedMeant
-returns c = let a = c .before .before .before .before .before .before .before .before .args in
-    let e = too-long (a .model .now) (a .file .now) (length (a .text .now)) (c .before .before .before .before .if1 .taken) in
+returns c =
+    let q = c .before .before .before .before in
+    let a = q .before .before .before .before .args in
+    let e = too-long (a .model .now) (a .file .now) (length (a .text .now)) (q .if1 .taken) in
     (rw e, c .before .before .clear .ensures ∙ sym (ap (λ (r : TextResult). r .text) e))
 
 check-requires : tie.Need-check-requires
@@ -34,30 +36,39 @@ clear-requires-2 : tie.Need-clear-requires-2
 clear-requires-2 c κs = search needs
 
 code-of-check-requires : tie.Need-code-of-check-requires
-code-of-check-requires c κs = rw (c .before .before .before .before .before .before .check .ensures) (check-small (c .before .before .before .before .before .before .before .before .before .before .before .args .model .now))
+code-of-check-requires c κs =
+    let q = c .before .before .before .before .before .before in
+    rw (q .check .ensures) (check-small (q .before .before .before .before .before .args .model .now))
 
 enum-told-2 : tie.Need-enum-told-2
 enum-told-2 c = search needs
 
 mark-of-requires : tie.Need-mark-of-requires
 unfolding codeForC checkedMeant
-mark-of-requires c κs = found-good (c .before .before .before .before .before .before .before .args .model .now) _ (sym (ap checkedMeant (c .enum-told2 .given .1)) ∙ c .before .before .check .ensures)
+mark-of-requires c κs =
+    let q = c .before .before in
+    found-good (q .before .before .before .before .before .args .model .now) _ (sym (ap checkedMeant (c .enum-told2 .given .1)) ∙ q .check .ensures)
 
 unfold-with-requires : tie.Need-unfold-with-requires
 unfold-with-requires c κs = search needs
 
 code-of-text-requires : tie.Need-code-of-text-requires
-code-of-text-requires c κs = within-limit _ (c .before .before .unfold-with .result) (c .before .before .before .before .before .before .before .before .if1 .left) (c .before .before .unfold-with .ensures .1 .1)
+code-of-text-requires c κs =
+    let q = c .before .before in
+    within-limit _ (q .unfold-with .result) (q .before .before .before .before .before .before .if1 .left) (q .unfold-with .ensures .1 .1)
 
 same-length-2 : tie.Need-same-length-2
 same-length-2 c = search needs
 
 returns-2 : tie.Need-returns-2
 unfolding codeForC checkedMeant
-returns-2 c = let a = c .before .before .before .before .before .before .before .before .before .before .before .before .args in
-    let b = found-bad (a .model .now) _ (sym (ap checkedMeant (c .before .before .before .before .before .enum-told .given .1)) ∙ c .before .before .before .before .before .before .before .check .ensures) in
-    let e = under-bad (a .model .now) (a .file .now) (length (a .text .now)) (c .before .before .before .before .before .before .before .before .if1 .left) _ b in (
-      c .code-of-check .ensures ∙ ap (λ (x : Checked). codeForC (checkedMeant x)) (c .before .before .before .before .before .enum-told .given .1) ∙ sym (ap (λ (r : TextResult). codeForC (r .answer)) e),
+returns-2 c =
+    let q = c .before .before .before .before .before .before .before in
+    let a = q .before .before .before .before .before .args in
+    let t = c .before .before .before .before .before .enum-told .given .1 in
+    let b = found-bad (a .model .now) _ (sym (ap checkedMeant t) ∙ q .check .ensures) in
+    let e = under-bad (a .model .now) (a .file .now) (length (a .text .now)) (q .before .if1 .left) _ b in (
+      c .code-of-check .ensures ∙ ap (λ (x : Checked). codeForC (checkedMeant x)) t ∙ sym (ap (λ (r : TextResult). codeForC (r .answer)) e),
       c .before .before .before .clear2 .ensures ∙ sym (ap (λ (r : TextResult). r .text) e),
     )
 
@@ -66,12 +77,15 @@ same-length-3 c = search needs
 
 returns-3 : tie.Need-returns-3
 unfolding codeForC checkedMeant
-returns-3 c = let a = c .before .before .before .before .before .before .before .before .before .before .before .before .before .args in
-    let b = found-good (a .model .now) _ (sym (ap checkedMeant (c .before .before .before .before .before .before .enum-told2 .given .1)) ∙ c .before .before .before .before .before .before .before .before .check .ensures) in
-    let e = under-good (a .model .now) (a .file .now) (length (a .text .now)) (c .before .before .before .before .before .before .before .before .before .if1 .left) _ b in
-    let m = ap (λ (k : ℕ). textUnfolded (length (a .text .now)) (unfoldFile k (a .file .now))) (c .before .before .before .before .before .mark-of .ensures) in (
-      c .code-of-text .ensures ∙ ap codeForC (c .before .before .before .unfold-with .ensures .0) ∙ ap (λ (r : TextResult). codeForC (r .answer)) (m ∙ sym e),
-      c .before .before .before .unfold-with .ensures .1 .0 ∙ ap (λ (r : TextResult). r .text) (m ∙ sym e),
+returns-3 c =
+    let q = c .before .before .before .before .before .before .before .before in
+    let a = q .before .before .before .before .before .args in
+    let b = found-good (a .model .now) _ (sym (ap checkedMeant (c .before .before .before .before .before .before .enum-told2 .given .1)) ∙ q .check .ensures) in
+    let e = under-good (a .model .now) (a .file .now) (length (a .text .now)) (q .before .if1 .left) _ b in
+    let m = ap (λ (k : ℕ). textUnfolded (length (a .text .now)) (unfoldFile k (a .file .now))) (c .before .before .before .before .before .mark-of .ensures) in
+    let u = c .before .before .before .unfold-with in (
+      c .code-of-text .ensures ∙ ap codeForC (u .ensures .0) ∙ ap (λ (r : TextResult). codeForC (r .answer)) (m ∙ sym e),
+      u .ensures .1 .0 ∙ ap (λ (r : TextResult). r .text) (m ∙ sym e),
     )
 
 pub vendorfinch-unfold-spec : {M : Type 1} → statement M

@@ -1,4 +1,4 @@
--- `c_answers::writing::code_of_write` meets its contract. Assumes nothing.
+-- `c_write::numbers::code_of_write` meets its contract. Assumes nothing.
 use Prim.Native.Nat.{_≤_}
 use native.Mathlib.Omega.{arith}
 use mathlib.Core.Path.{subst}
@@ -7,10 +7,10 @@ use Rattle.write.specs.Answers.{answerOf}
 use Rattle.write.specs.declared.Answer.{Answer}
 use Rattle.meaning.specs.Answer.{firstOf}
 use borrow.Author.Needs.{needs}
-use Rattle.c_answers.proofs.writing.code_of_write.Statement.{statement}
-use Rattle.c_answers.proofs.writing.code_of_write.Tie as tie
-use Rattle.c_answers.proofs.writing.code_of_write.Reads as reads
-use Rattle.c_answers.proofs.writing.code_of_write.Lts as lts
+use Rattle.c_write.proofs.numbers.code_of_write.Statement.{statement}
+use Rattle.c_write.proofs.numbers.code_of_write.Tie as tie
+use Rattle.c_write.proofs.numbers.code_of_write.Reads as reads
+use Rattle.c_write.proofs.numbers.code_of_write.Lts as lts
 
 enum-known-answer : tie.Need-enum-known-answer
 enum-known-answer c = search needs

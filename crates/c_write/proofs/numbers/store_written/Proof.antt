@@ -1,4 +1,4 @@
--- `c_answers::writing::store_written` meets its contract. Assumes nothing.
+-- `c_write::numbers::store_written` meets its contract. Assumes nothing.
 use mathlib.Core.Path.{sym, ap, _∙_}
 use lib.ListN.{length}
 use Rattle.write.specs.Answers.{answerOf}
@@ -6,8 +6,8 @@ use Rattle.write.specs.declared.Answer.{Answer}
 use Rattle.meaning.specs.Answer.{numbersOf}
 use Rattle.meaning.specs.Answer.{numbersIn}
 use borrow.Author.Needs.{needs}
-use Rattle.c_answers.proofs.writing.store_written.Statement.{statement}
-use Rattle.c_answers.proofs.writing.store_written.Tie as tie
+use Rattle.c_write.proofs.numbers.store_written.Statement.{statement}
+use Rattle.c_write.proofs.numbers.store_written.Tie as tie
 
 enum-known-answer : tie.Need-enum-known-answer
 enum-known-answer c = search needs

@@ -1,9 +1,9 @@
--- `c_answers::numbers::put` meets its contract. Assumes nothing.
+-- `c_answers::put` meets its contract. Assumes nothing.
 use mathlib.Core.Path.{sym}
 use lib.Seq.{set-out}
 use borrow.Author.Needs.{needs}
-use Rattle.c_answers.proofs.numbers.put.Statement.{statement}
-use Rattle.c_answers.proofs.numbers.put.Tie as tie
+use Rattle.c_answers.proofs.put.Statement.{statement}
+use Rattle.c_answers.proofs.put.Tie as tie
 
 mul-room : tie.Need-mul-room
 mul-room c = search needs

@@ -1,9 +1,9 @@
--- `c_answers::numbers::put_four` meets its contract. Assumes nothing.
+-- `c_answers::put_four` meets its contract. Assumes nothing.
 use lib.ListN.{length}
 use Rattle.c_answers.proofs.Four.{four}
 use borrow.Author.Needs.{needs}
-use Rattle.c_answers.proofs.numbers.put_four.Statement.{statement}
-use Rattle.c_answers.proofs.numbers.put_four.Tie as tie
+use Rattle.c_answers.proofs.put_four.Statement.{statement}
+use Rattle.c_answers.proofs.put_four.Tie as tie
 
 clear-numbers-requires : tie.Need-clear-numbers-requires
 clear-numbers-requires c κs = search needs

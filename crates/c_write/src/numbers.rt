@@ -2,24 +2,23 @@
 ghost use mathlib.Core.Path.{_≡_};
 ghost use Prim.Native.Nat.{_≤_};
 ghost use lib.ListN.{length};
-ghost use Rattle.meaning.specs.Answer.{codeForC};
+ghost use Rattle.meaning.specs.Answer.{codeForC, numbersIn, firstOf};
 ghost use Rattle.write.specs.Answers.{answerOf};
-ghost use Rattle.meaning.specs.Answer.{numbersIn, firstOf};
-use crate::numbers;
+use c_answers::put_four;
 use write::Answer;
 
 // "success gives 0, bytes written, 0, 0"; or a refusal and its place
-pub fn store_written(answer: Answer, room: &mut [u64])
+pub(crate) fn store_written(answer: Answer, room: &mut [u64])
     ensures { λ _. ⌜ now (room .exit) ≡ numbersIn (length (now (room .entry))) (answerOf answer) ⌝ }
 {
     match answer {
-        Answer::Written(bytes) => numbers::put_four(room, 0, bytes as u64, 0, 0),
-        Answer::Refused(number, at) => numbers::put_four(room, number as u64, at as u64, 0, 0),
+        Answer::Written(bytes) => put_four(room, 0, bytes as u64, 0, 0),
+        Answer::Refused(number, at) => put_four(room, number as u64, at as u64, 0, 0),
     }
 }
 
 // Its one number.
-pub fn code_of_write(answer: Answer) -> u64
+pub(crate) fn code_of_write(answer: Answer) -> u64
     requires { ⌜ firstOf (answerOf answer) ≤ 16777217 ⌝ }
     ensures { λ r. ⌜ r ≡ codeForC (answerOf answer) ⌝ }
 {
