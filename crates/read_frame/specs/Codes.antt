@@ -3,10 +3,12 @@ use Prim.Native.Nat.{ℕ, _+_}
 use mathlib.Core.List.{List, [], _∷_}
 use lib.Dec.{eqb}
 use Rattle.meaning.specs.Bytes.{choose, same, u32At}
-use Rattle.meaning.specs.Field.{SCNT, slashes, MTID, MOTR, MODL, TOPI, TABL, OBJE, STPT, LIPT, ARCP, ELIN, ETAB, ETOP, EMOD, ENDE}
+use Rattle.meaning.specs.Field.{SCNT, slashes, MTID, MOTR, MODL, TOPI, TABL, OBJE, STPT, LIPT, ARCP, ELIN, ETAB, ETOP}
+use Rattle.meaning.specs.Field.{EMOD, ENDE}
 
 abbrev pub codes : List (List ℕ)
-codes = SCNT ∷ slashes ∷ MTID ∷ MOTR ∷ MODL ∷ TOPI ∷ TABL ∷ OBJE ∷ STPT ∷ LIPT ∷ ARCP ∷ ELIN ∷ ETAB ∷ ETOP ∷ EMOD ∷ ENDE ∷ []
+codes = SCNT ∷ slashes ∷ MTID ∷ MOTR ∷ MODL ∷ TOPI ∷ TABL ∷ OBJE ∷ STPT ∷ LIPT ∷ ARCP ∷ ELIN ∷ ETAB ∷ ETOP ∷ EMOD ∷ ENDE
+    ∷ []
 
 -- the number of the first of these codes that is s, where the first has the number n
 unfoldable pub numberIn : (n : ℕ) → List (List ℕ) → List ℕ → ℕ

@@ -18,7 +18,10 @@ use read_state::Moved;
 // "MTID with the transfer name"; 8: "MOTR in place of MTID".
 pub fn transfer_line(model: &[u8], l: &[u8]) -> Moved
     requires { ⌜ checkModel (now model) ≡ good (modelAt (now model)) ⌝ }
-    ensures meant { λ r. ⌜ ((rooms : Rooms) (text : List ℕ) (s : ℕ) (c : Content) → movedOf (now (model .entry)) r c ≡ transferLine (modelAt (now (model .entry))) rooms text (fieldsOf s (now (l .entry))) c) ⌝ }
+    ensures meant { λ r. ⌜
+        ((rooms : Rooms) (text : List ℕ) (s : ℕ) (c : Content)
+        → movedOf (now (model .entry)) r c
+        ≡ transferLine (modelAt (now (model .entry))) rooms text (fieldsOf s (now (l .entry))) c) ⌝ }
     ensures held { λ r. ⌜ MovedHolds (modelAt (now (model .entry))) (now (model .entry)) r ⌝ }
 {
     let head = codes::head_of(l);
@@ -39,7 +42,10 @@ pub fn transfer_line(model: &[u8], l: &[u8]) -> Moved
 // "MODL with the model name".
 pub fn model_line(model: &[u8], l: &[u8]) -> Moved
     requires { ⌜ checkModel (now model) ≡ good (modelAt (now model)) ⌝ }
-    ensures meant { λ r. ⌜ ((rooms : Rooms) (text : List ℕ) (s : ℕ) (c : Content) → movedOf (now (model .entry)) r c ≡ modelLine (modelAt (now (model .entry))) rooms text (fieldsOf s (now (l .entry))) c) ⌝ }
+    ensures meant { λ r. ⌜
+        ((rooms : Rooms) (text : List ℕ) (s : ℕ) (c : Content)
+        → movedOf (now (model .entry)) r c
+        ≡ modelLine (modelAt (now (model .entry))) rooms text (fieldsOf s (now (l .entry))) c) ⌝ }
     ensures held { λ r. ⌜ MovedHolds (modelAt (now (model .entry))) (now (model .entry)) r ⌝ }
 {
     let head = codes::head_of(l);

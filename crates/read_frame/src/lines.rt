@@ -74,7 +74,9 @@ pub(crate) fn alone_line(l: &[u8], code: u8, due: Due) -> Moved
 
 // SCNT.
 pub fn opening_line(l: &[u8]) -> Moved
-    ensures meant { λ r. ⌜ ((m : Model) (rooms : Rooms) (text b : List ℕ) (s : ℕ) (c : Content) → movedOf b r c ≡ openingLine m rooms text (fieldsOf s (now (l .entry))) c) ⌝ }
+    ensures meant { λ r. ⌜
+        ((m : Model) (rooms : Rooms) (text b : List ℕ) (s : ℕ) (c : Content)
+        → movedOf b r c ≡ openingLine m rooms text (fieldsOf s (now (l .entry))) c) ⌝ }
     ensures held { λ r. ⌜ ((m : Model) (b : List ℕ) → MovedHolds m b r) ⌝ }
 {
     alone_line(l, codes::SCNT, Due::Frame(FrameDue::Description))
@@ -82,7 +84,9 @@ pub fn opening_line(l: &[u8]) -> Moved
 
 // A description line, or ////.
 pub fn description_line(l: &[u8]) -> Moved
-    ensures meant { λ r. ⌜ ((m : Model) (rooms : Rooms) (text b : List ℕ) (s : ℕ) (c : Content) → movedOf b r c ≡ descriptionLine m rooms text (now (l .entry)) (fieldsOf s (now (l .entry))) c) ⌝ }
+    ensures meant { λ r. ⌜
+        ((m : Model) (rooms : Rooms) (text b : List ℕ) (s : ℕ) (c : Content)
+        → movedOf b r c ≡ descriptionLine m rooms text (now (l .entry)) (fieldsOf s (now (l .entry))) c) ⌝ }
     ensures held { λ r. ⌜ ((m : Model) (b : List ℕ) → MovedHolds m b r) ⌝ }
 {
     if compare::begins_with(l, b"////") {
@@ -94,7 +98,9 @@ pub fn description_line(l: &[u8]) -> Moved
 
 // ENDE.
 pub fn closing_line(l: &[u8]) -> Moved
-    ensures meant { λ r. ⌜ ((m : Model) (rooms : Rooms) (text b : List ℕ) (s : ℕ) (c : Content) → movedOf b r c ≡ closingLine m rooms text (fieldsOf s (now (l .entry))) c) ⌝ }
+    ensures meant { λ r. ⌜
+        ((m : Model) (rooms : Rooms) (text b : List ℕ) (s : ℕ) (c : Content)
+        → movedOf b r c ≡ closingLine m rooms text (fieldsOf s (now (l .entry))) c) ⌝ }
     ensures held { λ r. ⌜ ((m : Model) (b : List ℕ) → MovedHolds m b r) ⌝ }
 {
     alone_line(l, codes::ENDE, Due::Frame(FrameDue::Nothing))

@@ -25,7 +25,7 @@ use Rattle.read_objects.specs.declared.OpenTable.{OpenTable}
 use Rattle.read_state.specs.declared.State.{State}
 use Rattle.read_state.specs.declared.Step.the-variants.{Go, No}
 use Rattle.read_state.specs.Meaning.{contentOf, stepOf}
-use Rattle.read_state.specs.Holds.{rowSize, Laid}
+use Rattle.table.specs.Rows.{rowSize, Laid}
 use Rattle.read_objects.specs.Tables.{TableHolds}
 use Rattle.read_polylines.proofs.Ways.{point-count}
 use borrow.Rule.Slice.PartMut.{putMid, midOf}

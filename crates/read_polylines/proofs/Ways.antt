@@ -30,7 +30,8 @@ use Rattle.read_state.specs.declared.Due.the-variants as due
 use Rattle.read_state.specs.declared.Step as state
 use Rattle.read_state.specs.declared.Step.the-variants.{Go, No}
 use Rattle.read_state.specs.Meaning.{lineStateOf, linesAt, openLineOf, dueOf, contentOf}
-use Rattle.read_state.specs.Holds.{LineHolds, Laid, Holds}
+use Rattle.read_state.specs.Holds.{LineHolds, Holds}
+use Rattle.table.specs.Rows.{Laid}
 use Rattle.read_frame.specs.Heads.{HeadOf}
 use Rattle.read_frame.specs.declared.codes.Head.{Head}
 use Rattle.read_frame.proofs.Moves.{behind-more}

@@ -21,10 +21,11 @@ use Rattle.model_records.proofs.Standing.{attribute-here, no-attribute}
 use Rattle.model_records.proofs.Types.{parts-room}
 use Rattle.table_index.specs.Holds.{Held}
 use Rattle.table_index.proofs.Kept.{beside-in, held-pair, held-beside, objects-beside}
-use Rattle.read_state.specs.Holds.{Laid}
+use Rattle.table.specs.Rows.{Laid}
 use Rattle.read_references.specs.declared.Resolved as declared
 use Rattle.read_references.specs.declared.Resolved.the-variants.{All, Unresolved}
-use Rattle.read_references.specs.Resolved.{resolvedOf, PairHere, Going, InRow, RowHere}
+use Rattle.read_references.specs.Resolved.{resolvedOf, Going, RowHere}
+use Rattle.table.specs.Rows.{PairHere, InRow}
 use Rattle.model_records.specs.Counts.{fieldsOf, pairCount, Counted}
 use Rattle.read_references.proofs.Attributes.{attribute-turn}
 use Rattle.model_records.proofs.Counting.{pairs-more, field-most}

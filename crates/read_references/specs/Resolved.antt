@@ -1,5 +1,5 @@
 -- What resolving references answers, and what it needs.
-use Prim.Native.Nat.{ℕ, _+_, _*_, _≤_, _<_}
+use Prim.Native.Nat.{ℕ, _+_}
 use mathlib.Core.Path.{_≡_}
 use mathlib.Core.List.{List}
 use lib.IntN.{ℤ}
@@ -9,7 +9,8 @@ use Rattle.meaning.specs.Reading.{objectsOf}
 use Rattle.meaning.specs.Table as table
 use Rattle.model_records.specs.Records.{pairsAt}
 use Rattle.model_records.specs.Standing.{AttributesHere}
-use Rattle.table_index.specs.Holds.{Held, Beside}
+use Rattle.table.specs.Rows.{InRow}
+use Rattle.table_index.specs.Holds.{Held}
 use Rattle.read_references.specs.declared.Resolved.{Resolved}
 use Rattle.read_references.specs.declared.Resolved.the-variants.{All, Unresolved}
 
@@ -17,24 +18,11 @@ abbrev pub resolvedOf : Resolved → List ℤ → table.Resolved
 resolvedOf All cs = table.resolved cs
 resolvedOf (Unresolved object field) cs = table.unresolved object field
 
--- the pair at this cell is none of the first three cells of a row
-pub record PairHere (rows : List ℕ) (n cell : ℕ) (cells : List ℤ) : Type 0 where
-  pub inside : cell + 1 < length cells
-  pub first : Beside rows n cell
-  pub second : Beside rows n (cell + 1)
-
 -- resolving goes on: the objects are those of the beginning
 pub record Going (seed : ℕ) (text rows : List ℕ) (n : ℕ) (index : List ℕ) (cells₀ cells : List ℤ) : Type 0 where
   pub held : Held seed text n (length cells₀) rows cells index
   pub size : length cells ≡ length cells₀
   pub objects : objectsOf text cells (take n rows) ≡ objectsOf text cells₀ (take n rows)
-
--- so many pairs from this cell on are of the row of object o: behind its first three cells, and before the later rows
-pub record InRow (rows : List ℕ) (n o cell pairs size : ℕ) : Type 0 where
-  pub object : o < n
-  pub behind : getD rows o 0 + 2 < cell
-  pub inside : cell + 2 * pairs ≤ size
-  pub later : (p : ℕ) → o < p → p < n → cell + 2 * pairs ≤ getD rows p 0
 
 -- the attribute records of the table of object o begin at this byte
 pub record RowHere (m : Model) (b rows : List ℕ) (n o at size : ℕ) : Type 0 where

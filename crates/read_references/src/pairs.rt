@@ -7,7 +7,8 @@ ghost use Rattle.meaning.specs.Model.{found};
 ghost use Rattle.meaning.specs.Reading.{objectsOf};
 ghost use Rattle.meaning.specs.Table.{resolvePair};
 ghost use Rattle.table_index.specs.Holds.{Known};
-ghost use Rattle.read_references.specs.Resolved.{resolvedOf, PairHere};
+ghost use Rattle.read_references.specs.Resolved.{resolvedOf};
+ghost use Rattle.table.specs.Rows.{PairHere};
 use crate::Resolved;
 use table_index::Found;
 

@@ -1,4 +1,5 @@
--- What reading holds between two lines, under the good model m of the bytes b: where the model's records stand, and how the table lies in the buffers.
+-- What reading holds between two lines, under the good model m of the bytes b: where the model's records stand, and how
+-- the table lies in the buffers.
 -- Short names: n the count of objects, used the count of cells, o an object's number.
 use Prim.Native.Nat.{ℕ, _+_, _*_, _≤_, _<_}
 use mathlib.Core.Path.{_≡_}
@@ -6,11 +7,10 @@ use mathlib.Core.List.{List}
 use lib.IntN.{ℤ}
 use lib.ListN.{length, getD}
 use Rattle.meaning.specs.Bytes.{byteAt}
-use Rattle.meaning.specs.Model.{Model, tableAt}
-use Rattle.meaning.specs.Row.{pairsOf}
-use Rattle.meaning.specs.Reading.{cellAt}
+use Rattle.meaning.specs.Model.{Model}
 use Rattle.model_records.specs.Records.{kindAt, payloadAt, pairsAt}
 use Rattle.model_records.specs.Standing.{AttributesHere}
+use Rattle.table.specs.Rows.{Laid}
 use Rattle.table_index.specs.Holds.{Held}
 use Rattle.read_state.specs.declared.OpenLine.{OpenLine}
 use Rattle.read_state.specs.declared.FrameDue.{FrameDue}
@@ -50,18 +50,9 @@ DueHolds m b rows n used points (Line u) = LineHolds m b rows n used points u
 
 -- ## How the table lies in the buffers
 
--- the count of cells of a row of table t
-abbrev pub rowSize : Model → (t : ℕ) → ℕ
-rowSize m t = 3 + 2 * length (pairsOf (tableAt (m .tables) t .attributes))
-
--- each row is of a table of the model, has its cells, and the next row comes behind them
-pub record Laid (m : Model) (n used : ℕ) (rows : List ℕ) (cells : List ℤ) : Type 0 where
-  pub table : (o : ℕ) → o < n → cellAt cells (getD rows o 0) < length (m .tables)
-  pub ends : (o : ℕ) → o < n → getD rows o 0 + rowSize m (cellAt cells (getD rows o 0)) ≤ used
-  pub apart : (o p : ℕ) → o < p → p < n → getD rows o 0 + rowSize m (cellAt cells (getD rows o 0)) ≤ getD rows p 0
-
 -- the state s in the lent buffers, with the exact unfolded text
-pub record Holds (m : Model) (b text : List ℕ) (seed : ℕ) (s : State) (marks rows : List ℕ) (cells points : List ℤ) (index : List ℕ) : Type 0 where
+pub record Holds (m : Model) (b text : List ℕ) (seed : ℕ) (s : State) (marks rows : List ℕ) (cells points : List ℤ)
+    (index : List ℕ) : Type 0 where
   pub due : DueHolds m b rows (s .rows) (s .cells) (s .points) (s .due)
   pub objects : Held seed text (s .rows) (s .cells) rows cells index
   pub laid : Laid m (s .rows) (s .cells) rows cells

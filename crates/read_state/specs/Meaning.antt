@@ -2,8 +2,8 @@
 use Prim.Native.Nat.{ℕ, _+_, _*_}
 use mathlib.Core.List.{List, [], _∷_}
 use lib.IntN.{ℤ}
-use lib.ListN.{length, take, drop}
-use Rattle.meaning.specs.Model.{Model, recordsFrom, attributesOf}
+use lib.ListN.{take, drop}
+use Rattle.meaning.specs.Model.{recordsFrom, attributesOf}
 use Rattle.meaning.specs.Row.{pairsOf}
 use Rattle.meaning.specs.Reading as meaning
 use Rattle.meaning.specs.Reading.{LineAttribute, lineAttributes, Content, withMark}
@@ -56,7 +56,13 @@ linesAt model at cell = lineAttributes cell (pairsOf (attributesOf (recordsFrom 
 unfoldable pub openLineOf : OpenLine → List LineAttribute → meaning.Due
 openLineOf u [] = meaning.objectOf (u .table)
 openLineOf u (a ∷ others) =
-    meaning.lineOf (record { table = u .table; state = lineStateOf (u .state); first = u .first; attribute = a; others = others })
+    meaning.lineOf (record {
+      table = u .table;
+      state = lineStateOf (u .state);
+      first = u .first;
+      attribute = a;
+      others = others;
+    })
 
 unfoldable pub frameDueOf : FrameDue → meaning.Due
 frameDueOf frame.Opening = meaning.opening
@@ -105,8 +111,14 @@ markedOf model topics (Moved.No number field) c = lines.no number field
 -- the table so far, in the lent buffers, of so many marks
 abbrev pub contentOf : (markCount : ℕ) → State → (marks rows : List ℕ) (cells points : List ℤ) → Content
 contentOf markCount s marks rows cells points =
-    record { marks = take markCount marks; rows = take (s .rows) rows; cells = take (s .cells) cells; points = take (4 * s .points) points }
+    record {
+      marks = take markCount marks;
+      rows = take (s .rows) rows;
+      cells = take (s .cells) cells;
+      points = take (4 * s .points) points;
+    }
 
 abbrev pub stepOf : (model : List ℕ) (markCount : ℕ) → Step → (marks rows : List ℕ) (cells points : List ℤ) → lines.Step
-stepOf model markCount (Go s) marks rows cells points = lines.go (dueOf model (s .due)) (contentOf markCount s marks rows cells points)
+stepOf model markCount (Go s) marks rows cells points =
+    lines.go (dueOf model (s .due)) (contentOf markCount s marks rows cells points)
 stepOf model markCount (Step.No number field) marks rows cells points = lines.no number field

@@ -28,7 +28,8 @@ pub enum Move {
     Point(u8, LineState),
 }
 
-// "STPT, then one or more of LIPT or ARCP LIPT, then ELIN": a line state takes a line code and hands back its next state.
+// "STPT, then one or more of LIPT or ARCP LIPT, then ELIN": a line state takes a line code and hands back its next
+// state.
 impl LineState {
     pub fn step(self, code: LineCode) -> Move
         ensures { λ r. ⌜ moveOf r ≡ move (lineStateOf self) (lineCodeOf code) ⌝ }
@@ -115,8 +116,8 @@ fn forbids_straight(state: LineState, forms: usize) -> bool
     }
 }
 
-// A line attribute whose lines are read: its object's table, its line state, its first point, the byte of its record, and
-// the cell of its pair.
+// A line attribute whose lines are read: its object's table, its line state, its first point, the byte of its record,
+// and the cell of its pair.
 pub struct OpenLine {
     pub table: usize,
     pub state: LineState,
@@ -125,7 +126,8 @@ pub struct OpenLine {
     pub cell: usize,
 }
 
-// A line outside objects: a topic may be this one or a later one; a table is one of this topic, the second number or a later one.
+// A line outside objects: a topic may be this one or a later one; a table is one of this topic, the second number or a
+// later one.
 pub enum FrameDue {
     Opening,
     Description,
@@ -137,7 +139,8 @@ pub enum FrameDue {
     Nothing,
 }
 
-// What the next line has to be: a line outside objects, an object of this table or its end, or a line of a line attribute.
+// What the next line has to be: a line outside objects, an object of this table or its end, or a line of a line
+// attribute.
 pub enum Due {
     Frame(FrameDue),
     Object(usize),

@@ -7,10 +7,10 @@ use lib.IntN.{ℤ, pos}
 use lib.ListN.{length, getD, take, replicate, length-append, length-replicate}
 use lib.Seq.{length-take-le, take-at, getD-take}
 use Rattle.meaning.specs.Model.{Model}
-use Rattle.table_index.specs.Objects.{identificationOf}
+use Rattle.table.specs.Rows.{identificationOf}
 use Rattle.table_index.specs.Holds.{Held}
 use Rattle.table_index.proofs.Kept.{held-behind}
-use Rattle.read_state.specs.Holds.{Laid}
+use Rattle.table.specs.Rows.{Laid}
 
 -- what is looked for behind the end is the same as what is filled in there
 filled-none : {A : Type 0} (z : A) (k i : ℕ) → getD (replicate k z) i z ≡ z

@@ -9,7 +9,7 @@ ghost use Rattle.meaning.specs.Lines.{readLines};
 ghost use Rattle.meaning.specs.Table.{readRun, readResolved, resolve};
 ghost use Rattle.model_records.specs.Records.{modelAt};
 ghost use Rattle.table_index.specs.Holds.{Held};
-ghost use Rattle.read_state.specs.Holds.{Laid};
+ghost use Rattle.table.specs.Rows.{Laid};
 ghost use Rattle.model_records.specs.Places.{Placed};
 ghost use Rattle.read_step.specs.Steps.{Prepared};
 ghost use Rattle.read_text.specs.Text.{linesOf};

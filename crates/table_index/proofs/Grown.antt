@@ -11,7 +11,8 @@ use lib.Seq.{getD-set-same, getD-set-other}
 use lib.IntN.{ℤ}
 use borrow.Author.Tests.{ltb-true, eqb-true, eqb-false}
 use Rattle.meaning.specs.Bytes.{choose}
-use Rattle.table_index.specs.Objects.{identificationOf, lastOf}
+use Rattle.table_index.specs.Objects.{lastOf}
+use Rattle.table.specs.Rows.{identificationOf}
 use Rattle.table_index.specs.Index.{headOf, hasHead, hashOf, wordOf, Chained, usableOf, Indexed, chainOf, insertOf}
 use Rattle.table_index.proofs.Last.{last-hit, last-miss}
 use Rattle.table_index.proofs.Walk.{head-lt}

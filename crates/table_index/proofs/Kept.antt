@@ -12,9 +12,11 @@ use lib.Seq.{getD-take, getD-set-other}
 use borrow.Author.Tests.{ltb-true, ltb-false}
 use Rattle.meaning.specs.Reading.{Object, objectAt, objectsOf, isUsed}
 use Rattle.meaning.specs.Table.{findObject}
-use Rattle.table_index.specs.Objects.{identificationOf, lastOf, Listed, Unique}
+use Rattle.table_index.specs.Objects.{lastOf, Unique}
+use Rattle.table.specs.Rows.{identificationOf, Listed}
 use Rattle.table_index.specs.Index.{headOf, hasHead, wordOf, Chained, Indexed}
-use Rattle.table_index.specs.Holds.{Known, Held, Beside}
+use Rattle.table_index.specs.Holds.{Known, Held}
+use Rattle.table.specs.Rows.{Beside}
 use Rattle.table_index.proofs.Last.{last-same, last-le}
 use Rattle.table_index.proofs.Grown.{nothing-chained}
 use Rattle.table_index.proofs.Meant.{objects-more}

@@ -16,7 +16,8 @@ use Rattle.meaning.specs.Value.{sameIdentification}
 use Rattle.meaning.specs.Reading.{Object, cellAt, objectAt, objectsOf, isUsed}
 use Rattle.meaning.specs.Table.{findObject}
 use Rattle.meaning.proofs.Tests.Same.{identification-alike}
-use Rattle.table_index.specs.Objects.{identificationOf, isNamed, lastOf, lastNamed, inTable, Unique}
+use Rattle.table_index.specs.Objects.{isNamed, lastOf, lastNamed, inTable, Unique}
+use Rattle.table.specs.Rows.{identificationOf}
 use Rattle.table_index.proofs.Last.{last-le, last-passes, last-none}
 
 -- ## Objects in a row

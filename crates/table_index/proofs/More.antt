@@ -11,7 +11,8 @@ use lib.Seq.{length-take-le, getD-take, take-at, getD-at, getD-append-add, take-
 use borrow.Author.Count.{below-more}
 use Rattle.meaning.specs.Value.{sameIdentification}
 use Rattle.meaning.specs.Reading.{stretch, objectsOf, isUsed}
-use Rattle.table_index.specs.Objects.{identificationOf, Row, Unique}
+use Rattle.table_index.specs.Objects.{Unique}
+use Rattle.table.specs.Rows.{identificationOf, Row}
 use Rattle.table_index.specs.Index.{hashOf, insertOf}
 use Rattle.table_index.specs.Holds.{Known, Held}
 use Rattle.table_index.proofs.Grown.{indexed-more}

@@ -6,7 +6,7 @@ use native.Mathlib.Omega.{arith}
 use lib.IntN.{ℤ}
 use lib.ListN.{getD, take, drop}
 use Rattle.meaning.specs.Reading.{cellAt}
-use Rattle.table_index.specs.Objects.{identificationOf}
+use Rattle.table.specs.Rows.{identificationOf}
 
 pub part-is : (text : List ℕ) (start size : ℕ) → take ((start + size) - start) (drop start text) ≡ take size (drop start text)
 part-is text start size = let e : (start + size) - start ≡ size = omega arith in rw e

@@ -1,11 +1,11 @@
 -- What the index's answer says, and what a caller holds while its table grows.
 use Prim.Native.Nat.{ℕ, _+_, _≤_, _<_}
-use mathlib.Core.Path.{_≡_}
 use mathlib.Core.List.{List}
 use lib.IntN.{ℤ}
 use lib.ListN.{length, getD}
 use Rattle.meaning.specs.Model as model
-use Rattle.table_index.specs.Objects.{identificationOf, Listed, Unique}
+use Rattle.table_index.specs.Objects.{Unique}
+use Rattle.table.specs.Rows.{identificationOf, Listed}
 use Rattle.table_index.specs.Index.{Indexed}
 use Rattle.table_index.specs.declared.Found.{Found}
 use Rattle.table_index.specs.declared.Found.the-variants.{At, Nothing}
@@ -27,7 +27,3 @@ pub record Held (seed : ℕ) (text : List ℕ) (n used : ℕ) (rows : List ℕ) 
   pub cells-in : used ≤ length cells
   pub within : (o : ℕ) → o < n → getD rows o 0 + 2 < used
   pub spaced : (o p : ℕ) → o < p → p < n → getD rows o 0 + 2 < getD rows p 0
-
--- a cell that is none of the first three of a row
-pub record Beside (rows : List ℕ) (n cell : ℕ) : Type 0 where
-  pub beside : (o k : ℕ) → o < n → k < 3 → cell ≡ getD rows o 0 + k → ⊥

@@ -7,7 +7,8 @@ use lib.Dec.{eqb, ltb}
 use lib.IntN.{ℤ}
 use lib.ListN.{length, getD, set}
 use Rattle.meaning.specs.Bytes.{choose}
-use Rattle.table_index.specs.Objects.{identificationOf, lastOf}
+use Rattle.table_index.specs.Objects.{lastOf}
+use Rattle.table.specs.Rows.{identificationOf}
 
 -- a polynomial over the bytes, modulo the prime 2 ^ 31 - 1: what lies above 31 bits is added to what lies below
 unfoldable pub mixOf : ℕ → ℕ → ℕ → ℕ

@@ -8,9 +8,10 @@ ghost use lib.Dec.{T};
 ghost use lib.IntN.{pos};
 ghost use lib.Signed.{nonNeg};
 ghost use lib.ListN.{length, getD, take, replicate};
-ghost use Rattle.meaning.specs.Reading.{stretch, cellAt, objectsOf, isUsed};
+ghost use Rattle.meaning.specs.Reading.{stretch, objectsOf, isUsed};
 ghost use Rattle.meaning.specs.Table.{findObject};
-ghost use Rattle.table_index.specs.Objects.{identificationOf, isNamed, lastNamed, inTable, Row, Listed};
+ghost use Rattle.table_index.specs.Objects.{isNamed, lastNamed, inTable};
+ghost use Rattle.table.specs.Rows.{identificationOf, Row, Listed};
 ghost use Rattle.table_index.specs.Index.{mixOf, hashOf, Chained, usableOf, Indexed, chainOf, insertOf};
 ghost use Rattle.table_index.specs.Holds.{foundOf, Known};
 

@@ -23,7 +23,7 @@ use Rattle.model_records.specs.Records.{modelAt, pairsAt}
 use Rattle.model_records.specs.Standing.{AttributesHere}
 use Rattle.model_records.specs.Places.{attributesPlace, Placed}
 use Rattle.model_records.specs.declared.places.Shape.{Shape}
-use Rattle.table_index.specs.Objects.{identificationOf, Row, Listed}
+use Rattle.table.specs.Rows.{identificationOf, Row, Listed}
 use Rattle.table_index.specs.Index.{hashOf, insertOf}
 use Rattle.table_index.specs.Holds.{Known}
 use Rattle.table_index.proofs.More.{known-more}

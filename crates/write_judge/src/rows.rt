@@ -11,7 +11,7 @@ ghost use Rattle.meaning.specs.Bytes.{choose};
 ghost use Rattle.meaning.specs.Reading.{objectsOf, isUsed};
 ghost use Rattle.meaning.specs.Judge.{rowEnd, judgeRow, judgeRows};
 ghost use Rattle.model_records.specs.Records.{modelAt};
-ghost use Rattle.table_index.specs.Objects.{identificationOf, Row};
+ghost use Rattle.table.specs.Rows.{identificationOf, Row};
 ghost use Rattle.table_index.specs.Holds.{Known};
 ghost use Rattle.write_judge.specs.Marks.{Judging};
 ghost use Rattle.write_judge.specs.Meant.{contentFrom};

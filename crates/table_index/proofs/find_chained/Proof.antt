@@ -4,7 +4,7 @@ use Prim.Native.Nat.{ℕ, suc, _+_, _-_, _%_, _<_}
 use mathlib.Core.Path.{_≡_, sym, ap, _∙_}
 use native.Mathlib.Omega.{arith}
 use lib.ListN.{length}
-use Rattle.table_index.specs.Objects.{identificationOf}
+use Rattle.table.specs.Rows.{identificationOf}
 use Rattle.table_index.proofs.Walk.{Along, along-start, along-next, along-some, along-other, link-le}
 use Rattle.table_index.proofs.Grown.{usable-lt}
 use Rattle.table_index.proofs.Last.{scan-hit, scan-end}

@@ -1,5 +1,4 @@
 -- `table_index::find_in_table` meets its contract: the table's test, in the code's shape. Assumes nothing.
-use Prim.Native.Nat.{_<_}
 use mathlib.Core.Path.{sym, _∙_}
 use native.Mathlib.Omega.{arith}
 use Rattle.table_index.proofs.Meant.{in-table-none, in-table-hit, in-table-miss}
