@@ -1,13 +1,15 @@
 // "A line is cut only where needed": the end of a line that stands in a lent room.
 ghost use mathlib.Core.Path.{_≡_};
-ghost use mathlib.Core.List.{_++_};
-ghost use Prim.Native.Nat.{_+_, _*_, _-_, _≤_, _<_, _^_, min};
+ghost use mathlib.Core.List.{List, _++_};
+ghost use Prim.Native.Nat.{ℕ, _+_, _*_, _-_, _≤_, _<_};
 ghost use lib.ListN.{length, take, drop};
 ghost use lib.Seq.{sets};
-ghost use Rattle.meaning.specs.Width.{cutRest, cutLine};
-ghost use Rattle.write_lines.specs.Cuts.{cutBytes, withCuts, lastRoom, Counted};
-ghost use Rattle.write_lines.specs.Puts.{Puts};
+ghost use Rattle.meaning.specs.Bytes.{choose};
+ghost use Rattle.meaning.specs.Width.{cutRest};
+ghost use Rattle.write_lines.specs.Cuts.{cutBytes, withCuts, Counted};
+ghost use Rattle.write_lines.specs.Puts.{Puts, Ends};
 use super::Put;
+use super::fields::count_on;
 use super::fields::put_byte;
 use base::numbers;
 
@@ -28,8 +30,7 @@ fn last_room(ended: bool, room: usize) -> usize
 // width - 6 bytes behind the one before it.
 fn count_cuts(size: usize, ended: bool, width: usize) -> Cuts
     requires { ⌜ (16 ≤ width) × (width ≤ 65535) × (size < 4294967295) ⌝ }
-    ensures { λ r. ⌜ ((mark : ℕ) (l : List ℕ) → length l ≡ size → ends mark l ≡ ended
-        → Counted mark width l (r .count) (r .last)) ⌝ }
+    ensures { λ r. ⌜ Counted width size ended (r .count) (r .last) ⌝ }
 {
     let room = last_room(ended, width - 5);
     let mut count = 1;
@@ -91,22 +92,25 @@ fn put_cuts(out: &mut [u8], start: usize, end: usize, mark: u8, width: usize, cu
     }
 }
 
-// Ends a line of which n bytes are put with those before, and which does not go out whole: where there is room for it, it
-// is cut in its place.
-fn cut_line(out: &mut [u8], start: usize, n: usize, ended: bool, mark: u8, width: usize) -> Put
-    requires { ⌜ (start ≤ n) × (n < 4294967295) × (16 ≤ width) × (width ≤ 65535) ⌝ }
-    ensures { λ r. ⌜ ((line : List ℕ) (before : Put) (entry : List ℕ) → CutInPlace ..) ⌝ }
+// Ends a line that does not go out whole: where there is room for it, it is cut in its place.
+fn cut_line(out: &mut [u8], start: usize, put: Put, mark: u8, width: usize) -> Put
+    requires { ⌜ (start ≤ put .count) × (put .count < 4294967295) × (16 ≤ width) × (width ≤ 65535) ⌝ }
+    ensures { λ r. ⌜ ((line : List ℕ) (before : Put) (e : List ℕ) → before .count ≡ start → 1 ≤ length line
+        → Puts line before e (now (out .entry)) put
+        → Puts (cutRest mark width (width - 1) line) before e (now (out .exit)) r) ⌝ }
 {
-    let cuts = count_cuts(n - start, ended, width);
+    let n = put.count;
+    let cuts = count_cuts(n - start, put.last == mark, width);
     let more = 7 * cuts.count;
+    let all = Put {
+        count: count_on(n, more + 1),
+        last: b'\n',
+    };
     if n + more < out.len() {
         out[n + more] = b'\n';
         put_cuts(out, start, n, mark, width, cuts);
     }
-    Put {
-        count: count_on(n, more + 1),
-        last: b'\n',
-    }
+    all
 }
 
 // Ends the line that was put behind the first `start` bytes: whole, or cut to the width.
@@ -115,11 +119,18 @@ pub fn end_line(out: &mut [u8], start: usize, put: Put, mark: u8, width: usize) 
     ensures { λ r. ⌜ Ends mark width start put (now (out .entry)) (now (out .exit)) r ⌝ }
 {
     let n = put.count;
-    if n == 4294967295 {
+    if 4294967295 <= n {
         return Put {
-            count: n,
+            count: 4294967295,
             last: b'\n',
         };
     }
-    ..
+    if n < start {
+        return put;
+    }
+    if n - start <= last_room(put.last == mark, width) {
+        put_byte(out, put, b'\n')
+    } else {
+        cut_line(out, start, put, mark, width)
+    }
 }

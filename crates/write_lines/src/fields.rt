@@ -31,28 +31,30 @@ pub fn put_byte(out: &mut [u8], put: Put, b: u8) -> Put
     ensures { λ r. ⌜ Puts (b ∷ []) put (now (out .entry)) (now (out .exit)) r ⌝ }
 {
     let n = put.count;
+    let all = Put {
+        count: count_on(n, 1),
+        last: b,
+    };
     if n < out.len() {
         out[n] = b;
     }
-    Put {
-        count: count_on(n, 1),
-        last: b,
-    }
+    all
 }
 
 pub fn put_bytes(out: &mut [u8], put: Put, part: &[u8]) -> Put
     ensures { λ r. ⌜ Puts (now (part .entry)) put (now (out .entry)) (now (out .exit)) r ⌝ }
 {
     let n = put.count;
+    let all = Put {
+        count: count_on(n, part.len()),
+        last: last_in(put.last, part),
+    };
     if n <= out.len() {
         if part.len() <= out.len() - n {
             bytes::copy(part, &mut out[n..]);
         }
     }
-    Put {
-        count: count_on(n, part.len()),
-        last: last_in(put.last, part),
-    }
+    all
 }
 
 // "One space between fields": a further field.
