@@ -1,7 +1,7 @@
 -- Bytes put one after the other. Assumes nothing.
 use Prim.Native.Nat.{ℕ, suc, _+_, _-_, _≤_, _<_, min}
 use native.Mathlib.Omega.{arith}
-use mathlib.Core.Path.{_≡_, refl, sym, _∙_}
+use mathlib.Core.Path.{_≡_, refl, sym, subst, _∙_}
 use mathlib.Core.List.{List, [], _∷_, _++_, append-assoc, append-nil}
 use lib.ListN.{length, take, drop, getD, length-append, length-drop, drop-of-length-le}
 use lib.Seq.{sets, sets-eq, length-sets, take-length, take-at, drop-drop}
@@ -9,6 +9,10 @@ use Rattle.base.proofs.Fill.{to-end}
 use Rattle.write_lines.specs.declared.Put.{Put}
 use Rattle.write_lines.specs.Puts.{lastIn, Puts}
 use Rattle.write_lines.proofs.Runs.{sets-sets}
+
+-- bytes named otherwise
+pub renamed : (xs ys : List ℕ) (p : Put) (e e′ : List ℕ) (r : Put) → xs ≡ ys → Puts xs p e e′ r → Puts ys p e e′ r
+renamed xs ys p e e′ r h q = subst (λ (bs : List ℕ). Puts bs p e e′ r) h q
 
 -- nothing is put
 pub nothing : (p : Put) (e : List ℕ) → p .count ≤ 4294967295 → Puts [] p e e p

@@ -22,8 +22,8 @@ withCuts mark step (suc count) last l behind =
 unfoldable pub lastRoom : (mark room : ℕ) → List ℕ → ℕ
 lastRoom mark room l = choose (ends mark l) 0 room
 
--- the cuts of a line of so many bytes that does not go out whole, by whether it ends in the mark: their count, and behind
--- how many bytes the last lies
+-- the cuts of a line of so many bytes that does not go out whole, by whether it ends in the mark: their count, and
+-- behind how many bytes the last lies
 pub record Counted (width size : ℕ) (ended : Bool) (count last : ℕ) : Type 0 where
   pub cut : (mark : ℕ) (l : List ℕ) → length l ≡ size → ends mark l ≡ ended
       → cutRest mark width (width - 1) l ≡ withCuts mark (width - 6) count last l (0x0a ∷ [])

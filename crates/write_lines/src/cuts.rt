@@ -26,8 +26,8 @@ fn last_room(ended: bool, room: usize) -> usize
     if ended { 0 } else { room }
 }
 
-// The cuts of a line of so many bytes, by whether it ends in the mark: the first lies behind width - 1 bytes, each other
-// width - 6 bytes behind the one before it.
+// The cuts of a line of so many bytes, by whether it ends in the mark: the first lies behind width - 1 bytes, each
+// other width - 6 bytes behind the one before it.
 fn count_cuts(size: usize, ended: bool, width: usize) -> Cuts
     requires { ⌜ (16 ≤ width) × (width ≤ 65535) × (size < 4294967295) ⌝ }
     ensures { λ r. ⌜ Counted width size ended (r .count) (r .last) ⌝ }

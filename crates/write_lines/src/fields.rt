@@ -1,7 +1,7 @@
 // Bytes, codes and fields put into a lent room.
 ghost use mathlib.Core.Path.{_≡_};
-ghost use mathlib.Core.List.{[], _∷_};
-ghost use Prim.Native.Nat.{_+_, min};
+ghost use mathlib.Core.List.{List, [], _∷_};
+ghost use Prim.Native.Nat.{ℕ, _+_, min};
 ghost use Rattle.write_lines.specs.Puts.{lastIn, Puts};
 use super::Put;
 
@@ -25,6 +25,16 @@ fn last_in(before: u8, part: &[u8]) -> u8
         return before;
     }
     part[part.len() - 1]
+}
+
+// Nothing more is put.
+pub fn put_nothing(put: Put) -> Put
+    ensures { λ r. ⌜ ((room : List ℕ) → Puts [] put room room r) ⌝ }
+{
+    Put {
+        count: count_on(put.count, 0),
+        last: put.last,
+    }
 }
 
 pub fn put_byte(out: &mut [u8], put: Put, b: u8) -> Put
