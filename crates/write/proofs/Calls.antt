@@ -7,11 +7,11 @@ use mathlib.Core.List.{List, [], _∷_, _++_, append-nil}
 use lib.Dec.{ltb}
 use lib.ListN.{length, take, drop, replicate, length-append, length-take, length-drop, drop-of-length-le}
 use lib.Seq.{take-append-le}
-use borrow.Author.Tests.{lt-ltb, le-ltb, ltb-false, leb-true, not-false}
+use borrow.Author.Tests.{lt-ltb, le-ltb, ltb-true, ltb-false, leb-true, not-false}
 use Rattle.meaning.specs.Bytes.{refuse}
 use Rattle.meaning.specs.Model.{Model}
-use Rattle.meaning.specs.Check.{Checked, good, bad, checkModel}
-use Rattle.meaning.specs.Answer.{accepted, refusal, checkAnswer, check}
+use Rattle.meaning.specs.Check.{good, checkModel}
+use Rattle.meaning.specs.Answer.{accepted, refusal, check}
 use Rattle.meaning.specs.Writing.{Lent, countsFit, contentOf, linesOf}
 use Rattle.meaning.specs.Readback.{isTable}
 use Rattle.meaning.specs.Width.{writingRefused, cutLines, writeBytes, writeChecked, write}
@@ -20,11 +20,10 @@ use Rattle.model_records.specs.Records.{modelAt}
 use Rattle.meaning.proofs.Tests.Refuse.{holds}
 use Rattle.model_check.proofs.Found.{found-bad}
 use Rattle.write_lines.specs.declared.Put.{Put}
-use Rattle.write_lines.specs.declared.Put.the-variants.{At, Full}
 use Rattle.write_lines.specs.Puts.{Puts}
-use Rattle.write_lines.proofs.Puts.{keeps-room, at-front}
+use Rattle.write_lines.proofs.Puts.{at-front}
 use Rattle.write_file.specs.Walks.{contentIn}
-use Rattle.write.specs.Answers.{refusalOf, Fitting, Limited, Inside, settledOf}
+use Rattle.write.specs.Answers.{refusalOf, Fitting, Limited, settledOf}
 
 module _ (b : List ℕ) (t : Lent) (width room : ℕ) where
   pub under-bad : (at : ℕ) → refusal 2 at 0 ≡ check b → write b t width room ≡ writingRefused room 2 at
@@ -111,35 +110,51 @@ module _ (file out e : List ℕ) (room : ℕ) (least : room ≡ min (length out)
   part-length : length (take room out) ≡ room
   part-length = length-take room out ∙ (let z : min room (length out) ≡ room = omega arith in z)
 
-  pub limited : (r : Put) → Puts file 0 (take room out) e r → Limited file out (e ++ drop room out) r
-  limited (At k) p =
-      let size : length e ≡ room = keeps-room file 0 (take room out) e k p ∙ part-length in
-      let inside : k ≤ room = omega (arith, p .within, part-length) in
+  pub limited : (r : Put) → Puts file (record { count = 0; last = 0 }) (take room out) e r → Limited file out (e ++ drop room out) r
+  limited r p =
+      let size : length e ≡ room = p .room ∙ part-length in
       record {
-        end = omega (arith, p .end);
-        limit = omega arith;
-        within = rw length-append (omega arith);
-        bytes = take-append-le k e (drop room out) (omega arith) ∙ at-front k file (take room out) e (omega (arith, p .end)) (p .within) (p .bytes);
+        size = omega (arith, p .count);
+        room = rw (length-append, length-drop) (omega arith);
+        bytes = λ h.
+            take-append-le (length file) e (drop room out) (omega arith)
+            ∙ at-front (length file) file (take room out) e refl (omega (arith, part-length)) (p .bytes (omega (arith, part-length)) (omega (arith, part-length)));
       }
-  limited Full p = omega (arith, p .room, part-length)
 
-pub limited-inside : (file e e′ : List ℕ) (r : Put) → Limited file e e′ r → Inside (length e′) r
-limited-inside file e e′ (At k) p = p .within
-limited-inside file e e′ Full p = tt
+-- the second of two tests refuses
+late : {A : Type 0} (x : Bool) (a b : A) → refuse (x || true) a b ≡ a
+unfolding refuse
+late true a b = refl
+late false a b = refl
 
 -- what is settled is what is to be written
-pub settled : (file e e′ : List ℕ) (r : Put) → Limited file e e′ r → length e′ ≡ length e → settledOf r e′ ≡ writeBytes (length e) file
+pub settled : (file e e′ : List ℕ) (r : Put) → Limited file e e′ r → settledOf r e′ ≡ writeBytes (length e) file
 unfolding settledOf writeBytes refuse
-settled file e e′ (At k) p s =
-    let a : ltb (length e) (length file) ≡ false = le-ltb (length e) (length file) (omega (arith, p .end, p .within)) in
-    let b : ltb 16777216 (length file) ≡ false = le-ltb 16777216 (length file) (omega (arith, p .end, p .limit)) in
-    rw (a, b, p .bytes, s, p .end)
-settled file e e′ Full p s = go (ltb (length e) (length file)) refl (ltb 16777216 (length file)) refl
+settled file e e′ r p = go (ltb 16777216 (length file)) refl (ltb (length e) (length file)) refl
   where
-    go : (x : Bool) → ltb (length e) (length file) ≡ x → (y : Bool) → ltb 16777216 (length file) ≡ y → settledOf Full e′ ≡ writeBytes (length e) file
-    go true a y b = rw (a, s)
-    go false a true b = rw (a, b, s)
-    go false a false b = let x = ltb-false (length e) (length file) a in let y = ltb-false 16777216 (length file) b in absurd (omega arith)
+    measured : ltb 16777216 (length file) ≡ false → r .count ≡ length file
+    measured b = omega (arith, p .size, ltb-false 16777216 (length file) b)
+
+    go : (y : Bool) → ltb 16777216 (length file) ≡ y → (x : Bool) → ltb (length e) (length file) ≡ x → settledOf r e′ ≡ writeBytes (length e) file
+    go true b x a =
+        let more : ltb 16777216 (r .count) ≡ true = lt-ltb 16777216 (r .count) (omega (arith, p .size, ltb-true 16777216 (length file) b)) in
+        rw (more, b, p .room) (late (ltb (length e) (r .count)) _ _ ∙ sym (late (ltb (length e) (length file)) _ _))
+    go false b true a = rw (measured b, p .room, a)
+    go false b false a = rw (measured b, p .room, a, b, p .bytes (omega (arith, ltb-false (length e) (length file) a, ltb-false 16777216 (length file) b)))
+
+-- the tests of the code
+pub too-large : (r : Put) (out : List ℕ) (room : ℕ) → room ≡ min (length out) 16777216 → room < r .count → settledOf r out ≡ writingRefused (length out) 21 0
+unfolding settledOf refuse
+too-large r out room least h = go (ltb 16777216 (r .count)) refl
+  where
+    go : (y : Bool) → ltb 16777216 (r .count) ≡ y → settledOf r out ≡ writingRefused (length out) 21 0
+    go true b = rw b (late (ltb (length out) (r .count)) _ _)
+    go false b = rw (lt-ltb (length out) (r .count) (omega (arith, ltb-false 16777216 (r .count) b)))
+
+pub fits-both : (r : Put) (out : List ℕ) (room : ℕ) → room ≡ min (length out) 16777216 → r .count ≤ room
+    → settledOf r out ≡ record { answer = accepted (r .count) 0 0; output = take (r .count) out ++ replicate (length out - r .count) 0 }
+unfolding settledOf refuse
+fits-both r out room least h = rw (le-ltb (length out) (r .count) (omega arith), le-ltb 16777216 (r .count) (omega arith))
 
 -- the file of the used parts
 pub used-file : (m : Model) (t : Lent) (mark width width′ count : ℕ) → mark ≡ m .mark → width′ ≡ width → count ≡ length (m .topics) + length (m .tables)
@@ -150,9 +165,6 @@ used-file m t mark width width′ count a b e = rw (a, b, e) refl
 
 pub limited-as : (file file′ e e′ : List ℕ) (r : Put) → file ≡ file′ → Limited file e e′ r → Limited file′ e e′ r
 limited-as file file′ e e′ r h p = subst (λ (bs : List ℕ). Limited bs e e′ r) h p
-
-pub inside-at : (n k : ℕ) (r : Put) → r ≡ At k → Inside n r → k ≤ n
-inside-at n k r h p = subst (Inside n) h p
 
 -- the room zeroed behind k
 pub cleared-behind : (k : ℕ) (out ys : List ℕ) → k ≤ length out → ys ≡ replicate (length (take (length out - k) (drop k out))) 0

@@ -1,5 +1,5 @@
 -- The answer of writing, and the room that it leaves.
-use Prim.Native.Nat.{ℕ, _*_, _-_, _+_, _≤_, _<_, min}
+use Prim.Native.Nat.{ℕ, _*_, _-_, _+_, _≤_, min}
 use mathlib.Core.Path.{_≡_}
 use mathlib.Core.Bool.{not, _||_}
 use mathlib.Core.List.{List, _++_}
@@ -12,7 +12,6 @@ use Rattle.meaning.specs.Writing.{Lent}
 use Rattle.meaning.specs.Readback.{isTable}
 use Rattle.meaning.specs.Width.{Written, writingRefused}
 use Rattle.write_lines.specs.declared.Put.{Put}
-use Rattle.write_lines.specs.declared.Put.the-variants.{At, Full}
 use Rattle.write.specs.declared.Answer.{Answer}
 use Rattle.write.specs.declared.Answer.the-variants as answers
 
@@ -34,23 +33,18 @@ pub record Fitting (m : Model) (t : Lent) : Type 0 where
 
 -- ## The limit of 16,777,216 bytes
 
-pub record LimitedAt (file entry exit : List ℕ) (k : ℕ) : Type 0 where
-  pub end : k ≡ length file
-  pub limit : k ≤ 16777216
-  pub within : k ≤ length exit
-  pub bytes : take k exit ≡ file
+-- the file put into the room within the limit: it is measured, and stands there where it fits both
+pub record Limited (file entry exit : List ℕ) (r : Put) : Type 0 where
+  pub size : r .count ≡ min 4294967295 (length file)
+  pub room : length exit ≡ length entry
+  pub bytes : length file ≤ min (length entry) 16777216 → take (length file) exit ≡ file
 
--- the file put into the room within the limit, or it has no room there
-abbrev pub Limited : (file entry exit : List ℕ) → Put → Type 0
-Limited file entry exit (At k) = LimitedAt file entry exit k
-Limited file entry exit Full = min (length entry) 16777216 < length file
-
--- where bytes end lies within a room of so many
-abbrev pub Inside : ℕ → Put → Type 0
-Inside room (At k) = k ≤ room
-Inside room Full = Unit {0}
-
--- what was put becomes the answer, and the room is zero behind it
+-- what was put becomes the answer, and the room is zero behind it; 21 exactly where it measures more than the room or
+-- more than the limit
 unfoldable pub settledOf : Put → List ℕ → Written
-settledOf (At k) out = record { answer = meaning.accepted k 0 0; output = take k out ++ replicate (length out - k) 0 }
-settledOf Full out = writingRefused (length out) 21 0
+settledOf put out =
+    refuse (ltb (length out) (put .count) || ltb 16777216 (put .count)) (writingRefused (length out) 21 0)
+    (record {
+      answer = meaning.accepted (put .count) 0 0;
+      output = take (put .count) out ++ replicate (length out - put .count) 0;
+    })

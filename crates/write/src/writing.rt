@@ -8,9 +8,9 @@ ghost use Rattle.meaning.specs.Writing.{lentOf, contentOf, linesOf};
 ghost use Rattle.meaning.specs.Width.{cutLines, writeChecked};
 ghost use Rattle.model_records.specs.Records.{modelAt};
 ghost use Rattle.model_records.specs.Places.{Placed};
-ghost use Rattle.write_file.specs.Follows.{Fit};
+ghost use Rattle.write_file.specs.Styles.{Fit};
 ghost use Rattle.write_file.specs.Walks.{contentIn};
-ghost use Rattle.write.specs.Answers.{answerOf, refusalOf, Fitting, Limited, Inside, settledOf};
+ghost use Rattle.write.specs.Answers.{answerOf, refusalOf, Fitting, Limited, settledOf};
 use crate::Answer;
 use base::numbers::least_of;
 use model_records::places::Shape;
@@ -29,19 +29,17 @@ pub(crate) fn refuse(number: u8, at: usize, out: &mut [u8]) -> Answer
     Answer::Refused(number, at)
 }
 
-// "Every result buffer is zero behind its used part"; 21 where the bytes had no room.
+// "Every result buffer is zero behind its used part"; 21 where the bytes are more than the room or the limit.
 fn settle(put: Put, out: &mut [u8]) -> Answer
-    requires { ⌜ Inside (length (now out)) put ⌝ }
     ensures answer { λ r. ⌜ answerOf r ≡ settledOf put (now (out .entry)) .answer ⌝ }
     ensures output { λ _. ⌜ now (out .exit) ≡ settledOf put (now (out .entry)) .output ⌝ }
 {
-    match put {
-        Put::At(k) => {
-            base::rooms::clear(&mut out[k..]);
-            Answer::Written(k)
-        }
-        Put::Full => refuse(21, 0, out),
+    let n = put.count;
+    if least_of(out.len(), 16777216) < n {
+        return refuse(21, 0, out);
     }
+    base::rooms::clear(&mut out[n..]);
+    Answer::Written(n)
 }
 
 // The file, within the room and the limit.

@@ -1,3 +1,3 @@
-pub mod Follows
+pub mod Frames
 pub mod Walks
 pub mod Topics

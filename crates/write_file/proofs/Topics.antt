@@ -15,18 +15,18 @@ use Rattle.meaning.specs.Model.{Table, Model, noTable, tableAt}
 use Rattle.meaning.specs.Field.{SCNT, slashes, MTID, MODL, TOPI, ETOP, EMOD, ENDE}
 use Rattle.meaning.specs.Reading.{Content, cellAt}
 use Rattle.meaning.specs.Writing.{rowsBehindTopic, tableLines, topicLines, fieldLines, linesBytes, linesOf}
-use Rattle.meaning.specs.Width.{cutLines}
 use Rattle.model_records.specs.declared.places.Shape.{Shape}
 use Rattle.model_records.specs.Records.{nextAt, modelAt}
 use Rattle.model_records.specs.Places.{topicPlace, TopicRecord, Placed}
 use Rattle.model_records.proofs.Types.{payload-part}
 use Rattle.write_lines.specs.declared.Put.{Put}
+use Rattle.write_lines.specs.Puts.{Puts}
 use Rattle.write_file.specs.declared.lines.LineStyle.{LineStyle}
 use Rattle.write_file.specs.declared.walk.Walked.{Walked}
-use Rattle.write_file.specs.Follows.{Follows, cutOf}
+use Rattle.write_file.specs.Styles.{cutOf}
 use Rattle.write_file.specs.Walks.{linesOfTopic, TopicEnd, TopicTurn}
 use Rattle.write_objects.proofs.Joined.{cut-lines-append}
-use Rattle.write_file.proofs.Follows.{follows-as, follows-nothing, follows-then, no-lines}
+use Rattle.write_file.proofs.Frames.{no-lines, put-none}
 use Rattle.write_file.proofs.Walks.{next-row}
 
 -- ## Rows
@@ -86,17 +86,17 @@ module _ (m : Model) (text : List ℕ) (c : Content) (s : LineStyle) (p row : �
   topic-next : drop p (m .topics) ≡ getD (m .topics) p [] ∷ drop (p + 1) (m .topics)
   topic-next = drop-cons (m .topics) p [] l ∙ ap (λ (n : ℕ). getD (m .topics) p [] ∷ drop n (m .topics)) (sym (add-one p))
 
-  pub topic-over : getD (c .marks) p 0 ≡ 0 → row ≤ length (c .rows) → TopicTurn m text c s p row put e e (record { put = put; row = row })
+  pub topic-over : getD (c .marks) p 0 ≡ 0 → row ≤ length (c .rows) → (q : Put) → Puts [] put e e q → TopicTurn m text c s p row put e e (record { put = q; row = row })
   unfolding choose topicLines
-  topic-over n w = record {
+  topic-over n w q none = record {
     lines = [];
-    put = follows-as [] (cutOf s []) (sym (no-lines (s .mark) (s .width))) (follows-nothing put e);
+    put = put-none (s .mark) (s .width) put q e none;
     rest = rw (topic-next, n) refl;
     within = w;
   }
 
   pub topic-begun : (getD (c .marks) p 0 ≡ 0 → ⊥) → (to : ℕ) → TopicEnd (m .tables) p (c .cells) (c .rows) row to → {e′ : List ℕ} {q : Put}
-      → Follows (cutOf s (linesOfTopic m text c p (drop row (c .rows)))) put e e′ q → TopicTurn m text c s p row put e e′ (record { put = q; row = to })
+      → Puts (cutOf s (linesOfTopic m text c p (drop row (c .rows)))) put e e′ q → TopicTurn m text c s p row put e e′ (record { put = q; row = to })
   unfolding choose topicLines
   topic-begun y to end f = record {
     lines = linesOfTopic m text c p (drop row (c .rows));
@@ -122,12 +122,6 @@ topics-end m text c s p rs h =
     rw none (no-lines (s .mark) (s .width))
 
 -- ## The whole file
-
--- two lines, and three groups of lines
-module _ (mark width : ℕ) where
-  pub lines-then : {p q r : Put} {e e′ e″ : List ℕ} (xs ys : List (List (List ℕ))) → Follows (cutLines mark width (linesBytes xs)) p e e′ q → Follows (cutLines mark width (linesBytes ys)) q e′ e″ r
-      → Follows (cutLines mark width (linesBytes (xs ++ ys))) p e e″ r
-  lines-then xs ys f g = follows-as _ _ (sym (cut-lines-append mark width xs ys)) (follows-then _ _ f g)
 
 -- its lines by their groups
 pub whole-file : (m : Model) (text : List ℕ) (c : Content)

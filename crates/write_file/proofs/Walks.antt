@@ -23,12 +23,13 @@ use Rattle.model_records.specs.Standing.{AttributesHere}
 use Rattle.model_records.specs.Places.{tablePlace, topicOf, TableRecord, Placed}
 use Rattle.model_records.proofs.Types.{payload-part}
 use Rattle.write_lines.specs.declared.Put.{Put}
+use Rattle.write_lines.specs.Puts.{Puts}
 use Rattle.write_file.specs.declared.lines.LineStyle.{LineStyle}
 use Rattle.write_file.specs.declared.walk.Walked.{Walked}
-use Rattle.write_file.specs.Follows.{Follows, cutOf}
+use Rattle.write_file.specs.Styles.{cutOf}
 use Rattle.write_file.specs.Walks.{linesOfTable, TableEnd, TableTurn}
 use Rattle.write_objects.proofs.Joined.{cut-lines-append}
-use Rattle.write_file.proofs.Follows.{follows-as, follows-nothing, no-lines}
+use Rattle.write_file.proofs.Frames.{no-lines, put-none}
 
 -- ## Rows
 
@@ -138,17 +139,17 @@ module _ (b : List ℕ) (shape : Shape) (places text : List ℕ) (c : Content) (
       drop-cons (modelAt b .tables) t noTable (omega (arith, l, h .tables))
       ∙ ap (λ (n : ℕ). tableAt (modelAt b .tables) t ∷ drop n (modelAt b .tables)) (sym (add-one t))
 
-  pub table-over : r ≡ false → row ≤ length (c .rows) → TableTurn (modelAt b) text c s p t row put e e (record { put = put; row = row })
+  pub table-over : r ≡ false → row ≤ length (c .rows) → (q : Put) → Puts [] put e e q → TableTurn (modelAt b) text c s p t row put e e (record { put = q; row = row })
   unfolding choose tableLines
-  table-over n w = record {
+  table-over n w q none = record {
     lines = [];
-    put = follows-as [] (cutOf s []) (sym (no-lines (s .mark) (s .width))) (follows-nothing put e);
+    put = put-none (s .mark) (s .width) put q e none;
     rest = rw (table-next, tested ∙ n) refl;
     within = w;
   }
 
   pub table-due : r ≡ true → (to : ℕ) → TableEnd t (c .cells) (c .rows) row to → {e′ : List ℕ} {q : Put}
-      → Follows (cutOf s (linesOfTable (modelAt b) text c t (take (to - row) (drop row (c .rows))))) put e e′ q
+      → Puts (cutOf s (linesOfTable (modelAt b) text c t (take (to - row) (drop row (c .rows))))) put e e′ q
       → TableTurn (modelAt b) text c s p t row put e e′ (record { put = q; row = to })
   unfolding choose tableLines
   table-due y to end f = record {

@@ -11,9 +11,10 @@ use Rattle.meaning.specs.Row.{pairsOf}
 use Rattle.meaning.specs.Reading.{Content}
 use Rattle.meaning.specs.Writing.{rowLines, rowsOfTable, rowsBehindTable, rowsBehindTopic, tableLines, topicLines}
 use Rattle.write_lines.specs.declared.Put.{Put}
+use Rattle.write_lines.specs.Puts.{Puts}
 use Rattle.write_file.specs.declared.lines.LineStyle.{LineStyle}
 use Rattle.write_file.specs.declared.walk.Walked.{Walked}
-use Rattle.write_file.specs.Follows.{Follows, cutOf}
+use Rattle.write_file.specs.Styles.{cutOf}
 
 -- the table whose lines are written
 abbrev pub contentIn : (marks rows : List ℕ) (cells points : List ℤ) → Content
@@ -50,7 +51,7 @@ linesOfTopic m text c p rows =
 pub record TableTurn (m : Model) (text : List ℕ) (c : Content) (s : LineStyle) (p t row : ℕ)
     (before : Put) (entry exit : List ℕ) (w : Walked) : Type 0 where
   pub lines : List (List (List ℕ))
-  pub put : Follows (cutOf s lines) before entry exit (w .put)
+  pub put : Puts (cutOf s lines) before entry exit (w .put)
   pub rest : tableLines m text c p t (drop t (m .tables)) (drop row (c .rows))
       ≡ lines ++ tableLines m text c p (t + 1) (drop (t + 1) (m .tables)) (drop (w .row) (c .rows))
   pub within : w .row ≤ length (c .rows)
@@ -59,7 +60,7 @@ pub record TableTurn (m : Model) (text : List ℕ) (c : Content) (s : LineStyle)
 pub record TopicTurn (m : Model) (text : List ℕ) (c : Content) (s : LineStyle) (p row : ℕ)
     (before : Put) (entry exit : List ℕ) (w : Walked) : Type 0 where
   pub lines : List (List (List ℕ))
-  pub put : Follows (cutOf s lines) before entry exit (w .put)
+  pub put : Puts (cutOf s lines) before entry exit (w .put)
   pub rest : topicLines m text c p (drop p (m .topics)) (drop row (c .rows))
       ≡ lines ++ topicLines m text c (p + 1) (drop (p + 1) (m .topics)) (drop (w .row) (c .rows))
   pub within : w .row ≤ length (c .rows)

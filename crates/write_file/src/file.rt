@@ -11,7 +11,7 @@ ghost use Rattle.model_records.specs.Records.{modelAt};
 ghost use Rattle.model_records.specs.Standing.{Beginning};
 ghost use Rattle.model_records.specs.Places.{Placed};
 ghost use Rattle.write_lines.specs.Puts.{Puts};
-ghost use Rattle.write_file.specs.Follows.{Follows, Fit, cutOf};
+ghost use Rattle.write_file.specs.Styles.{Fit, cutOf};
 ghost use Rattle.write_file.specs.Walks.{contentIn, linesOfTopic, TopicEnd, TopicTurn};
 use crate::lines;
 use crate::lines::LineStyle;
@@ -22,6 +22,7 @@ use model_records::places;
 use model_records::places::Shape;
 use table::cells::size_at;
 use write_lines::Put;
+use write_lines::fields::put_nothing;
 
 // The topic of a table, 0 where there is no such table.
 fn owner_of(places: &[usize], shape: Shape, t: usize) -> usize
@@ -83,7 +84,7 @@ fn then_topic(
     ensures { λ r. ⌜ (let m = modelAt (now (model .entry)) in
         let c = contentIn (now (marks .entry)) (now (rows .entry)) (now (cells .entry)) (now (points .entry)) in
         let lines = linesOfTopic m (now (text .entry)) c p (drop row (now (rows .entry))) in
-        Follows (cutOf style lines) put (now (out .entry)) (now (out .exit)) r) ⌝ }
+        Puts (cutOf style lines) put (now (out .entry)) (now (out .exit)) r) ⌝ }
 {
     let at = places::topic_at(places, p);
     let next = model_records::next_at(model, at);
@@ -130,7 +131,10 @@ fn pass_topic(
         TopicTurn m (now (text .entry)) c style p row put (now (out .entry)) (now (out .exit)) r) ⌝ }
 {
     if byte_at(marks, p) == 0 {
-        return Walked { put, row };
+        return Walked {
+            put: put_nothing(put),
+            row,
+        };
     }
     let all = then_topic(
         put,
@@ -170,9 +174,9 @@ fn then_topics(
     ensures { λ r. ⌜ (let m = modelAt (now (model .entry)) in
         let c = contentIn (now (marks .entry)) (now (rows .entry)) (now (cells .entry)) (now (points .entry)) in
         let lines = topicLines m (now (text .entry)) c 0 (m .topics) (now (rows .entry)) in
-        Follows (cutOf style lines) put (now (out .entry)) (now (out .exit)) r) ⌝ }
+        Puts (cutOf style lines) put (now (out .entry)) (now (out .exit)) r) ⌝ }
 {
-    let mut all = put;
+    let mut all = put_nothing(put);
     let mut row = 0;
     let mut p = 0;
     while p < shape.topics {
@@ -205,7 +209,7 @@ fn then_head(put: Put, model: &[u8], style: LineStyle, out: &mut [u8]) -> Put
     ensures { λ r. ⌜ (let m = modelAt (now (model .entry)) in
         let names = (MTID ∷ m .transfer ∷ []) ∷ (MODL ∷ m .name ∷ []) ∷ [] in
         let lines = (SCNT ∷ []) ∷ (slashes ∷ []) ∷ names in
-        Follows (cutOf style lines) put (now (out .entry)) (now (out .exit)) r) ⌝ }
+        Puts (cutOf style lines) put (now (out .entry)) (now (out .exit)) r) ⌝ }
 {
     let second = model_records::next_at(model, 0);
     let first = model_records::next_at(model, second);
@@ -233,9 +237,10 @@ pub fn put_file(
     ensures { λ r. ⌜ (let m = modelAt (now (model .entry)) in
         let c = contentIn (now (marks .entry)) (now (rows .entry)) (now (cells .entry)) (now (points .entry)) in
         let bytes = cutLines (style .mark) (style .width) (linesOf m (now (text .entry)) c) in
-        Puts bytes 0 (now (out .entry)) (now (out .exit)) r) ⌝ }
+        Puts bytes (record { count = 0; last = 0 }) (now (out .entry)) (now (out .exit)) r) ⌝ }
 {
-    let head = then_head(Put::At(0), model, style, out);
+    let start = Put { count: 0, last: 0 };
+    let head = then_head(start, model, style, out);
     let body = then_topics(
         head,
         model,

@@ -5,11 +5,12 @@ ghost use mathlib.Core.List.{List};
 ghost use Prim.Native.Nat.{ℕ, _+_, _-_, _≤_, _<_};
 ghost use lib.Dec.{eqb};
 ghost use lib.ListN.{length, take, drop, getD};
-ghost use Rattle.meaning.specs.Writing.{objectLines, rowLines, tableLines};
+ghost use Rattle.meaning.specs.Writing.{rowLines, tableLines};
 ghost use Rattle.model_records.specs.Records.{modelAt, pairsAt};
 ghost use Rattle.model_records.specs.Standing.{AttributesHere};
 ghost use Rattle.model_records.specs.Places.{topicOf, Placed};
-ghost use Rattle.write_file.specs.Follows.{Follows, Fit, cutOf};
+ghost use Rattle.write_lines.specs.Puts.{Puts};
+ghost use Rattle.write_file.specs.Styles.{Fit, cutOf};
 ghost use Rattle.write_file.specs.Walks.{contentIn, linesOfTable, TableEnd, TableTurn};
 use crate::lines;
 use crate::lines::LineStyle;
@@ -19,6 +20,7 @@ use model_records::places;
 use model_records::places::Shape;
 use table::cells::size_at;
 use write_lines::Put;
+use write_lines::fields::put_nothing;
 use write_objects::objects;
 
 // What was put, and the number of the row that comes next.
@@ -42,50 +44,7 @@ fn behind_table(rows: &[u64], cells: &[i64], t: usize, row: usize) -> usize
     i
 }
 
-// The lines of an object; the attribute records of its table begin at the byte `first`.
-fn then_object(
-    put: Put,
-    model: &[u8],
-    first: usize,
-    text: &[u8],
-    style: LineStyle,
-    rows: &[u64],
-    cells: &[i64],
-    points: &[i64],
-    row: usize,
-    out: &mut [u8],
-) -> Put
-    requires { ⌜ AttributesHere (modelAt (now model)) (now model) first ⌝ }
-    requires { ⌜ Fit (modelAt (now model)) style ⌝ }
-    ensures { λ r. ⌜ ((marks : List ℕ) →
-        let b = now (model .entry) in
-        let c = contentIn marks (now (rows .entry)) (now (cells .entry)) (now (points .entry)) in
-        let lines = objectLines (modelAt b) (now (text .entry)) c (pairsAt b first) row in
-        Follows (cutOf style lines) put (now (out .entry)) (now (out .exit)) r) ⌝ }
-{
-    let Put::At(n) = put else {
-        return Put::Full;
-    };
-    if out.len() < n {
-        return Put::Full;
-    }
-    objects::put_object(
-        model,
-        first,
-        text,
-        style.undefined,
-        style.mark,
-        style.width,
-        rows,
-        cells,
-        points,
-        row,
-        out,
-        n,
-    )
-}
-
-// The lines of the objects between two row numbers.
+// The lines of the objects between two row numbers; the attribute records of their table begin at the byte `first`.
 fn then_rows(
     put: Put,
     model: &[u8],
@@ -107,23 +66,25 @@ fn then_rows(
         let c = contentIn marks (now (rows .entry)) (now (cells .entry)) (now (points .entry)) in
         let rs = take (to - from) (drop from (now (rows .entry))) in
         let lines = rowLines (modelAt b) (now (text .entry)) c (pairsAt b first) rs in
-        Follows (cutOf style lines) put (now (out .entry)) (now (out .exit)) r) ⌝ }
+        Puts (cutOf style lines) put (now (out .entry)) (now (out .exit)) r) ⌝ }
 {
-    let mut all = put;
+    let mut all = put_nothing(put);
     let mut i = from;
     while i < to {
         let row = rows[i] as usize;
-        all = then_object(
-            all,
+        all = objects::put_object(
             model,
             first,
             text,
-            style,
+            style.undefined,
+            style.mark,
+            style.width,
             rows,
             cells,
             points,
             row,
             out,
+            all,
         );
         i += 1;
     }
@@ -153,7 +114,7 @@ fn then_table(
         let c = contentIn marks (now (rows .entry)) (now (cells .entry)) (now (points .entry)) in
         let rs = take (to - from) (drop from (now (rows .entry))) in
         let lines = linesOfTable (modelAt (now (model .entry))) (now (text .entry)) c t rs in
-        Follows (cutOf style lines) put (now (out .entry)) (now (out .exit)) r) ⌝ }
+        Puts (cutOf style lines) put (now (out .entry)) (now (out .exit)) r) ⌝ }
 {
     let at = places::table_at(places, t);
     let next = model_records::next_at(model, at);
@@ -209,7 +170,10 @@ fn pass_table(
         TableTurn m (now (text .entry)) c style p t row put (now (out .entry)) (now (out .exit)) r) ⌝ }
 {
     if !is_due(places, shape, p, t, marks) {
-        return Walked { put, row };
+        return Walked {
+            put: put_nothing(put),
+            row,
+        };
     }
     let end = behind_table(rows, cells, t, row);
     let all = then_table(
@@ -252,9 +216,9 @@ pub(crate) fn then_tables(
     ensures { λ r. ⌜ (let m = modelAt (now (model .entry)) in
         let c = contentIn (now (marks .entry)) (now (rows .entry)) (now (cells .entry)) (now (points .entry)) in
         let lines = tableLines m (now (text .entry)) c p 0 (m .tables) (drop row (now (rows .entry))) in
-        Follows (cutOf style lines) put (now (out .entry)) (now (out .exit)) r) ⌝ }
+        Puts (cutOf style lines) put (now (out .entry)) (now (out .exit)) r) ⌝ }
 {
-    let mut all = put;
+    let mut all = put_nothing(put);
     let mut next = row;
     let mut t = 0;
     while t < shape.tables {

@@ -43,17 +43,18 @@ module _ (mark room : ℕ) where
       go true e k = rw e (and-false (leb (length l) room) refl)
       go false e k = let z : room < length l = rw e at k in rw (lt-leb (length l) room z)
 
-  pub room-most : (l : List ℕ) → lastRoom mark room l ≤ room
-  unfolding lastRoom choose
-  room-most l = go (ends mark l)
-    where
-      go : (t : Bool) → choose t 0 room ≤ room
-      go true = omega arith
-      go false = omega arith
+  pub room-by : (l : List ℕ) (ended : Bool) → ends mark l ≡ ended → lastRoom mark room l ≡ choose ended 0 room
+  unfolding lastRoom
+  room-by l ended h = rw h
 
   room-drop : (k : ℕ) (l : List ℕ) → k < length l → lastRoom mark room (drop k l) ≡ lastRoom mark room l
   unfolding lastRoom
   room-drop k l h = rw (ends-drop mark k l h)
+
+pub room-most : (ended : Bool) (room : ℕ) → choose ended 0 room ≤ room
+unfolding choose
+room-most true room = omega arith
+room-most false room = omega arith
 
 -- ## What stands behind a cut
 

@@ -1,62 +1,55 @@
 -- Lines put into a room and ended, whole or cut. Assumes nothing.
-use Prim.Native.Nat.{ℕ, zero, suc, _+_, _*_, _-_, _<_, _≤_}
+use Prim.Native.Nat.{ℕ, zero, suc, _+_, _*_, _-_, _<_, _≤_, min}
 use native.Mathlib.Omega.{arith}
-use mathlib.Core.Path.{_≡_, refl, sym, subst, _∙_}
+use mathlib.Core.Path.{_≡_, refl, sym, _∙_}
 use mathlib.Core.Bool.{Bool, true, false}
 use mathlib.Core.List.{List, [], _∷_, _++_, append-assoc}
+use lib.Dec.{eqb}
 use lib.ListN.{length, take, drop, set, length-append}
 use lib.Seq.{sets, sets-eq, take-set-le, take-at}
-use Rattle.meaning.specs.Bytes.{choose, cont}
+use Rattle.meaning.specs.Bytes.{choose, ends, cont}
 use Rattle.meaning.specs.Width.{goesWhole, cutRest, cutLine}
 use Rattle.write_lines.specs.declared.Put.{Put}
-use Rattle.write_lines.specs.declared.Put.the-variants.{At, Full}
-use Rattle.write_lines.specs.Cuts.{withCuts, lastRoom}
-use Rattle.write_lines.specs.Puts.{Stand, NoRoom, Puts}
-use Rattle.write_lines.proofs.Runs.{between, length-between, between-same, sets-stand, sets-over, take-sets, drop-run}
-use Rattle.write_lines.proofs.Puts.{then, keeps-room}
-use Rattle.write_lines.proofs.Cutting.{goes-whole, goes-cut, cutRoom, cuts-length, cuts-append}
+use Rattle.write_lines.specs.Cuts.{withCuts, lastRoom, Counted}
+use Rattle.write_lines.specs.Puts.{lastIn, Puts}
+use Rattle.write_lines.proofs.Runs.{between, between-same, sets-over, drop-run}
+use Rattle.write_lines.proofs.Puts.{then, last-append}
+use Rattle.write_lines.proofs.Cutting.{goes-whole, goes-cut, room-by, cutRoom, cuts-length, cuts-append}
 
--- ## The end of the line between two places
+-- ## The last byte of a line
 
-module _ (mark width start n : ℕ) (e e′ : List ℕ) (r : Put) where
-  pub whole-ended : start ≤ n → n ≤ length e → length (between start n e) ≤ lastRoom mark width (between start n e) → Puts (0x0a ∷ []) n e e′ r → Puts (cutLine mark width (between start n e)) start e e′ r
-  unfolding cutLine choose
-  whole-ended order room h p =
-      let l : List ℕ = between start n e in
-      let stands : Stand l start e e n = record { end = omega (arith, length-between start n e room); within = room; bytes = sym (sets-stand start n e order room) } in
-      rw (goes-whole mark width l h) (then l (0x0a ∷ []) start n e e e′ r stands p)
+-- whether a line ends in the mark shows in its last byte
+pub ends-last : (d b : ℕ) (l : List ℕ) → 1 ≤ length l → ends b l ≡ eqb (lastIn d l) b
+unfolding ends lastIn
+ends-last d b [] h = absurd (omega arith)
+ends-last d b (x ∷ []) h = refl
+ends-last d b (x ∷ (y ∷ l)) h = ends-last x b (y ∷ l) (omega arith)
 
-  pub cut-ended : lastRoom mark width (between start n e) < length (between start n e) → Puts (cutRest mark width (width - 1) (between start n e)) start e e′ r → Puts (cutLine mark width (between start n e)) start e e′ r
-  unfolding cutLine choose
-  cut-ended h p = rw (goes-cut mark width (between start n e) h) p
-
--- its cuts counted
-module _ (mark width count last start n : ℕ) (e : List ℕ) (order : start ≤ n) (within : n ≤ length e)
-    (cut : cutRest mark width (width - 1) (between start n e) ≡ withCuts mark (width - 6) count last (between start n e) (0x0a ∷ [])) where
-  rest-size : start + length (cutRest mark width (width - 1) (between start n e)) ≡ n + 7 * count + 1
-  rest-size = rw cut (omega (arith, cuts-length mark (width - 6) count last (between start n e) (0x0a ∷ []), length-between start n e within))
-
-  -- it is cut once the end of its last part stands
-  line-cut : n + 7 * count < length e → cutRoom mark (width - 6) start n count last (set e (n + 7 * count) 0x0a) ≡ sets e start (cutRest mark width (width - 1) (between start n e))
-  line-cut room =
-      let at : ℕ = n + 7 * count in
-      let l : List ℕ = between start n e in
-      let a : take start (set e at 0x0a) ≡ take start e = take-set-le start e at 0x0a (omega arith) in
-      let b : between start n (set e at 0x0a) ≡ l = between-same start n (set e at 0x0a) e (take-set-le n e at 0x0a (omega arith)) in
-      let d : drop at (set e at 0x0a) ≡ (0x0a ∷ []) ++ drop (at + 1) e = drop-run e at (0x0a ∷ []) (omega arith) in
-      rw (a, b, d, cuts-append mark (width - 6) count last l (0x0a ∷ []) (drop (at + 1) e), ← cut, sets-eq (cutRest mark width (width - 1) l) e start (omega (arith, rest-size)), rest-size)
-      (sym (append-assoc (take start e) (cutRest mark width (width - 1) l) (drop (at + 1) e)))
-
-  pub no-room : length e ≤ n + 7 * count → NoRoom (cutRest mark width (width - 1) (between start n e)) start e e
-  no-room h = record { room = omega (arith, rest-size); front = refl }
-
-  pub cut-stands : (exit : List ℕ) → n + 7 * count < length e → exit ≡ cutRoom mark (width - 6) start n count last (set e (n + 7 * count) 0x0a)
-      → Stand (cutRest mark width (width - 1) (between start n e)) start e exit (n + 7 * count + 1)
-  cut-stands exit room made = record { end = sym rest-size; within = omega arith; bytes = made ∙ line-cut room }
-
--- ## A line and its end
+last-whole : (d : ℕ) (l : List ℕ) → lastIn d (l ++ (0x0a ∷ [])) ≡ 0x0a
+unfolding lastIn
+last-whole d l = last-append d l (0x0a ∷ [])
 
 module _ (mark width : ℕ) where
+  last-rest : (left d : ℕ) (l : List ℕ) → lastIn d (cutRest mark width left l) ≡ 0x0a
+  unfolding cutRest lastIn choose
+  last-rest left d [] = refl
+  last-rest (suc left) d (b ∷ l) = last-rest left b l
+  last-rest zero d (b ∷ l) = go (goesWhole mark (width - 5) (b ∷ l)) (last-rest (width - 7) b l)
+    where
+      go : (t : Bool) → lastIn b (cutRest mark width (width - 7) l) ≡ 0x0a → lastIn 0x20 (choose t ((b ∷ l) ++ (0x0a ∷ [])) (b ∷ cutRest mark width (width - 7) l)) ≡ 0x0a
+      go true h = last-whole b l
+      go false h = h
+
+  last-line : (d : ℕ) (l : List ℕ) → lastIn d (cutLine mark width l) ≡ 0x0a
+  unfolding cutLine choose
+  last-line d l = go (goesWhole mark width l)
+    where
+      go : (t : Bool) → lastIn d (choose t (l ++ (0x0a ∷ [])) (cutRest mark width (width - 1) l)) ≡ 0x0a
+      go true = last-whole d l
+      go false = last-rest (width - 1) d l
+
+  -- ## A line is longer with its end
+
   rest-longer : (left : ℕ) (l : List ℕ) → length l < length (cutRest mark width left l)
   unfolding cutRest choose
   rest-longer left [] = omega arith
@@ -67,8 +60,7 @@ module _ (mark width : ℕ) where
       go true h = omega (arith, length-append l (0x0a ∷ []))
       go false h = omega arith
 
-  -- a line is longer with its end
-  pub line-longer : (l : List ℕ) → length l < length (cutLine mark width l)
+  line-longer : (l : List ℕ) → length l < length (cutLine mark width l)
   unfolding cutLine choose
   line-longer l = go (goesWhole mark width l)
     where
@@ -76,29 +68,75 @@ module _ (mark width : ℕ) where
       go true = omega (arith, length-append l (0x0a ∷ []))
       go false = rest-longer (width - 1) l
 
-  -- where a line has no room, it has none with its end
-  pub line-full : (l : List ℕ) (n : ℕ) (e e′ : List ℕ) → Puts l n e e′ Full → Puts (cutLine mark width l) n e e′ Full
-  line-full l n e e′ p = record { room = omega (arith, p .room, line-longer l); front = p .front }
+-- ## A line put, and then ended
 
-  -- a line put, and then ended where it stands
-  module _ (l : List ℕ) (n k : ℕ) (e e′ e″ : List ℕ) (p : Stand l n e e′ k) where
-    same-room : length e′ ≡ length e
-    same-room = keeps-room l n e e′ k p
+module _ (mark width : ℕ) (line : List ℕ) (before put : Put) (e entry : List ℕ) (p : Puts line before e entry put) where
+  -- what its last part has room for, by the last byte that was put
+  pub last-room-of : 1 ≤ length line → lastRoom mark width line ≡ choose (eqb (put .last) mark) 0 width
+  last-room-of some = room-by mark width line (eqb (put .last) mark) (rw (p .last) (ends-last (before .last) mark line some))
 
-    stands-there : between n k e′ ≡ l
-    stands-there =
-        let z : k - n ≡ length l = omega (arith, p .end) in
-        rw (z, p .bytes, drop-run e n l (omega (arith, p .end, p .within))) (take-at l (drop (n + length l) e) (length l) refl)
+  -- its bytes are more than are counted
+  pub ended-above : 4294967295 ≤ put .count → Puts (cutLine mark width line) before e entry (record { count = 4294967295; last = 0x0a })
+  ended-above h = record {
+    count = omega (arith, p .count, line-longer mark width line);
+    last = sym (last-line mark width (before .last) line);
+    room = p .room;
+    bytes = λ a b. absurd (omega (arith, p .count, line-longer mark width line));
+  }
 
-    pub line-ended : (r : Put) → Puts (cutLine mark width (between n k e′)) n e′ e″ r → Puts (cutLine mark width l) n e e″ r
-    line-ended (At j) q =
-        let s : Stand (cutLine mark width l) n e′ e″ j = subst (λ (t : List ℕ). Stand (cutLine mark width t) n e′ e″ j) stands-there q in
-        let c : List ℕ = cutLine mark width l in
-        record {
-          end = s .end;
-          within = omega (arith, s .within, same-room);
-          bytes = s .bytes ∙ rw (p .bytes) (sets-over l c e n (omega (arith, line-longer l)) (omega (arith, s .end, s .within, same-room)));
-        }
-    line-ended Full q =
-        let s : NoRoom (cutLine mark width l) n e′ e″ = subst (λ (t : List ℕ). NoRoom (cutLine mark width t) n e′ e″) stands-there q in
-        record { room = omega (arith, s .room, same-room); front = s .front ∙ rw (p .bytes) (take-sets n e n l (omega arith)) }
+  pub ended-whole : (exit : List ℕ) (r : Put) → length line ≤ lastRoom mark width line → Puts (0x0a ∷ []) put entry exit r → Puts (cutLine mark width line) before e exit r
+  unfolding cutLine choose
+  ended-whole exit r h q = rw (goes-whole mark width line h) (then line (0x0a ∷ []) before put r e entry exit p q)
+
+  pub ended-cut : (exit : List ℕ) (r : Put) → lastRoom mark width line < length line → Puts (cutRest mark width (width - 1) line) before e exit r → Puts (cutLine mark width line) before e exit r
+  unfolding cutLine choose
+  ended-cut exit r h q = rw (goes-cut mark width line h) q
+
+  module _ (start count last : ℕ) (r : Put) (at : before .count ≡ start) (some : 1 ≤ length line) (low : put .count < 4294967295)
+      (cuts : Counted width (put .count - start) (eqb (put .last) mark) count last)
+      (counted : r .count ≡ min 4294967295 (put .count + (7 * count + 1))) (end : r .last ≡ 0x0a) where
+    behind : put .count ≡ start + length line
+    behind = omega (arith, p .count)
+
+    cut : cutRest mark width (width - 1) line ≡ withCuts mark (width - 6) count last line (0x0a ∷ [])
+    cut = cuts .cut mark line (omega (arith, behind)) (rw (p .last) (ends-last (before .last) mark line some))
+
+    rest-size : start + length (cutRest mark width (width - 1) line) ≡ put .count + 7 * count + 1
+    rest-size = rw cut (omega (arith, behind, cuts-length mark (width - 6) count last line (0x0a ∷ [])))
+
+    -- there is no room for its cuts
+    pub cut-none : length entry ≤ put .count + 7 * count → Puts (cutRest mark width (width - 1) line) before e entry r
+    cut-none h = record {
+      count = omega (arith, rest-size);
+      last = end ∙ sym (last-rest mark width (width - 1) (before .last) line);
+      room = p .room;
+      bytes = λ a b. absurd (omega (arith, rest-size, p .room));
+    }
+
+    -- it is cut once the end of its last part stands
+    line-cut : put .count + 7 * count < length entry → between start (put .count) entry ≡ line
+        → cutRoom mark (width - 6) start (put .count) count last (set entry (put .count + 7 * count) 0x0a) ≡ sets entry start (cutRest mark width (width - 1) line)
+    line-cut room there =
+        let n : ℕ = put .count in
+        let to : ℕ = n + 7 * count in
+        let a : take start (set entry to 0x0a) ≡ take start entry = take-set-le start entry to 0x0a (omega (arith, behind)) in
+        let b : between start n (set entry to 0x0a) ≡ line = between-same start n (set entry to 0x0a) entry (take-set-le n entry to 0x0a (omega arith)) ∙ there in
+        let d : drop to (set entry to 0x0a) ≡ (0x0a ∷ []) ++ drop (to + 1) entry = drop-run entry to (0x0a ∷ []) (omega arith) in
+        rw (a, b, d, cuts-append mark (width - 6) count last line (0x0a ∷ []) (drop (to + 1) entry), ← cut, sets-eq (cutRest mark width (width - 1) line) entry start (omega (arith, rest-size)), rest-size)
+        (sym (append-assoc (take start entry) (cutRest mark width (width - 1) line) (drop (to + 1) entry)))
+
+    pub cut-stands : (exit : List ℕ) → length exit ≡ length entry → put .count + 7 * count < length entry
+        → exit ≡ cutRoom mark (width - 6) start (put .count) count last (set entry (put .count + 7 * count) 0x0a)
+        → Puts (cutRest mark width (width - 1) line) before e exit r
+    cut-stands exit same room made = record {
+      count = omega (arith, rest-size);
+      last = end ∙ sym (last-rest mark width (width - 1) (before .last) line);
+      room = same ∙ p .room;
+      bytes = λ h f.
+          let rest : List ℕ = cutRest mark width (width - 1) line in
+          let stands : entry ≡ sets e start line = rw at at (p .bytes (omega (arith, rest-size, behind)) f) in
+          let size : put .count - start ≡ length line = omega (arith, behind) in
+          let there : between start (put .count) entry ≡ line =
+          rw (size, stands, drop-run e start line (omega (arith, rest-size, behind))) (take-at line (drop (start + length line) e) (length line) refl) in
+          made ∙ line-cut room there ∙ rw (at, stands) (sets-over line rest e start (omega (arith, rest-size, behind)) (omega arith));
+    }

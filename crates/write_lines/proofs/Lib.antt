@@ -1,4 +1,5 @@
 pub mod Cutting
 pub mod Ending
+pub mod Left
 pub mod Puts
 pub mod Runs

@@ -1,39 +1,59 @@
 -- Bytes put one after the other. Assumes nothing.
-use Prim.Native.Nat.{ℕ, _+_, _-_, _≤_}
+use Prim.Native.Nat.{ℕ, suc, _+_, _-_, _≤_, _<_, min}
 use native.Mathlib.Omega.{arith}
-use mathlib.Core.Path.{_≡_, refl, sym, ap, subst, _∙_}
-use mathlib.Core.List.{List, [], _++_, append-assoc, append-nil}
-use lib.ListN.{length, take, drop, length-append, length-drop, drop-of-length-le}
-use lib.Seq.{sets, sets-eq, length-sets, take-take, take-length, take-at, drop-drop}
+use mathlib.Core.Path.{_≡_, refl, sym, subst, _∙_}
+use mathlib.Core.List.{List, [], _∷_, _++_, append-assoc, append-nil}
+use lib.ListN.{length, take, drop, getD, length-append, length-drop, drop-of-length-le}
+use lib.Seq.{sets, sets-eq, length-sets, take-length, take-at, drop-drop}
 use Rattle.base.proofs.Fill.{to-end}
 use Rattle.write_lines.specs.declared.Put.{Put}
-use Rattle.write_lines.specs.declared.Put.the-variants.{At, Full}
-use Rattle.write_lines.specs.Puts.{Stand, Puts}
-use Rattle.write_lines.proofs.Runs.{take-sets, sets-sets}
+use Rattle.write_lines.specs.Puts.{lastIn, Puts}
+use Rattle.write_lines.proofs.Runs.{sets-sets}
 
--- the room keeps its length
-pub keeps-room : (xs : List ℕ) (n : ℕ) (e e′ : List ℕ) (k : ℕ) → Stand xs n e e′ k → length e′ ≡ length e
-keeps-room xs n e e′ k p = ap (λ (l : List ℕ). length l) (p .bytes) ∙ length-sets e n xs
+-- bytes named otherwise
+pub renamed : (xs ys : List ℕ) (p : Put) (e e′ : List ℕ) (r : Put) → xs ≡ ys → Puts xs p e e′ r → Puts ys p e e′ r
+renamed xs ys p e e′ r h q = subst (λ (bs : List ℕ). Puts bs p e e′ r) h q
 
 -- nothing is put
-pub nothing : (n : ℕ) (e : List ℕ) → n ≤ length e → Puts [] n e e (At n)
-nothing n e h = record { end = omega arith; within = h; bytes = refl }
+pub nothing : (p : Put) (e : List ℕ) → p .count ≤ 4294967295 → Puts [] p e e p
+unfolding lastIn
+nothing p e h = record { count = omega arith; last = refl; room = refl; bytes = λ a b. refl }
 
--- bytes behind bytes that stand
-pub then : (xs ys : List ℕ) (n k : ℕ) (e e′ e″ : List ℕ) (r : Put) → Puts xs n e e′ (At k) → Puts ys k e′ e″ r → Puts (xs ++ ys) n e e″ r
-then xs ys n k e e′ e″ (At j) p q = record {
-  end = rw length-append (omega (arith, p .end, q .end));
-  within = omega (arith, q .within, keeps-room xs n e e′ k p);
-  bytes = q .bytes ∙ rw (p .bytes, p .end) (sets-sets xs e n ys);
-}
-then xs ys n k e e′ e″ Full p q = record {
-  room = rw length-append (omega (arith, p .end, q .room, keeps-room xs n e e′ k p));
-  front = let h : n ≤ k = omega (arith, p .end) in sym (take-take n k e″ h) ∙ rw (q .front, take-take n k e′ h, p .bytes) (take-sets n e n xs (omega arith));
+pub last-append : (d : ℕ) (xs ys : List ℕ) → lastIn d (xs ++ ys) ≡ lastIn (lastIn d xs) ys
+unfolding lastIn
+last-append d [] ys = refl
+last-append d (x ∷ xs) ys = last-append x xs ys
+
+pub last-none : (d : ℕ) (l : List ℕ) → length l ≡ 0 → d ≡ lastIn d l
+unfolding lastIn
+last-none d [] h = refl
+last-none d (x ∷ l) h = absurd (omega arith)
+
+pub last-some : (d : ℕ) (l : List ℕ) → 0 < length l → getD l (length l - 1) 0 ≡ lastIn d l
+unfolding lastIn
+last-some d [] h = absurd (omega arith)
+last-some d (x ∷ []) h = refl
+last-some d (x ∷ (y ∷ l)) h = let z : length (x ∷ (y ∷ l)) - 1 ≡ suc (length (y ∷ l) - 1) = omega arith in rw z (last-some x (y ∷ l) (omega arith))
+
+-- bytes behind bytes
+pub then : (xs ys : List ℕ) (p q r : Put) (e e′ e″ : List ℕ) → Puts xs p e e′ q → Puts ys q e′ e″ r → Puts (xs ++ ys) p e e″ r
+then xs ys p q r e e′ e″ a b = record {
+  count = rw length-append (omega (arith, a .count, b .count));
+  last = b .last ∙ rw (a .last) (sym (last-append (p .last) xs ys));
+  room = b .room ∙ a .room;
+  bytes = λ h f.
+      let size = length-append xs ys in
+      let k : q .count ≡ p .count + length xs = omega (arith, a .count) in
+      b .bytes (omega (arith, a .room)) (omega (arith, a .room)) ∙ rw (a .bytes (omega arith) f, k) (sets-sets xs e (p .count) ys);
 }
 
--- where bytes have no room, more bytes have none
-pub full-then : (xs ys : List ℕ) (n : ℕ) (e e′ : List ℕ) → Puts xs n e e′ Full → Puts (xs ++ ys) n e e′ Full
-full-then xs ys n e e′ p = record { room = rw length-append (omega (arith, p .room)); front = p .front }
+-- bytes are put at once: they stand, or there is no room for all
+module _ (bs : List ℕ) (p r : Put) (e : List ℕ) (count : r .count ≡ min 4294967295 (p .count + length bs)) (last : r .last ≡ lastIn (p .last) bs) where
+  pub stand : (exit : List ℕ) → exit ≡ sets e (p .count) bs → Puts bs p e exit r
+  stand exit h = record { count = count; last = last; room = rw h (length-sets e (p .count) bs); bytes = λ a b. h }
+
+  pub full : length e < p .count + length bs → Puts bs p e e r
+  full h = record { count = count; last = last; room = refl; bytes = λ a b. absurd (omega arith) }
 
 -- a part copied into the room behind n, as a slice lent from n to its end comes back
 pub copied : (n : ℕ) (xs part : List ℕ) → n + length part ≤ length xs
@@ -41,21 +61,6 @@ pub copied : (n : ℕ) (xs part : List ℕ) → n + length part ≤ length xs
 copied n xs part h =
     rw (take-length part, to-end xs n, drop-of-length-le (drop n xs) {i = length xs - n} (omega (arith, length-drop n xs)), append-nil, drop-drop, sets-eq part xs n h)
     (sym (append-assoc (take n xs) part (drop (n + length part) xs)))
-
--- ## The answer of a call, once it is known
-
-module _ (xs : List ℕ) (n : ℕ) (e e′ : List ℕ) (r : Put) where
-  -- the place where bytes end lies within the room
-  pub ends-within : (k : ℕ) → r ≡ At k → Puts xs n e e′ r → k ≤ length e′
-  ends-within k h p =
-      let q : Stand xs n e e′ k = subst (Puts xs n e e′) h p in
-      omega (arith, q .within, keeps-room xs n e e′ k q)
-
-  pub goes-on : (k : ℕ) → r ≡ At k → Puts xs n e e′ r → (ys e″ : List ℕ) (s : Put) → Puts ys k e′ e″ s → Puts (xs ++ ys) n e e″ s
-  goes-on k h p ys e″ s q = then xs ys n k e e′ e″ s (subst (Puts xs n e e′) h p) q
-
-  pub stops : r ≡ Full → Puts xs n e e′ r → (ys : List ℕ) → Puts (xs ++ ys) n e e′ Full
-  stops h p ys = full-then xs ys n e e′ (subst (Puts xs n e e′) h p)
 
 -- ## Bytes put at the front of a room
 

@@ -74,14 +74,6 @@ between-drop start n l h =
     let e : start + (n - start) ≡ n = omega arith in
     rw (← e, ← drop-drop (n - start) start l, e) (take-append-drop (n - start) (drop start l))
 
--- what stands is set anew
-pub sets-stand : (start n : ℕ) (l : List ℕ) → start ≤ n → n ≤ length l → sets l start (between start n l) ≡ l
-sets-stand start n l h room =
-    let size = length-between start n l room in
-    let e : start + length (between start n l) ≡ n = omega arith in
-    sets-eq (between start n l) l start (omega arith)
-    ∙ rw (e, append-assoc (take start l) (between start n l) (drop n l), between-drop start n l h) (take-append-drop start l)
-
 -- two lists that agree before n agree between two places before it
 pub between-same : (start n : ℕ) (l k : List ℕ) → take n l ≡ take n k → between start n l ≡ between start n k
 between-same start n l k e = sym (drop-take start n l) ∙ rw e (drop-take start n k)

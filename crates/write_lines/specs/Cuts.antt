@@ -1,6 +1,7 @@
 -- A line's cuts by their count and places.
 use Prim.Native.Nat.{ℕ, zero, suc, _+_, _*_, _-_, _≤_, _<_}
 use mathlib.Core.Path.{_≡_}
+use mathlib.Core.Bool.{Bool}
 use mathlib.Core.List.{List, [], _∷_, _++_}
 use lib.ListN.{length, take, drop}
 use Rattle.meaning.specs.Bytes.{choose, ends, cont}
@@ -21,9 +22,11 @@ withCuts mark step (suc count) last l behind =
 unfoldable pub lastRoom : (mark room : ℕ) → List ℕ → ℕ
 lastRoom mark room l = choose (ends mark l) 0 room
 
--- the cuts of l where it does not go out whole: their count, and behind how many bytes the last lies
-pub record Counted (mark width : ℕ) (l : List ℕ) (count last : ℕ) : Type 0 where
-  pub cut : cutRest mark width (width - 1) l ≡ withCuts mark (width - 6) count last l (0x0a ∷ [])
+-- the cuts of a line of so many bytes that does not go out whole, by whether it ends in the mark: their count, and
+-- behind how many bytes the last lies
+pub record Counted (width size : ℕ) (ended : Bool) (count last : ℕ) : Type 0 where
+  pub cut : (mark : ℕ) (l : List ℕ) → length l ≡ size → ends mark l ≡ ended
+      → cutRest mark width (width - 1) l ≡ withCuts mark (width - 6) count last l (0x0a ∷ [])
   pub placed : last ≡ 5 + count * (width - 6)
   pub few : 10 * count ≤ last
-  pub near : last < length l + width
+  pub near : last < size + width

@@ -1,13 +1,15 @@
 // "A line is cut only where needed": the end of a line that stands in a lent room.
 ghost use mathlib.Core.Path.{_≡_};
-ghost use mathlib.Core.List.{_++_};
-ghost use Prim.Native.Nat.{_+_, _*_, _-_, _≤_, _<_, _^_, min};
+ghost use mathlib.Core.List.{List, _++_};
+ghost use Prim.Native.Nat.{ℕ, _+_, _*_, _-_, _≤_, _<_};
 ghost use lib.ListN.{length, take, drop};
 ghost use lib.Seq.{sets};
-ghost use Rattle.meaning.specs.Width.{cutRest, cutLine};
-ghost use Rattle.write_lines.specs.Cuts.{cutBytes, withCuts, lastRoom, Counted};
-ghost use Rattle.write_lines.specs.Puts.{Puts};
+ghost use Rattle.meaning.specs.Bytes.{choose};
+ghost use Rattle.meaning.specs.Width.{cutRest};
+ghost use Rattle.write_lines.specs.Cuts.{cutBytes, withCuts, Counted};
+ghost use Rattle.write_lines.specs.Puts.{Puts, Ends};
 use super::Put;
+use super::fields::count_on;
 use super::fields::put_byte;
 use base::numbers;
 
@@ -18,25 +20,22 @@ struct Cuts {
 }
 
 // What the last part of a line has room for: nothing where the line ends in the mark.
-fn last_room(line: &[u8], mark: u8, room: usize) -> usize
-    ensures { λ r. ⌜ r ≡ lastRoom mark room (now (line .entry)) ⌝ }
+fn last_room(ended: bool, room: usize) -> usize
+    ensures { λ r. ⌜ r ≡ choose ended 0 room ⌝ }
 {
-    if base::compare::ends_in(line, mark) {
-        0
-    } else {
-        room
-    }
+    if ended { 0 } else { room }
 }
 
-// The first cut lies behind width - 1 bytes, each other width - 6 bytes behind the one before it.
-fn count_cuts(line: &[u8], mark: u8, width: usize) -> Cuts
-    requires { ⌜ (16 ≤ width) × (width ≤ 65535) ⌝ }
-    ensures { λ r. ⌜ Counted mark width (now (line .entry)) (r .count) (r .last) ⌝ }
+// The cuts of a line of so many bytes, by whether it ends in the mark: the first lies behind width - 1 bytes, each
+// other width - 6 bytes behind the one before it.
+fn count_cuts(size: usize, ended: bool, width: usize) -> Cuts
+    requires { ⌜ (16 ≤ width) × (width ≤ 65535) × (size < 4294967295) ⌝ }
+    ensures { λ r. ⌜ Counted width size ended (r .count) (r .last) ⌝ }
 {
-    let room = last_room(line, mark, width - 5);
+    let room = last_room(ended, width - 5);
     let mut count = 1;
     let mut last = width - 1;
-    while last + room < line.len() {
+    while last + room < size {
         count += 1;
         last += width - 6;
     }
@@ -93,33 +92,45 @@ fn put_cuts(out: &mut [u8], start: usize, end: usize, mark: u8, width: usize, cu
     }
 }
 
-// Ends a line that does not go out whole.
-fn cut_line(out: &mut [u8], start: usize, n: usize, mark: u8, width: usize) -> Put
-    requires { ⌜ (start ≤ n) × (n ≤ length (now out)) × (16 ≤ width) × (width ≤ 65535) ⌝ }
-    ensures { λ r. ⌜
-        Puts (cutRest mark width (width - 1) (take (n - start) (drop start (now (out .entry))))) start
-        (now (out .entry)) (now (out .exit)) r ⌝ }
+// Ends a line that does not go out whole: where there is room for it, it is cut in its place.
+fn cut_line(out: &mut [u8], start: usize, put: Put, mark: u8, width: usize) -> Put
+    requires { ⌜ (start ≤ put .count) × (put .count < 4294967295) × (16 ≤ width) × (width ≤ 65535) ⌝ }
+    ensures { λ r. ⌜ ((line : List ℕ) (before : Put) (e : List ℕ) → before .count ≡ start → 1 ≤ length line
+        → Puts line before e (now (out .entry)) put
+        → Puts (cutRest mark width (width - 1) line) before e (now (out .exit)) r) ⌝ }
 {
-    let cuts = count_cuts(&out[start..n], mark, width);
-    let end = n + 7 * cuts.count;
-    if out.len() <= end {
-        return Put::Full;
+    let n = put.count;
+    let cuts = count_cuts(n - start, put.last == mark, width);
+    let more = 7 * cuts.count;
+    let all = Put {
+        count: count_on(n, more + 1),
+        last: b'\n',
+    };
+    if n + more < out.len() {
+        out[n + more] = b'\n';
+        put_cuts(out, start, n, mark, width, cuts);
     }
-    out[end] = b'\n';
-    put_cuts(out, start, n, mark, width, cuts);
-    Put::At(end + 1)
+    all
 }
 
-// Ends the line that stands in out from start to n: whole, or cut to the width.
-pub fn end_line(out: &mut [u8], start: usize, n: usize, mark: u8, width: usize) -> Put
-    requires { ⌜ (start ≤ n) × (n ≤ length (now out)) × (16 ≤ width) × (width ≤ 65535) ⌝ }
-    ensures { λ r. ⌜
-        Puts (cutLine mark width (take (n - start) (drop start (now (out .entry))))) start (now (out .entry))
-        (now (out .exit)) r ⌝ }
+// Ends the line that was put behind the first `start` bytes: whole, or cut to the width.
+pub fn end_line(out: &mut [u8], start: usize, put: Put, mark: u8, width: usize) -> Put
+    requires { ⌜ (16 ≤ width) × (width ≤ 65535) ⌝ }
+    ensures { λ r. ⌜ Ends mark width start put (now (out .entry)) (now (out .exit)) r ⌝ }
 {
-    if n - start <= last_room(&out[start..n], mark, width) {
-        put_byte(out, n, b'\n')
+    let n = put.count;
+    if 4294967295 <= n {
+        return Put {
+            count: 4294967295,
+            last: b'\n',
+        };
+    }
+    if n < start {
+        return put;
+    }
+    if n - start <= last_room(put.last == mark, width) {
+        put_byte(out, put, b'\n')
     } else {
-        cut_line(out, start, n, mark, width)
+        cut_line(out, start, put, mark, width)
     }
 }

@@ -1,47 +1,76 @@
-// Bytes, codes and fields put into a lent room from n on.
-ghost use mathlib.Core.List.{[], _∷_};
-ghost use Prim.Native.Nat.{_≤_};
-ghost use lib.ListN.{length};
-ghost use Rattle.write_lines.specs.Puts.{Puts};
+// Bytes, codes and fields put into a lent room.
+ghost use mathlib.Core.Path.{_≡_};
+ghost use mathlib.Core.List.{List, [], _∷_};
+ghost use Prim.Native.Nat.{ℕ, _+_, min};
+ghost use Rattle.write_lines.specs.Puts.{lastIn, Puts};
 use super::Put;
 
-pub fn put_byte(out: &mut [u8], n: usize, b: u8) -> Put
-    requires { ⌜ n ≤ length (now out) ⌝ }
-    ensures { λ r. ⌜ Puts (b ∷ []) n (now (out .entry)) (now (out .exit)) r ⌝ }
+// A count and so many more; 4,294,967,295 for itself and all above.
+pub(crate) fn count_on(count: usize, more: usize) -> usize
+    ensures { λ r. ⌜ r ≡ min 4294967295 (count + more) ⌝ }
 {
-    if n == out.len() {
-        return Put::Full;
+    if count < 4294967295 {
+        if more < 4294967295 - count {
+            return count + more;
+        }
     }
-    out[n] = b;
-    Put::At(n + 1)
+    4294967295
 }
 
-pub fn put_bytes(out: &mut [u8], n: usize, part: &[u8]) -> Put
-    requires { ⌜ n ≤ length (now out) ⌝ }
-    ensures { λ r. ⌜ Puts (now (part .entry)) n (now (out .entry)) (now (out .exit)) r ⌝ }
+// The last byte of a part, or the one before it.
+fn last_in(before: u8, part: &[u8]) -> u8
+    ensures { λ r. ⌜ r ≡ lastIn before (now (part .entry)) ⌝ }
 {
-    if out.len() - n < part.len() {
-        return Put::Full;
+    if part.len() == 0 {
+        return before;
     }
-    let size = bytes::copy(part, &mut out[n..]);
-    Put::At(n + size)
+    part[part.len() - 1]
 }
 
-// The code of a line.
-pub fn put_four(out: &mut [u8], n: usize, code: [u8; 4]) -> Put
-    requires { ⌜ n ≤ length (now out) ⌝ }
-    ensures { λ r. ⌜ Puts code n (now (out .entry)) (now (out .exit)) r ⌝ }
+// Nothing more is put.
+pub fn put_nothing(put: Put) -> Put
+    ensures { λ r. ⌜ ((room : List ℕ) → Puts [] put room room r) ⌝ }
 {
-    put_bytes(out, n, &code)
+    Put {
+        count: count_on(put.count, 0),
+        last: put.last,
+    }
+}
+
+pub fn put_byte(out: &mut [u8], put: Put, b: u8) -> Put
+    ensures { λ r. ⌜ Puts (b ∷ []) put (now (out .entry)) (now (out .exit)) r ⌝ }
+{
+    let n = put.count;
+    let all = Put {
+        count: count_on(n, 1),
+        last: b,
+    };
+    if n < out.len() {
+        out[n] = b;
+    }
+    all
+}
+
+pub fn put_bytes(out: &mut [u8], put: Put, part: &[u8]) -> Put
+    ensures { λ r. ⌜ Puts (now (part .entry)) put (now (out .entry)) (now (out .exit)) r ⌝ }
+{
+    let n = put.count;
+    let all = Put {
+        count: count_on(n, part.len()),
+        last: last_in(put.last, part),
+    };
+    if n <= out.len() {
+        if part.len() <= out.len() - n {
+            bytes::copy(part, &mut out[n..]);
+        }
+    }
+    all
 }
 
 // "One space between fields": a further field.
-pub fn put_field(out: &mut [u8], n: usize, field: &[u8]) -> Put
-    requires { ⌜ n ≤ length (now out) ⌝ }
-    ensures { λ r. ⌜ Puts (0x20 ∷ now (field .entry)) n (now (out .entry)) (now (out .exit)) r ⌝ }
+pub fn put_field(out: &mut [u8], put: Put, field: &[u8]) -> Put
+    ensures { λ r. ⌜ Puts (0x20 ∷ now (field .entry)) put (now (out .entry)) (now (out .exit)) r ⌝ }
 {
-    match put_byte(out, n, b' ') {
-        Put::At(at) => put_bytes(out, at, field),
-        Put::Full => Put::Full,
-    }
+    let gap = put_byte(out, put, b' ');
+    put_bytes(out, gap, field)
 }

@@ -3,8 +3,9 @@ pub mod cuts;
 pub mod fields;
 pub mod values;
 
-// Where the bytes end, or there is no room for them.
-pub enum Put {
-    At(usize),
-    Full,
+// How many bytes are put, and the last of them. The count goes on where the room is full; 4,294,967,295 stands for
+// itself and all above.
+pub struct Put {
+    pub count: usize,
+    pub last: u8,
 }

@@ -1,14 +1,14 @@
 -- The lines of line attributes: their points, and ELIN. Assumes nothing.
 use Prim.Native.Nat.{ℕ, zero, suc, _+_, _*_, _-_, _/_, _≤_, _<_, min}
 use native.Mathlib.Omega.{arith}
-use mathlib.Core.Path.{_≡_, refl, sym}
+use mathlib.Core.Path.{_≡_, refl, sym, ap}
 use mathlib.Core.Bool.{Bool, true, false}
 use mathlib.Core.List.{List, [], _∷_, _++_, append-nil}
 use mathlib.Core.Logic.{inr}
 use borrow.Author.Tests.{leb-true, leb-false, ne-eqb}
-use lib.Dec.{leb}
+use lib.Dec.{leb, eqb}
 use lib.IntN.{ℤ, pos, natAbs}
-use lib.ListN.{length, drop, getD, drop-of-length-le}
+use lib.ListN.{length, drop, getD, length-append, drop-of-length-le}
 use lib.Seq.{drop-drop}
 use Rattle.meaning.specs.Bytes.{choose}
 use Rattle.meaning.specs.Model.{Component, Coordinate}
@@ -48,6 +48,19 @@ pointLine ks at points = pointCode (getD (drop at points) 0 (pos 0)) ∷ pointFi
 pub point-bytes : (code : List ℕ) (fields : List (List ℕ)) → lineBytes (code ∷ fields) ≡ code ++ spaced fields
 unfolding lineBytes
 point-bytes code fields = refl
+
+code-size : (kind : ℤ) → length (pointCode kind) ≡ 4
+unfolding pointCode choose
+code-size kind = go (eqb (natAbs kind) 0) (eqb (natAbs kind) 1)
+  where
+    go : (x y : Bool) → length (choose x STPT (choose y LIPT ARCP)) ≡ 4
+    go true y = refl
+    go false true = refl
+    go false false = refl
+
+-- a point's line has its code at least
+pub point-some : (kind : ℤ) (fields : List (List ℕ)) → 1 ≤ length (lineBytes (pointCode kind ∷ fields))
+point-some kind fields = omega (arith, ap length (point-bytes (pointCode kind) fields), length-append (pointCode kind) (spaced fields), code-size kind)
 
 -- ## So many points
 

@@ -1,4 +1,3 @@
-pub mod Left
 pub mod Joined
 pub mod Typed
 pub mod Components

@@ -22,9 +22,8 @@ use Rattle.model_records.proofs.Types.{parts-room}
 use Rattle.model_records.specs.Counts.{Counted}
 use Rattle.model_records.proofs.Counting.{pairs-more, pairs-few}
 use Rattle.write_lines.specs.declared.Put.{Put}
-use Rattle.write_lines.specs.declared.Put.the-variants.{At, Full}
 use Rattle.write_lines.specs.Puts.{Puts}
-use Rattle.write_objects.proofs.Left.{Left, left-start, left-end, left-on, left-stop}
+use Rattle.write_lines.proofs.Left.{Left, left-start, left-end, left-on}
 use Rattle.write_objects.proofs.Joined.{spaced-append, cut-lines-append, fields-append, attributes-append, attribute-lines-append}
 
 -- ## What is put for pairs, the first of which is at a cell
@@ -93,24 +92,24 @@ abbrev pub pairsHere : (b : List ℕ) (at : ℕ) → List Pair
 pairsHere b at = pairsOfType (attributeOf at (payloadAt b at) .optional) (attributeOf at (payloadAt b at) .type)
 
 -- the pairs from the record at this byte on are left, the first of which is at this cell
-pub record Walking (m : Model) (b : List ℕ) (meant : (cell : ℕ) → List Pair → List ℕ) (most : ℕ) (whole : List ℕ) (n₀ : ℕ) (out₀ : List ℕ) (at cell n : ℕ) (out : List ℕ) : Type 0 where
+pub record Walking (m : Model) (b : List ℕ) (meant : (cell : ℕ) → List Pair → List ℕ) (most : ℕ) (whole : List ℕ) (p₀ : Put) (out₀ : List ℕ) (at cell : ℕ) (p : Put) (out : List ℕ) : Type 0 where
   pub topics : ℕ
   pub tables : ℕ
   pub standing : Standing m b at topics tables
   pub few : cell ≤ most + at
-  pub left : Left whole n₀ out₀ (meant cell (pairsAt b at)) n out
+  pub left : Left whole p₀ out₀ (meant cell (pairsAt b at)) p out
 
-pub walk-start : (m : Model) (b : List ℕ) (meant : (cell : ℕ) → List Pair → List ℕ) (most : ℕ) (whole : List ℕ) (first cell n : ℕ) (out : List ℕ)
-    → AttributesHere m b first → cell ≤ most + first → meant cell (pairsAt b first) ≡ whole → n ≤ length out → Walking m b meant most whole n out first cell n out
-walk-start m b meant most whole first cell n out h few same within = record {
+pub walk-start : (m : Model) (b : List ℕ) (meant : (cell : ℕ) → List Pair → List ℕ) (most : ℕ) (whole : List ℕ) (first cell : ℕ) (q p : Put) (out : List ℕ)
+    → AttributesHere m b first → cell ≤ most + first → meant cell (pairsAt b first) ≡ whole → Puts [] q out out p → Walking m b meant most whole p out first cell p out
+walk-start m b meant most whole first cell q p out h few same none = record {
   topics = h .topics;
   tables = h .tables;
   standing = h .standing;
   few = few;
-  left = left-start whole (meant cell (pairsAt b first)) n out same within;
+  left = left-start whole (meant cell (pairsAt b first)) q p out same none;
 }
 
-module _ {m : Model} {b : List ℕ} {meant : (cell : ℕ) → List Pair → List ℕ} {most : ℕ} {whole : List ℕ} {n₀ : ℕ} {out₀ : List ℕ} {at cell n : ℕ} {out : List ℕ} (i : Walking m b meant most whole n₀ out₀ at cell n out) where
+module _ {m : Model} {b : List ℕ} {meant : (cell : ℕ) → List Pair → List ℕ} {most : ℕ} {whole : List ℕ} {p₀ : Put} {out₀ : List ℕ} {at cell : ℕ} {p : Put} {out : List ℕ} (i : Walking m b meant most whole p₀ out₀ at cell p out) where
   pub walk-room : at + 4 ≤ length b
   walk-room = here m b at (i .topics) (i .tables) (i .standing) .room
 
@@ -118,9 +117,9 @@ module _ {m : Model} {b : List ℕ} {meant : (cell : ℕ) → List Pair → List
   walk-less = (omega arith, here m b at (i .topics) (i .tables) (i .standing) .fits)
 
   -- no attribute record more
-  pub walk-end : (kindAt b at ≡ 5 → ⊥) → meant cell [] ≡ [] → Puts whole n₀ out₀ out (At n)
+  pub walk-end : (q : Put) → (kindAt b at ≡ 5 → ⊥) → meant cell [] ≡ [] → Puts [] q out₀ out₀ p₀ → Puts whole q out₀ out p
   unfolding pairsOf
-  walk-end d e = left-end (i .left) (ap (λ (l : List Attribute). meant cell (pairsOf l)) (no-attribute m b at (i .topics) (i .tables) (i .standing) d) ∙ e)
+  walk-end q d e none = left-end (i .left) q (ap (λ (l : List Attribute). meant cell (pairsOf l)) (no-attribute m b at (i .topics) (i .tables) (i .standing) d) ∙ e) none
 
   module _ (e : kindAt b at ≡ 5) where
     attribute : AttributeNext m b at (i .topics) (i .tables)
@@ -136,28 +135,23 @@ module _ {m : Model} {b : List ℕ} {meant : (cell : ℕ) → List Pair → List
     unfolding pairsOf
     split = ap pairsOf (attribute .attributes)
 
-    module _ (f p : ℕ) (c : Counted (byteAt b (at + 5)) f p) where
-      pub walk-count : p ≤ 3
+    module _ (f k : ℕ) (c : Counted (byteAt b (at + 5)) f k) where
+      pub walk-count : k ≤ 3
       walk-count = omega (arith, c .pairs, pairs-few (byteAt b (at + 5)))
 
-      counted : length (pairsHere b at) ≡ p
-      counted = omega (arith, pairs-more m b at (i .topics) (i .tables) attribute f p c, ap length split, length-append (pairsHere b at) (pairsAt b (nextAt b at)))
+      counted : length (pairsHere b at) ≡ k
+      counted = omega (arith, pairs-more m b at (i .topics) (i .tables) attribute f k c, ap length split, length-append (pairsHere b at) (pairsAt b (nextAt b at)))
 
       module _ (appends : (cell : ℕ) (ps qs : List Pair) → meant cell (ps ++ qs) ≡ meant cell ps ++ meant (cell + 2 * length ps) qs) where
-        turn : meant cell (pairsAt b at) ≡ meant cell (pairsHere b at) ++ meant (cell + 2 * p) (pairsAt b (nextAt b at))
-        turn = ap (meant cell) split ∙ appends cell (pairsHere b at) (pairsAt b (nextAt b at)) ∙ ap (λ (k : ℕ). meant cell (pairsHere b at) ++ meant (cell + 2 * k) (pairsAt b (nextAt b at))) counted
+        turn : meant cell (pairsAt b at) ≡ meant cell (pairsHere b at) ++ meant (cell + 2 * k) (pairsAt b (nextAt b at))
+        turn = ap (meant cell) split ∙ appends cell (pairsHere b at) (pairsAt b (nextAt b at)) ∙ ap (λ (x : ℕ). meant cell (pairsHere b at) ++ meant (cell + 2 * x) (pairsAt b (nextAt b at))) counted
 
-        module _ (out′ : List ℕ) (r : Put) (put : Puts (meant cell (pairsHere b at)) n out out′ r) where
-          -- an attribute's pairs are put
-          pub walk-on : (k : ℕ) → r ≡ At k → Walking m b meant most whole n₀ out₀ (nextAt b at) (cell + 2 * p) k out′
-          walk-on k h = record {
-            topics = i .topics;
-            tables = i .tables;
-            standing = attribute .next;
-            few = omega (arith, i .few, walk-parts .0, walk-count);
-            left = left-on (i .left) (meant cell (pairsHere b at)) (meant (cell + 2 * p) (pairsAt b (nextAt b at))) turn out′ r put k h;
-          }
-
-          -- there is no room for them
-          pub walk-stop : r ≡ Full → Puts whole n₀ out₀ out′ Full
-          walk-stop h = left-stop (i .left) (meant cell (pairsHere b at)) (meant (cell + 2 * p) (pairsAt b (nextAt b at))) turn out′ r put h
+        -- an attribute's pairs are put
+        pub walk-on : (out′ : List ℕ) (r : Put) → Puts (meant cell (pairsHere b at)) p out out′ r → Walking m b meant most whole p₀ out₀ (nextAt b at) (cell + 2 * k) r out′
+        walk-on out′ r put = record {
+          topics = i .topics;
+          tables = i .tables;
+          standing = attribute .next;
+          few = omega (arith, i .few, walk-parts .0, walk-count);
+          left = left-on (i .left) (meant cell (pairsHere b at)) (meant (cell + 2 * k) (pairsAt b (nextAt b at))) turn out′ r put;
+        }

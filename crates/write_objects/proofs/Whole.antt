@@ -1,9 +1,10 @@
 -- The lines of an object: its own, and those of its line attributes. Assumes nothing.
-use Prim.Native.Nat.{ℕ, _+_}
+use Prim.Native.Nat.{ℕ, _+_, _≤_}
+use native.Mathlib.Omega.{arith}
 use mathlib.Core.Path.{_≡_, refl}
 use mathlib.Core.List.{List, [], _∷_, _++_}
 use lib.IntN.{ℤ, pos}
-use lib.ListN.{drop, getD}
+use lib.ListN.{length, drop, getD}
 use Rattle.meaning.specs.Model.{Model, AttributeType, Reference, Coordinate, Number, Text, Date, Enumeration, Line}
 use Rattle.meaning.specs.Field.{OBJE}
 use Rattle.meaning.specs.Row.{Pair, OfAttribute, OfComponent, OfLine}
@@ -51,3 +52,8 @@ module _ (text : List ℕ) (c : Content) where
 pub object-bytes : (identification : List ℕ) (fields : List (List ℕ)) → lineBytes (OBJE ∷ identification ∷ fields) ≡ (OBJE ++ 0x20 ∷ []) ++ (identification ++ spaced fields)
 unfolding lineBytes spaced
 object-bytes identification fields = refl
+
+-- it has its code at least
+pub object-some : (identification : List ℕ) (fields : List (List ℕ)) → 1 ≤ length (lineBytes (OBJE ∷ identification ∷ fields))
+unfolding lineBytes
+object-some identification fields = omega arith

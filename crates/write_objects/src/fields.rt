@@ -1,10 +1,10 @@
-// The fields of an object's line, put into a lent room from n on. A cell or a row outside its list is 0, a stretch
+// The fields of an object's line, put into a lent room. A cell or a row outside its list is 0, a stretch
 // outside the text is cut.
 ghost use mathlib.Core.Path.{_≡_};
 ghost use mathlib.Core.List.{[], _∷_};
 ghost use Prim.Native.Nat.{_+_, _-_, _≤_, _<_, _^_};
 ghost use lib.IntN.{pos, natAbs};
-ghost use lib.ListN.{length, drop, getD};
+ghost use lib.ListN.{drop, getD};
 ghost use Rattle.meaning.specs.Digits.{numberBytes};
 ghost use Rattle.meaning.specs.Row.{pairsOfType};
 ghost use Rattle.meaning.specs.Writing.{stretchBytes, identificationBytes, typeBytes, fieldBytes, pairFields, spaced};
@@ -20,6 +20,7 @@ use write_lines::Put;
 use write_lines::fields::put_byte;
 use write_lines::fields::put_bytes;
 use write_lines::fields::put_field;
+use write_lines::fields::put_nothing;
 use write_lines::values;
 
 // The cell so many cells behind another.
@@ -53,17 +54,16 @@ fn row_of(rows: &[u64], o: usize) -> usize
 }
 
 // A stretch of the text, none where it begins before the text.
-fn put_stretch(text: &[u8], start: i64, size: usize, out: &mut [u8], n: usize) -> Put
-    requires { ⌜ n ≤ length (now out) ⌝ }
-    ensures { λ r. ⌜ Puts (stretchBytes (now (text .entry)) start size) n (now (out .entry)) (now (out .exit)) r ⌝ }
+fn put_stretch(text: &[u8], start: i64, size: usize, out: &mut [u8], put: Put) -> Put
+    ensures { λ r. ⌜ Puts (stretchBytes (now (text .entry)) start size) put (now (out .entry)) (now (out .exit)) r ⌝ }
 {
     if start < 0 {
-        return Put::At(n);
+        return put_nothing(put);
     }
     let part = cut_stretch(text.len(), magnitude(start) as usize, size);
     let from = part.start;
     let end = from + part.len;
-    put_bytes(out, n, &text[from..end])
+    put_bytes(out, put, &text[from..end])
 }
 
 // The identification of the object whose row begins at this cell.
@@ -72,39 +72,36 @@ pub(crate) fn put_identification(
     cells: &[i64],
     row: usize,
     out: &mut [u8],
-    n: usize,
+    put: Put,
 ) -> Put
-    requires { ⌜ n ≤ length (now out) ⌝ }
     ensures { λ r. ⌜ (let bytes = identificationBytes (now (text .entry)) (now (cells .entry)) row in
-        Puts bytes n (now (out .entry)) (now (out .exit)) r) ⌝ }
+        Puts bytes put (now (out .entry)) (now (out .exit)) r) ⌝ }
 {
     let start = cell_behind(cells, row, 1);
     let size = size_behind(cells, row, 2);
-    put_stretch(text, start, size, out, n)
+    put_stretch(text, start, size, out, put)
 }
 
 // The identification of the object that a reference names.
-fn put_reference(text: &[u8], rows: &[u64], cells: &[i64], b: i64, out: &mut [u8], n: usize) -> Put
-    requires { ⌜ n ≤ length (now out) ⌝ }
+fn put_reference(text: &[u8], rows: &[u64], cells: &[i64], b: i64, out: &mut [u8], put: Put) -> Put
     ensures { λ r. ⌜ (let row = getD (now (rows .entry)) (natAbs b) 0 in
         let bytes = identificationBytes (now (text .entry)) (now (cells .entry)) row in
-        Puts bytes n (now (out .entry)) (now (out .exit)) r) ⌝ }
+        Puts bytes put (now (out .entry)) (now (out .exit)) r) ⌝ }
 {
     let row = row_of(rows, magnitude(b) as usize);
-    put_identification(text, cells, row, out, n)
+    put_identification(text, cells, row, out, put)
 }
 
 // "Text: 1 plus its length, its start"
-fn put_text(text: &[u8], a: i64, b: i64, out: &mut [u8], n: usize) -> Put
-    requires { ⌜ n ≤ length (now out) ⌝ }
+fn put_text(text: &[u8], a: i64, b: i64, out: &mut [u8], put: Put) -> Put
     ensures { λ r. ⌜ (let bytes = stretchBytes (now (text .entry)) b (natAbs a - 1) in
-        Puts bytes n (now (out .entry)) (now (out .exit)) r) ⌝ }
+        Puts bytes put (now (out .entry)) (now (out .exit)) r) ⌝ }
 {
     let size = magnitude(a) as usize;
     if size < 2 {
-        put_stretch(text, b, 0, out, n)
+        put_stretch(text, b, 0, out, put)
     } else {
-        put_stretch(text, b, size - 1, out, n)
+        put_stretch(text, b, size - 1, out, put)
     }
 }
 
@@ -117,46 +114,42 @@ fn put_value(
     a: i64,
     b: i64,
     out: &mut [u8],
-    n: usize,
+    put: Put,
 ) -> Put
     requires { ⌜ GoodAttribute attribute ⌝ }
-    requires { ⌜ n ≤ length (now out) ⌝ }
     ensures { λ r. ⌜ (let c = lentOf (now (rows .entry)) (now (cells .entry)) [] in
         let bytes = typeBytes (now (text .entry)) c (typeOf attribute) a b in
-        Puts bytes n (now (out .entry)) (now (out .exit)) r) ⌝ }
+        Puts bytes put (now (out .entry)) (now (out .exit)) r) ⌝ }
 {
     let kind = attribute.kind;
     let components = attribute.components;
     let items = components.items;
     let first = items[0];
     match kind {
-        1 => put_reference(text, rows, cells, b, out, n),
-        4 => values::put_number(out, n, first.decimals, b),
-        5 => put_text(text, a, b, out, n),
-        6 => values::put_date(out, n, b),
-        7 => values::put_leaf(out, n, b),
-        _ => Put::At(n),
+        1 => put_reference(text, rows, cells, b, out, put),
+        4 => values::put_number(out, put, first.decimals, b),
+        5 => put_text(text, a, b, out, put),
+        6 => values::put_date(out, put, b),
+        7 => values::put_leaf(out, put, b),
+        _ => put_nothing(put),
     }
 }
 
 // "the single undefined byte in every undefined field"
-fn put_undefined(undefined: u8, out: &mut [u8], n: usize) -> Put
-    requires { ⌜ n ≤ length (now out) ⌝ }
-    ensures { λ r. ⌜ Puts (0x20 ∷ undefined ∷ []) n (now (out .entry)) (now (out .exit)) r ⌝ }
+fn put_undefined(undefined: u8, out: &mut [u8], put: Put) -> Put
+    ensures { λ r. ⌜ Puts (0x20 ∷ undefined ∷ []) put (now (out .entry)) (now (out .exit)) r ⌝ }
 {
     let field = [undefined];
-    put_field(out, n, &field)
+    put_field(out, put, &field)
 }
 
 // A number behind a space.
-pub(crate) fn put_number_field(decimals: u8, v: i64, out: &mut [u8], n: usize) -> Put
-    requires { ⌜ (n ≤ length (now out)) × (decimals ≤ 9) ⌝ }
-    ensures { λ r. ⌜ Puts (0x20 ∷ numberBytes decimals v) n (now (out .entry)) (now (out .exit)) r ⌝ }
+pub(crate) fn put_number_field(decimals: u8, v: i64, out: &mut [u8], put: Put) -> Put
+    requires { ⌜ decimals ≤ 9 ⌝ }
+    ensures { λ r. ⌜ Puts (0x20 ∷ numberBytes decimals v) put (now (out .entry)) (now (out .exit)) r ⌝ }
 {
-    match put_byte(out, n, b' ') {
-        Put::At(at) => values::put_number(out, at, decimals, v),
-        Put::Full => Put::Full,
-    }
+    let gap = put_byte(out, put, b' ');
+    values::put_number(out, gap, decimals, v)
 }
 
 // A value behind a space.
@@ -168,18 +161,15 @@ fn put_value_field(
     a: i64,
     b: i64,
     out: &mut [u8],
-    n: usize,
+    put: Put,
 ) -> Put
     requires { ⌜ GoodAttribute attribute ⌝ }
-    requires { ⌜ n ≤ length (now out) ⌝ }
     ensures { λ r. ⌜ (let c = lentOf (now (rows .entry)) (now (cells .entry)) [] in
         let bytes = typeBytes (now (text .entry)) c (typeOf attribute) a b in
-        Puts (0x20 ∷ bytes) n (now (out .entry)) (now (out .exit)) r) ⌝ }
+        Puts (0x20 ∷ bytes) put (now (out .entry)) (now (out .exit)) r) ⌝ }
 {
-    match put_byte(out, n, b' ') {
-        Put::At(at) => put_value(text, rows, cells, attribute, a, b, out, at),
-        Put::Full => Put::Full,
-    }
+    let gap = put_byte(out, put, b' ');
+    put_value(text, rows, cells, attribute, a, b, out, gap)
 }
 
 // The field of a pair, behind a space.
@@ -191,22 +181,21 @@ fn put_pair(
     attribute: Attribute,
     cell: usize,
     out: &mut [u8],
-    n: usize,
+    put: Put,
 ) -> Put
     requires { ⌜ GoodAttribute attribute ⌝ }
-    requires { ⌜ n ≤ length (now out) ⌝ }
     ensures { λ r. ⌜ (let a = getD (drop cell (now (cells .entry))) 0 (pos 0) in
         let b = getD (drop cell (now (cells .entry))) 1 (pos 0) in
         let c = lentOf (now (rows .entry)) (now (cells .entry)) [] in
         let field = fieldBytes undefined a (typeBytes (now (text .entry)) c (typeOf attribute) a b) in
-        Puts (0x20 ∷ field) n (now (out .entry)) (now (out .exit)) r) ⌝ }
+        Puts (0x20 ∷ field) put (now (out .entry)) (now (out .exit)) r) ⌝ }
 {
     let a = cell_behind(cells, cell, 0);
     if magnitude(a) == 0 {
-        return put_undefined(undefined, out, n);
+        return put_undefined(undefined, out, put);
     }
     let b = cell_behind(cells, cell, 1);
-    put_value_field(text, rows, cells, attribute, a, b, out, n)
+    put_value_field(text, rows, cells, attribute, a, b, out, put)
 }
 
 // The field of a coordinate's component, behind a space.
@@ -216,19 +205,19 @@ fn put_component(
     decimals: u8,
     cell: usize,
     out: &mut [u8],
-    n: usize,
+    put: Put,
 ) -> Put
-    requires { ⌜ (n ≤ length (now out)) × (decimals ≤ 9) ⌝ }
+    requires { ⌜ decimals ≤ 9 ⌝ }
     ensures { λ r. ⌜ (let a = getD (drop cell (now (cells .entry))) 0 (pos 0) in
         let b = getD (drop cell (now (cells .entry))) 1 (pos 0) in
         let field = fieldBytes undefined a (numberBytes decimals b) in
-        Puts (0x20 ∷ field) n (now (out .entry)) (now (out .exit)) r) ⌝ }
+        Puts (0x20 ∷ field) put (now (out .entry)) (now (out .exit)) r) ⌝ }
 {
     if size_behind(cells, cell, 0) == 0 {
-        return put_undefined(undefined, out, n);
+        return put_undefined(undefined, out, put);
     }
     let b = cell_behind(cells, cell, 1);
-    put_number_field(decimals, b, out, n)
+    put_number_field(decimals, b, out, put)
 }
 
 // The fields of a coordinate.
@@ -238,31 +227,24 @@ fn put_components(
     components: Components,
     cell: usize,
     out: &mut [u8],
-    n: usize,
+    put: Put,
 ) -> Put
     requires { ⌜ GoodComponents components ⌝ }
-    requires { ⌜ (n ≤ length (now out)) × (cell + 6 < 2 ^ 64) ⌝ }
+    requires { ⌜ cell + 6 < 2 ^ 64 ⌝ }
     ensures { λ r. ⌜ (let cs = drop cell (now (cells .entry)) in
         let fields = componentFields undefined (componentsOf components) cs in
-        Puts (spaced fields) n (now (out .entry)) (now (out .exit)) r) ⌝ }
+        Puts (spaced fields) put (now (out .entry)) (now (out .exit)) r) ⌝ }
 {
     let count = components.count;
     let items = components.items;
     let mut i = 0;
-    let mut at = n;
+    let mut all = put_nothing(put);
     while i < count {
         let component = items[i];
-        match put_component(cells, undefined, component.decimals, cell + 2 * i, out, at) {
-            Put::At(end) => {
-                at = end;
-            }
-            Put::Full => {
-                return Put::Full;
-            }
-        }
+        all = put_component(cells, undefined, component.decimals, cell + 2 * i, out, all);
         i += 1;
     }
-    Put::At(at)
+    all
 }
 
 // The fields of an attribute's pairs, the first of which is at this cell.
@@ -274,22 +256,22 @@ pub(crate) fn put_attribute(
     attribute: Attribute,
     cell: usize,
     out: &mut [u8],
-    n: usize,
+    put: Put,
 ) -> Put
     requires { ⌜ GoodAttribute attribute ⌝ }
-    requires { ⌜ (n ≤ length (now out)) × (cell + 6 < 2 ^ 64) ⌝ }
+    requires { ⌜ cell + 6 < 2 ^ 64 ⌝ }
     ensures { λ r. ⌜ (let c = lentOf (now (rows .entry)) (now (cells .entry)) [] in
         let pairs = pairsOfType (attribute .optional) (typeOf attribute) in
         let fields = pairFields undefined (now (text .entry)) c pairs (drop cell (now (cells .entry))) in
-        Puts (spaced fields) n (now (out .entry)) (now (out .exit)) r) ⌝ }
+        Puts (spaced fields) put (now (out .entry)) (now (out .exit)) r) ⌝ }
 {
     let kind = attribute.kind;
     match kind {
         2 | 3 => {
             let components = attribute.components;
-            put_components(cells, undefined, components, cell, out, n)
+            put_components(cells, undefined, components, cell, out, put)
         }
-        8 => Put::At(n),
-        _ => put_pair(text, rows, cells, undefined, attribute, cell, out, n),
+        8 => put_nothing(put),
+        _ => put_pair(text, rows, cells, undefined, attribute, cell, out, put),
     }
 }

@@ -1,4 +1,4 @@
-// The lines of an object, put into a lent room from n on, each cut to the width.
+// The lines of an object, put into a lent room, each cut to the width.
 ghost use mathlib.Core.Path.{_≡_};
 ghost use mathlib.Core.List.{List, [], _∷_, _++_};
 ghost use Prim.Native.Nat.{ℕ, _+_, _*_, _-_, _/_, _≤_, _<_, _^_, min};
@@ -25,6 +25,7 @@ use model_records::counts::count_of;
 use write_lines::Put;
 use write_lines::cuts::end_line;
 use write_lines::fields::put_bytes;
+use write_lines::fields::put_nothing;
 
 // The fields of the pairs, from this cell on, of the attribute whose record is at a byte.
 fn put_attribute_at(
@@ -36,18 +37,18 @@ fn put_attribute_at(
     at: usize,
     cell: usize,
     out: &mut [u8],
-    n: usize,
+    put: Put,
 ) -> Put
     requires { ⌜ AttributeHere (now model) at ⌝ }
-    requires { ⌜ (n ≤ length (now out)) × (cell + 6 < 2 ^ 64) ⌝ }
+    requires { ⌜ cell + 6 < 2 ^ 64 ⌝ }
     ensures { λ r. ⌜ (let attribute = attributeOf at (payloadAt (now (model .entry)) at) in
         let pairs = pairsOfType (attribute .optional) (attribute .type) in
         let c = lentOf (now (rows .entry)) (now (cells .entry)) [] in
         let fields = pairFields undefined (now (text .entry)) c pairs (drop cell (now (cells .entry))) in
-        Puts (spaced fields) n (now (out .entry)) (now (out .exit)) r) ⌝ }
+        Puts (spaced fields) put (now (out .entry)) (now (out .exit)) r) ⌝ }
 {
     let attribute = model_records::attribute_at(model, at);
-    fields::put_attribute(text, rows, cells, undefined, attribute, cell, out, n)
+    fields::put_attribute(text, rows, cells, undefined, attribute, cell, out, put)
 }
 
 // The fields of a row's pairs; the attribute records of its table begin at the byte `first`.
@@ -60,32 +61,23 @@ fn put_pairs(
     cells: &[i64],
     row: usize,
     out: &mut [u8],
-    n: usize,
+    put: Put,
 ) -> Put
     requires { ⌜ AttributesHere (modelAt (now model)) (now model) first ⌝ }
-    requires { ⌜ n ≤ length (now out) ⌝ }
     ensures { λ r. ⌜ (let c = lentOf (now (rows .entry)) (now (cells .entry)) [] in
         let pairs = pairsAt (now (model .entry)) first in
         let fields = pairFields undefined (now (text .entry)) c pairs (drop (row + 3) (now (cells .entry))) in
-        Puts (spaced fields) n (now (out .entry)) (now (out .exit)) r) ⌝ }
+        Puts (spaced fields) put (now (out .entry)) (now (out .exit)) r) ⌝ }
 {
     let mut at = first;
     let mut cell = least_of(row, cells.len()) + 3;
-    let mut end = n;
+    let mut all = put_nothing(put);
     loop {
         let kind = model_records::kind_at(model, at);
         if kind != ATTRIBUTE {
-            return Put::At(end);
+            return all;
         }
-        let put = put_attribute_at(model, text, undefined, rows, cells, at, cell, out, end);
-        match put {
-            Put::At(k) => {
-                end = k;
-            }
-            Put::Full => {
-                return Put::Full;
-            }
-        }
+        all = put_attribute_at(model, text, undefined, rows, cells, at, cell, out, all);
         cell += 2 * count_of(model[at + 5]).pairs;
         at = model_records::next_at(model, at);
     }
@@ -101,23 +93,18 @@ fn put_object_bytes(
     cells: &[i64],
     row: usize,
     out: &mut [u8],
-    n: usize,
+    put: Put,
 ) -> Put
     requires { ⌜ AttributesHere (modelAt (now model)) (now model) first ⌝ }
-    requires { ⌜ n ≤ length (now out) ⌝ }
     ensures { λ r. ⌜ (let c = lentOf (now (rows .entry)) (now (cells .entry)) [] in
         let pairs = pairsAt (now (model .entry)) first in
         let fields = pairFields undefined (now (text .entry)) c pairs (drop (row + 3) (now (cells .entry))) in
         let id = identificationBytes (now (text .entry)) (now (cells .entry)) row in
-        Puts (lineBytes (OBJE ∷ id ∷ fields)) n (now (out .entry)) (now (out .exit)) r) ⌝ }
+        Puts (lineBytes (OBJE ∷ id ∷ fields)) put (now (out .entry)) (now (out .exit)) r) ⌝ }
 {
-    match put_bytes(out, n, b"OBJE ") {
-        Put::At(k) => match fields::put_identification(text, cells, row, out, k) {
-            Put::At(e) => put_pairs(model, first, text, undefined, rows, cells, row, out, e),
-            Put::Full => Put::Full,
-        },
-        Put::Full => Put::Full,
-    }
+    let code = put_bytes(out, put, b"OBJE ");
+    let id = fields::put_identification(text, cells, row, out, code);
+    put_pairs(model, first, text, undefined, rows, cells, row, out, id)
 }
 
 // The line of an object.
@@ -132,35 +119,32 @@ fn put_object_line(
     cells: &[i64],
     row: usize,
     out: &mut [u8],
-    n: usize,
+    put: Put,
 ) -> Put
     requires { ⌜ AttributesHere (modelAt (now model)) (now model) first ⌝ }
-    requires { ⌜ (n ≤ length (now out)) × (16 ≤ width) × (width ≤ 65535) ⌝ }
+    requires { ⌜ (16 ≤ width) × (width ≤ 65535) ⌝ }
     ensures { λ r. ⌜ (let c = lentOf (now (rows .entry)) (now (cells .entry)) [] in
         let pairs = pairsAt (now (model .entry)) first in
         let fields = pairFields undefined (now (text .entry)) c pairs (drop (row + 3) (now (cells .entry))) in
         let id = identificationBytes (now (text .entry)) (now (cells .entry)) row in
-        Puts (cutLine mark width (lineBytes (OBJE ∷ id ∷ fields))) n (now (out .entry)) (now (out .exit)) r) ⌝ }
+        Puts (cutLine mark width (lineBytes (OBJE ∷ id ∷ fields))) put (now (out .entry)) (now (out .exit)) r) ⌝ }
 {
-    match put_object_bytes(model, first, text, undefined, rows, cells, row, out, n) {
-        Put::At(k) => end_line(out, n, k, mark, width),
-        Put::Full => Put::Full,
-    }
+    let line = put_object_bytes(model, first, text, undefined, rows, cells, row, out, put);
+    end_line(out, put.count, line, mark, width)
 }
 
 // The code of a point's line: "0 STPT, 1 LIPT, 2 ARCP".
-fn put_code(kind: i64, out: &mut [u8], n: usize) -> Put
-    requires { ⌜ n ≤ length (now out) ⌝ }
-    ensures { λ r. ⌜ Puts (pointCode kind) n (now (out .entry)) (now (out .exit)) r ⌝ }
+fn put_code(kind: i64, out: &mut [u8], put: Put) -> Put
+    ensures { λ r. ⌜ Puts (pointCode kind) put (now (out .entry)) (now (out .exit)) r ⌝ }
 {
     let k = magnitude(kind);
     if k == 0 {
-        return put_bytes(out, n, b"STPT");
+        return put_bytes(out, put, b"STPT");
     }
     if k == 1 {
-        return put_bytes(out, n, b"LIPT");
+        return put_bytes(out, put, b"LIPT");
     }
-    put_bytes(out, n, b"ARCP")
+    put_bytes(out, put, b"ARCP")
 }
 
 // The fields of the point at a place.
@@ -169,31 +153,23 @@ fn put_point_fields(
     components: Components,
     at: usize,
     out: &mut [u8],
-    n: usize,
+    put: Put,
 ) -> Put
     requires { ⌜ GoodComponents components ⌝ }
-    requires { ⌜ n ≤ length (now out) ⌝ }
     ensures { λ r. ⌜ (let fields = pointFields (componentsOf components) (drop 1 (drop at (now (points .entry)))) in
-        Puts (spaced fields) n (now (out .entry)) (now (out .exit)) r) ⌝ }
+        Puts (spaced fields) put (now (out .entry)) (now (out .exit)) r) ⌝ }
 {
     let count = components.count;
     let items = components.items;
     let mut i = 0;
-    let mut end = n;
+    let mut all = put_nothing(put);
     while i < count {
         let component = items[i];
         let v = fields::cell_behind(points, at, i + 1);
-        match fields::put_number_field(component.decimals, v, out, end) {
-            Put::At(k) => {
-                end = k;
-            }
-            Put::Full => {
-                return Put::Full;
-            }
-        }
+        all = fields::put_number_field(component.decimals, v, out, all);
         i += 1;
     }
-    Put::At(end)
+    all
 }
 
 // The bytes of a point's line.
@@ -202,19 +178,16 @@ fn put_point_bytes(
     components: Components,
     at: usize,
     out: &mut [u8],
-    n: usize,
+    put: Put,
 ) -> Put
     requires { ⌜ GoodComponents components ⌝ }
-    requires { ⌜ n ≤ length (now out) ⌝ }
     ensures { λ r. ⌜ (let code = pointCode (getD (drop at (now (points .entry))) 0 (pos 0)) in
         let fields = pointFields (componentsOf components) (drop 1 (drop at (now (points .entry)))) in
-        Puts (lineBytes (code ∷ fields)) n (now (out .entry)) (now (out .exit)) r) ⌝ }
+        Puts (lineBytes (code ∷ fields)) put (now (out .entry)) (now (out .exit)) r) ⌝ }
 {
     let kind = fields::cell_behind(points, at, 0);
-    match put_code(kind, out, n) {
-        Put::At(k) => put_point_fields(points, components, at, out, k),
-        Put::Full => Put::Full,
-    }
+    let code = put_code(kind, out, put);
+    put_point_fields(points, components, at, out, code)
 }
 
 // The line of a point.
@@ -225,18 +198,16 @@ fn put_point(
     mark: u8,
     width: usize,
     out: &mut [u8],
-    n: usize,
+    put: Put,
 ) -> Put
     requires { ⌜ GoodComponents components ⌝ }
-    requires { ⌜ (n ≤ length (now out)) × (16 ≤ width) × (width ≤ 65535) ⌝ }
+    requires { ⌜ (16 ≤ width) × (width ≤ 65535) ⌝ }
     ensures { λ r. ⌜ (let code = pointCode (getD (drop at (now (points .entry))) 0 (pos 0)) in
         let fields = pointFields (componentsOf components) (drop 1 (drop at (now (points .entry)))) in
-        Puts (cutLine mark width (lineBytes (code ∷ fields))) n (now (out .entry)) (now (out .exit)) r) ⌝ }
+        Puts (cutLine mark width (lineBytes (code ∷ fields))) put (now (out .entry)) (now (out .exit)) r) ⌝ }
 {
-    match put_point_bytes(points, components, at, out, n) {
-        Put::At(k) => end_line(out, n, k, mark, width),
-        Put::Full => Put::Full,
-    }
+    let line = put_point_bytes(points, components, at, out, put);
+    end_line(out, put.count, line, mark, width)
 }
 
 // The lines of so many points, from this one on.
@@ -248,42 +219,33 @@ fn put_points(
     mark: u8,
     width: usize,
     out: &mut [u8],
-    n: usize,
+    put: Put,
 ) -> Put
     requires { ⌜ GoodComponents components ⌝ }
-    requires { ⌜ (n ≤ length (now out)) × (16 ≤ width) × (width ≤ 65535) ⌝ }
+    requires { ⌜ (16 ≤ width) × (width ≤ 65535) ⌝ }
     requires { ⌜ 4 * count ≤ length (now points) ⌝ }
     ensures { λ r. ⌜ (let lines = pointLines (componentsOf components) count (drop (4 * first) (now (points .entry))) in
-        Puts (cutLines mark width (linesBytes lines)) n (now (out .entry)) (now (out .exit)) r) ⌝ }
+        Puts (cutLines mark width (linesBytes lines)) put (now (out .entry)) (now (out .exit)) r) ⌝ }
 {
     let mut at = 4 * least_of(first, points.len());
     let mut left = count;
-    let mut end = n;
+    let mut all = put_nothing(put);
     while 0 < left {
-        match put_point(points, components, at, mark, width, out, end) {
-            Put::At(k) => {
-                end = k;
-            }
-            Put::Full => {
-                return Put::Full;
-            }
-        }
+        all = put_point(points, components, at, mark, width, out, all);
         at += 4;
         left -= 1;
     }
-    Put::At(end)
+    all
 }
 
 // The line behind a line attribute's points.
-fn put_elin(mark: u8, width: usize, out: &mut [u8], n: usize) -> Put
-    requires { ⌜ (n ≤ length (now out)) × (16 ≤ width) × (width ≤ 65535) ⌝ }
+fn put_elin(mark: u8, width: usize, out: &mut [u8], put: Put) -> Put
+    requires { ⌜ (16 ≤ width) × (width ≤ 65535) ⌝ }
     ensures { λ r. ⌜ (let lines = (ELIN ∷ []) ∷ [] in
-        Puts (cutLines mark width (linesBytes lines)) n (now (out .entry)) (now (out .exit)) r) ⌝ }
+        Puts (cutLines mark width (linesBytes lines)) put (now (out .entry)) (now (out .exit)) r) ⌝ }
 {
-    match put_bytes(out, n, b"ELIN") {
-        Put::At(k) => end_line(out, n, k, mark, width),
-        Put::Full => Put::Full,
-    }
+    let line = put_bytes(out, put, b"ELIN");
+    end_line(out, put.count, line, mark, width)
 }
 
 // "Line: 1 plus its count of points", no more than there are.
@@ -306,21 +268,19 @@ fn put_line(
     mark: u8,
     width: usize,
     out: &mut [u8],
-    n: usize,
+    put: Put,
 ) -> Put
     requires { ⌜ GoodComponents components ⌝ }
-    requires { ⌜ (n ≤ length (now out)) × (16 ≤ width) × (width ≤ 65535) ⌝ }
+    requires { ⌜ (16 ≤ width) × (width ≤ 65535) ⌝ }
     ensures { λ r. ⌜ (let count = min (cellAt (now (cells .entry)) cell - 1) (length (now (points .entry)) / 4) in
         let from = drop (4 * cellAt (now (cells .entry)) (cell + 1)) (now (points .entry)) in
         let lines = pointLines (componentsOf components) count from ++ ((ELIN ∷ []) ∷ []) in
-        Puts (cutLines mark width (linesBytes lines)) n (now (out .entry)) (now (out .exit)) r) ⌝ }
+        Puts (cutLines mark width (linesBytes lines)) put (now (out .entry)) (now (out .exit)) r) ⌝ }
 {
     let count = count_points(cells, points.len(), cell);
     let first = fields::size_behind(cells, cell, 1);
-    match put_points(points, components, first, count, mark, width, out, n) {
-        Put::At(k) => put_elin(mark, width, out, k),
-        Put::Full => Put::Full,
-    }
+    let drawn = put_points(points, components, first, count, mark, width, out, put);
+    put_elin(mark, width, out, drawn)
 }
 
 // The lines of the attribute whose record is at a byte: none where it is no line attribute.
@@ -333,22 +293,22 @@ fn put_line_at(
     at: usize,
     cell: usize,
     out: &mut [u8],
-    n: usize,
+    put: Put,
 ) -> Put
     requires { ⌜ AttributeHere (now model) at ⌝ }
-    requires { ⌜ (n ≤ length (now out)) × (16 ≤ width) × (width ≤ 65535) ⌝ }
+    requires { ⌜ (16 ≤ width) × (width ≤ 65535) ⌝ }
     ensures { λ r. ⌜ (let attribute = attributeOf at (payloadAt (now (model .entry)) at) in
         let pairs = pairsOfType (attribute .optional) (attribute .type) in
         let c = lentOf [] (now (cells .entry)) (now (points .entry)) in
         let lines = attributeLines c (lineAttributes cell pairs) in
-        Puts (cutLines mark width (linesBytes lines)) n (now (out .entry)) (now (out .exit)) r) ⌝ }
+        Puts (cutLines mark width (linesBytes lines)) put (now (out .entry)) (now (out .exit)) r) ⌝ }
 {
     let attribute = model_records::attribute_at(model, at);
     if attribute.kind != 8 {
-        return Put::At(n);
+        return put_nothing(put);
     }
     let components = attribute.components;
-    put_line(cells, points, components, cell, mark, width, out, n)
+    put_line(cells, points, components, cell, mark, width, out, put)
 }
 
 // The lines of a row's line attributes.
@@ -361,31 +321,23 @@ fn put_attribute_lines(
     points: &[i64],
     row: usize,
     out: &mut [u8],
-    n: usize,
+    put: Put,
 ) -> Put
     requires { ⌜ AttributesHere (modelAt (now model)) (now model) first ⌝ }
-    requires { ⌜ (n ≤ length (now out)) × (16 ≤ width) × (width ≤ 65535) ⌝ }
+    requires { ⌜ (16 ≤ width) × (width ≤ 65535) ⌝ }
     ensures { λ r. ⌜ (let c = lentOf [] (now (cells .entry)) (now (points .entry)) in
         let lines = attributeLines c (lineAttributes (row + 3) (pairsAt (now (model .entry)) first)) in
-        Puts (cutLines mark width (linesBytes lines)) n (now (out .entry)) (now (out .exit)) r) ⌝ }
+        Puts (cutLines mark width (linesBytes lines)) put (now (out .entry)) (now (out .exit)) r) ⌝ }
 {
     let mut at = first;
     let mut cell = least_of(row, cells.len()) + 3;
-    let mut end = n;
+    let mut all = put_nothing(put);
     loop {
         let kind = model_records::kind_at(model, at);
         if kind != ATTRIBUTE {
-            return Put::At(end);
+            return all;
         }
-        let put = put_line_at(model, mark, width, cells, points, at, cell, out, end);
-        match put {
-            Put::At(k) => {
-                end = k;
-            }
-            Put::Full => {
-                return Put::Full;
-            }
-        }
+        all = put_line_at(model, mark, width, cells, points, at, cell, out, all);
         cell += 2 * count_of(model[at + 5]).pairs;
         at = model_records::next_at(model, at);
     }
@@ -404,19 +356,19 @@ pub fn put_object(
     points: &[i64],
     row: usize,
     out: &mut [u8],
-    n: usize,
+    put: Put,
 ) -> Put
     requires { ⌜ AttributesHere (modelAt (now model)) (now model) first ⌝ }
     requires { ⌜ undefined ≡ modelAt (now model) .undefined ⌝ }
-    requires { ⌜ (n ≤ length (now out)) × (16 ≤ width) × (width ≤ 65535) ⌝ }
+    requires { ⌜ (16 ≤ width) × (width ≤ 65535) ⌝ }
     ensures { λ r. ⌜ ((marks : List ℕ) →
         let b = now (model .entry) in
         let ps = now (points .entry) in
         let c : Content = record { marks = marks; rows = now (rows .entry); cells = now (cells .entry); points = ps } in
         let lines = objectLines (modelAt b) (now (text .entry)) c (pairsAt b first) row in
-        Puts (cutLines mark width (linesBytes lines)) n (now (out .entry)) (now (out .exit)) r) ⌝ }
+        Puts (cutLines mark width (linesBytes lines)) put (now (out .entry)) (now (out .exit)) r) ⌝ }
 {
-    match put_object_line(
+    let line = put_object_line(
         model,
         first,
         text,
@@ -427,9 +379,7 @@ pub fn put_object(
         cells,
         row,
         out,
-        n,
-    ) {
-        Put::At(k) => put_attribute_lines(model, first, mark, width, cells, points, row, out, k),
-        Put::Full => Put::Full,
-    }
+        put,
+    );
+    put_attribute_lines(model, first, mark, width, cells, points, row, out, line)
 }

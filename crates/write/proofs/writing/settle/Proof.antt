@@ -1,30 +1,16 @@
 -- `write::settle` meets its contract. Assumes nothing.
 use denote.Ref.{now}
 use mathlib.Core.Path.{sym, ap, _∙_}
-use Rattle.write_lines.specs.declared.Put.{Put}
-use Rattle.write.specs.Answers.{answerOf, settledOf}
-use Rattle.write.proofs.Calls.{inside-at, cleared-behind}
+use Rattle.meaning.specs.Width.{Written}
+use Rattle.write.specs.Answers.{answerOf}
+use Rattle.write.proofs.Calls.{too-large, fits-both, cleared-behind}
 use borrow.Author.Needs.{needs}
+use native.Mathlib.Omega.{arith}
 use Rattle.write.proofs.writing.settle.Statement.{statement}
 use Rattle.write.proofs.writing.settle.Tie as tie
 
-enum-known-put : tie.Need-enum-known-put
-enum-known-put c = search needs
-
-sub-clear : tie.Need-sub-clear
-sub-clear c = inside-at _ _ _ (c .before .put .given .1) (c .before .before .before .before .pre)
-
-part-clear-start : tie.Need-part-clear-start
-part-clear-start c = inside-at _ _ _ (c .before .put .given .1) (c .before .before .before .before .pre)
-
-part-clear-end : tie.Need-part-clear-end
-part-clear-end c = search needs
-
-clear-requires : tie.Need-clear-requires
-clear-requires c κs = search needs
-
-enum-told : tie.Need-enum-told
-enum-told c = search needs
+least-of-requires : tie.Need-least-of-requires
+least-of-requires c κs = search needs
 
 refuse-requires : tie.Need-refuse-requires
 refuse-requires c κs = search needs
@@ -33,32 +19,48 @@ same-length : tie.Need-same-length
 same-length c = search needs
 
 returns : tie.Need-returns
-unfolding answerOf settledOf
-returns c = let a = c .before .before .before .before .before .before .before .before .args in
-    let e = c .before .before .before .before .before .put .given .1 in
-    (ap (λ (p : Put). settledOf p (now (a .out)) .answer) (sym e), cleared-behind _ (now (a .out)) _ (inside-at _ _ _ e (c .before .before .before .before .before .before .before .before .pre)) (c .before .before .clear .ensures) ∙ ap (λ (p : Put). settledOf p (now (a .out)) .output) (sym e))
+returns c =
+    let a = c .before .before .before .before .before .before .before .args in
+    let m = c .before .before .before .before .before .least-of in
+    let r = c .before .before .refuse .ensures in
+    let e = sym (too-large (a .put) (now (a .out)) (m .result) (m .ensures) (c .before .before .before .before .if1 .taken)) in
+    (r .0 ∙ ap (λ (w : Written). w .answer) e, r .1 ∙ ap (λ (w : Written). w .output) e)
+
+sub-clear : tie.Need-sub-clear
+sub-clear c = omega (arith, c .before .least-of .ensures, c .if1 .left)
+
+part-clear-start : tie.Need-part-clear-start
+part-clear-start c = omega (arith, c .before .least-of .ensures, c .if1 .left)
+
+part-clear-end : tie.Need-part-clear-end
+part-clear-end c = search needs
+
+clear-requires : tie.Need-clear-requires
+clear-requires c κs = search needs
 
 same-length-2 : tie.Need-same-length-2
 same-length-2 c = search needs
 
 returns-2 : tie.Need-returns-2
-unfolding settledOf
-returns-2 c = let a = c .before .before .before .before .before .before .before .args in
-    let e = c .before .before .before .before .enum-told .given .1 in
-    (c .before .before .refuse .ensures .0 ∙ ap (λ (p : Put). settledOf p (now (a .out)) .answer) (sym e), c .before .before .refuse .ensures .1 ∙ ap (λ (p : Put). settledOf p (now (a .out)) .output) (sym e))
+unfolding answerOf
+returns-2 c =
+    let a = c .before .before .before .before .before .before .before .args in
+    let m = c .before .before .before .before .before .least-of in
+    let h = c .before .before .before .before .if1 .left in
+    let e = sym (fits-both (a .put) (now (a .out)) (m .result) (m .ensures) (omega (arith, h))) in
+    (ap (λ (w : Written). w .answer) e, cleared-behind (a .put .count) (now (a .out)) _ (omega (arith, m .ensures, h)) (c .before .before .clear .ensures) ∙ ap (λ (w : Written). w .output) e)
 
 pub settle-spec : {M : Type 1} → statement M
 settle-spec =
     tie.close
     (tie.spec
-    enum-known-put
+    least-of-requires
+    refuse-requires
+    same-length
+    returns
     sub-clear
     part-clear-start
     part-clear-end
     clear-requires
-    enum-told
-    refuse-requires
-    same-length
-    returns
     same-length-2
     returns-2)

@@ -5,7 +5,7 @@ use lib.ListN.{length}
 use Rattle.meaning.specs.Width.{Written}
 use Rattle.model_records.specs.Records.{modelAt}
 use Rattle.meaning.specs.Writing.{lentOf}
-use Rattle.write.proofs.Calls.{refused-with, width-fits, counts-fit, written-with, limited-inside, settled}
+use Rattle.write.proofs.Calls.{refused-with, width-fits, counts-fit, written-with, settled}
 use borrow.Author.Needs.{needs}
 use Rattle.write.proofs.writing.write_under.Statement.{statement}
 use Rattle.write.proofs.writing.write_under.Tie as tie
@@ -36,7 +36,7 @@ put-used-requires c κs = let a = c .before .before .before .before .before .bef
     (c .before .before .before .before .before .before .before .before .before .before .before .before .before .pre, (width-fits m t (a .width) (length (now (a .out))) (n .result) (n .ensures) (c .before .if1 .left), counts-fit m t (a .width) (length (now (a .out))) (n .result) (n .ensures) (c .before .if1 .left)))
 
 settle-requires : tie.Need-settle-requires
-settle-requires c κs = limited-inside _ _ _ (c .before .before .before .put-used .result) (c .before .before .before .put-used .ensures)
+settle-requires c κs = search needs
 
 same-length-3 : tie.Need-same-length-3
 same-length-3 c = search needs
@@ -49,7 +49,7 @@ returns-2 c = let a = c .before .before .before .before .before .before .before 
     let t = lentOf (now (a .text)) (now (a .marks)) (now (a .rows)) (now (a .cells)) (now (a .points)) (a .used .objects) (a .used .cells) (a .used .points) in
     let n = c .before .before .before .before .before .before .before .before .before .before .before .refusal-of in
     let p = c .before .before .before .before .before .before .put-used in
-    let k = settled _ _ _ (p .result) (p .ensures) (p .kept .1 .1 .1 .1 .1 .1 .1 .1 .1 .1 .0) ∙ sym (written-with (modelAt (now (a .model))) t (a .width) (length (now (a .out))) (n .result) (n .ensures) (c .before .before .before .before .before .before .before .before .if1 .left)) in
+    let k = settled _ _ _ (p .result) (p .ensures) ∙ sym (written-with (modelAt (now (a .model))) t (a .width) (length (now (a .out))) (n .result) (n .ensures) (c .before .before .before .before .before .before .before .before .if1 .left)) in
     (c .before .before .settle .ensures .0 ∙ ap (λ (w : Written). w .answer) k, c .before .before .settle .ensures .1 ∙ ap (λ (w : Written). w .output) k)
 
 pub write-under-spec : {M : Type 1} → statement M

@@ -12,11 +12,16 @@ use Rattle.write_file.proofs.file.pass_topic.Tie as tie
 byte-at-requires : tie.Need-byte-at-requires
 byte-at-requires c κs = search needs
 
+put-nothing-requires : tie.Need-put-nothing-requires
+put-nothing-requires c κs = search needs
+
 returns : tie.Need-returns
-returns c = let q = c .before .before .before .before .before .before .before .before .pre in
-    let a = c .before .before .before .before .before .before .before .before .args in
+returns c =
+    let q = c .before .before .before .before .before .before .before .before .before .pre in
+    let a = c .before .before .before .before .before .before .before .before .before .args in
+    let n = c .put-nothing in
     topic-over (modelAt (now (a .model))) (now (a .text)) (contentIn (now (a .marks)) (now (a .rows)) (now (a .cells)) (now (a .points))) (a .style) (a .p) (a .row) (a .put) (now (a .out)) (omega (arith, q .1 .1 .0, q .0 .topics))
-    (sym (c .before .byte-at .ensures) ∙ c .if1 .taken) (q .1 .1 .1)
+    (sym (c .before .before .byte-at .ensures) ∙ c .before .if1 .taken) (q .1 .1 .1) (n .result) (n .ensures (now (a .out)))
 
 then-topic-requires : tie.Need-then-topic-requires
 then-topic-requires c κs = search needs
@@ -38,6 +43,7 @@ pass-topic-spec =
     tie.close
     (tie.spec
     byte-at-requires
+    put-nothing-requires
     returns
     then-topic-requires
     behind-topic-requires

@@ -7,7 +7,7 @@ use denote.Ref.{now}
 use Rattle.meaning.specs.Field.{SCNT, slashes, MTID, MODL}
 use Rattle.model_records.specs.Records.{modelAt, nextAt}
 use Rattle.model_records.proofs.Types.{payload-part}
-use Rattle.write_file.proofs.Topics.{lines-then}
+use Rattle.write_file.proofs.Frames.{lines-then}
 use borrow.Author.Needs.{needs}
 use native.Mathlib.Omega.{arith}
 use Rattle.write_file.proofs.file.then_head.Statement.{statement}
@@ -23,13 +23,13 @@ slice-aggregate-then-alone : tie.Need-slice-aggregate-then-alone
 slice-aggregate-then-alone c = search needs
 
 then-alone-requires : tie.Need-then-alone-requires
-then-alone-requires c κs = let q = c .before .before .before .before .before .before .pre in (q .1 .least, q .1 .most)
+then-alone-requires c κs = let q = c .before .before .before .before .before .before .pre in (omega arith, q .1 .least, q .1 .most)
 
 slice-aggregate-then-alone-2 : tie.Need-slice-aggregate-then-alone-2
 slice-aggregate-then-alone-2 c = search needs
 
 then-alone-requires-2 : tie.Need-then-alone-requires-2
-then-alone-requires-2 c κs = let q = c .before .before .before .before .before .before .before .before .before .before .before .pre in (q .1 .least, q .1 .most)
+then-alone-requires-2 c κs = let q = c .before .before .before .before .before .before .before .before .before .before .before .pre in (omega arith, q .1 .least, q .1 .most)
 
 slice-aggregate-then-named : tie.Need-slice-aggregate-then-named
 slice-aggregate-then-named c = search needs

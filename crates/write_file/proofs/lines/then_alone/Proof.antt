@@ -1,41 +1,28 @@
 -- `write_file::then_alone` meets its contract. Assumes nothing.
+use mathlib.Core.Path.{refl}
 use denote.Ref.{now}
-use Rattle.write_file.proofs.Follows.{follows-as, follows-at, follows-full, follows-outside, alone-line}
+use Rattle.write_lines.proofs.Puts.{renamed}
+use Rattle.write_file.proofs.Frames.{alone-line}
 use borrow.Author.Needs.{needs}
-use native.Mathlib.Omega.{arith}
 use Rattle.write_file.proofs.lines.then_alone.Statement.{statement}
 use Rattle.write_file.proofs.lines.then_alone.Tie as tie
 
-enum-known-put : tie.Need-enum-known-put
-enum-known-put c = search needs
+put-bytes-requires : tie.Need-put-bytes-requires
+put-bytes-requires c κs = search needs
 
-enum-told : tie.Need-enum-told
-enum-told c = search needs
-
-returns : tie.Need-returns
-returns c = follows-full _ (c .enum-told .given .1)
-
-returns-2 : tie.Need-returns-2
-returns-2 c = follows-outside _ _ (c .before .before .put .given .1) (λ h. omega (arith, c .if1 .taken))
-
-put-alone-requires : tie.Need-put-alone-requires
-put-alone-requires c κs = search needs
+end-line-requires : tie.Need-end-line-requires
+end-line-requires c κs = search needs
 
 same-length : tie.Need-same-length
 same-length c = search needs
 
-returns-3 : tie.Need-returns-3
-returns-3 c = let a = c .before .before .before .before .before .before .before .before .before .before .args in
-    follows-as _ _ (alone-line (a .style .mark) (a .style .width) (now (a .code))) (follows-at _ _ (c .before .before .before .before .before .before .put .given .1) (c .before .before .put-alone .ensures))
+returns : tie.Need-returns
+returns c =
+    let s = c .before .before .before .before .before .before .before .before .before .before in
+    let a = s .args in
+    let p = c .before .before .before .before .before .before .put-bytes in
+    let q = c .before .before .end-line in
+    renamed _ _ (a .put) (now (a .out)) _ (q .result) (alone-line (a .style .mark) (a .style .width) (now (a .code))) (q .ensures .ends (now (a .code)) (a .put) (now (a .out)) refl (s .pre .0) (p .ensures))
 
 pub then-alone-spec : {M : Type 1} → statement M
-then-alone-spec =
-    tie.close
-    (tie.spec
-    enum-known-put
-    enum-told
-    returns
-    returns-2
-    put-alone-requires
-    same-length
-    returns-3)
+then-alone-spec = tie.close (tie.spec put-bytes-requires end-line-requires same-length returns)

@@ -10,12 +10,17 @@ use Rattle.write_file.proofs.walk.pass_table.Tie as tie
 is-due-requires : tie.Need-is-due-requires
 is-due-requires c κs = search needs
 
+put-nothing-requires : tie.Need-put-nothing-requires
+put-nothing-requires c κs = search needs
+
 returns : tie.Need-returns
-returns c = let q = c .before .before .before .before .before .before .before .before .pre in
-    let a = c .before .before .before .before .before .before .before .before .args in
-    let d = c .before .is-due in
+returns c =
+    let q = c .before .before .before .before .before .before .before .before .before .pre in
+    let a = c .before .before .before .before .before .before .before .before .before .args in
+    let d = c .before .before .is-due in
+    let n = c .put-nothing in
     table-over (now (a .model)) (a .shape) (now (a .places)) (now (a .text)) (contentIn (now (a .marks)) (now (a .rows)) (now (a .cells)) (now (a .points))) (a .style) (a .p) (a .t) (a .row) (a .put) (now (a .out)) (q .0) (q .1 .1 .0) (d .result) (d .ensures)
-    (not-true _ (c .if1 .taken)) (q .1 .1 .1)
+    (not-true _ (c .before .if1 .taken)) (q .1 .1 .1) (n .result) (n .ensures (now (a .out)))
 
 behind-table-requires : tie.Need-behind-table-requires
 behind-table-requires c κs = search needs
@@ -38,6 +43,7 @@ pass-table-spec =
     tie.close
     (tie.spec
     is-due-requires
+    put-nothing-requires
     returns
     behind-table-requires
     then-table-requires

@@ -7,7 +7,7 @@ use mir.ValLaws.{toZ-ofZ}
 use lib.IntN.{ℤ, pos}
 use lib.ListN.{drop, getD}
 use Rattle.meaning.specs.Digits.{numberBytes}
-use Rattle.write_objects.proofs.Left.{renamed}
+use Rattle.write_lines.proofs.Puts.{renamed}
 use Rattle.write_objects.proofs.Typed.{field-undefined, field-defined}
 use borrow.Author.Needs.{needs}
 use Rattle.write_objects.proofs.fields.put_component.Statement.{statement}
@@ -26,7 +26,7 @@ returns : tie.Need-returns
 returns c =
     let a = c .before .before .before .before .before .before .before .args in
     let p = c .before .before .put-undefined in
-    renamed _ _ (a .n) (now (a .out)) _ (p .result) (field-undefined (a .undefined) (getD (drop (a .cell) (now (a .cells))) 0 (pos 0)) _ (sym (c .before .before .before .before .before .size-behind .ensures) ∙ c .before .before .before .before .if1 .taken)) (p .ensures)
+    renamed _ _ (a .put) (now (a .out)) _ (p .result) (field-undefined (a .undefined) (getD (drop (a .cell) (now (a .cells))) 0 (pos 0)) _ (sym (c .before .before .before .before .before .size-behind .ensures) ∙ c .before .before .before .before .if1 .taken)) (p .ensures)
 
 cell-behind-requires : tie.Need-cell-behind-requires
 cell-behind-requires c κs = search needs
@@ -43,7 +43,7 @@ returns-2 c =
     let d = c .before .before .before .before .cell-behind in
     let p = c .before .before .put-number-field in
     let q = rw (toZ-ofZ w64 (d .result) (record { sfits = d .ok })) at (p .ensures) in
-    renamed _ _ (a .n) (now (a .out)) _ (p .result)
+    renamed _ _ (a .put) (now (a .out)) _ (p .result)
     (ap (λ (x : ℤ). 0x20 ∷ numberBytes (a .decimals) x) (d .ensures)
     ∙ field-defined (a .undefined) (getD (drop (a .cell) (now (a .cells))) 0 (pos 0)) (numberBytes (a .decimals) (getD (drop (a .cell) (now (a .cells))) 1 (pos 0))) (λ x. c .before .before .before .before .before .if1 .left (c .before .before .before .before .before .before .size-behind .ensures ∙ x))) q
 

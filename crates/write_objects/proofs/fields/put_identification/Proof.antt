@@ -6,7 +6,7 @@ use mir.Syntax.{w64}
 use mir.ValLaws.{toZ-ofZ}
 use lib.IntN.{ℤ}
 use Rattle.meaning.specs.Writing.{stretchBytes}
-use Rattle.write_objects.proofs.Left.{renamed}
+use Rattle.write_lines.proofs.Puts.{renamed}
 use Rattle.write_objects.proofs.Typed.{identified}
 use borrow.Author.Needs.{needs}
 use Rattle.write_objects.proofs.fields.put_identification.Statement.{statement}
@@ -32,7 +32,7 @@ returns c =
     let k = c .before .before .before .before .size-behind in
     let p = c .before .before .put-stretch in
     let q = rw (toZ-ofZ w64 (d .result) (record { sfits = d .ok })) at (p .ensures) in
-    renamed _ _ (a .n) (now (a .out)) _ (p .result) (ap₂ (λ (x : ℤ) (y : ℕ). stretchBytes (now (a .text)) x y) (d .ensures) (k .ensures) ∙ identified (now (a .text)) (now (a .cells)) (a .row)) q
+    renamed _ _ (a .put) (now (a .out)) _ (p .result) (ap₂ (λ (x : ℤ) (y : ℕ). stretchBytes (now (a .text)) x y) (d .ensures) (k .ensures) ∙ identified (now (a .text)) (now (a .cells)) (a .row)) q
 
 pub put-identification-spec : {M : Type 1} → statement M
 put-identification-spec =

@@ -9,7 +9,7 @@ use lib.ListN.{drop, getD}
 use Rattle.meaning.specs.Writing.{typeBytes}
 use Rattle.model_records.specs.Attributes.{typeOf}
 use Rattle.write_objects.specs.Given.{lentOf}
-use Rattle.write_objects.proofs.Left.{renamed}
+use Rattle.write_lines.proofs.Puts.{renamed}
 use Rattle.write_objects.proofs.Typed.{field-undefined, field-defined}
 use borrow.Author.Needs.{needs}
 use Rattle.write_objects.proofs.fields.put_pair.Statement.{statement}
@@ -34,7 +34,7 @@ returns c =
     let m = rw (toZ-ofZ w64 (d .result) (record { sfits = d .ok })) at (c .before .before .before .before .before .magnitude .ensures) in
     let p = c .before .before .put-undefined in
     let e : natAbs (getD (drop (a .cell) (now (a .cells))) 0 (pos 0)) ≡ 0 = sym (m ∙ ap natAbs (d .ensures)) ∙ c .before .before .before .before .if1 .taken in
-    renamed _ _ (a .n) (now (a .out)) _ (p .result) (field-undefined (a .undefined) (getD (drop (a .cell) (now (a .cells))) 0 (pos 0)) _ e) (p .ensures)
+    renamed _ _ (a .put) (now (a .out)) _ (p .result) (field-undefined (a .undefined) (getD (drop (a .cell) (now (a .cells))) 0 (pos 0)) _ e) (p .ensures)
 
 cell-behind-requires-2 : tie.Need-cell-behind-requires-2
 cell-behind-requires-2 c κs = search needs
@@ -54,7 +54,7 @@ returns-2 c =
     let p = c .before .before .put-value-field in
     let q = rw (toZ-ofZ w64 (d .result) (record { sfits = d .ok }), toZ-ofZ w64 (d₂ .result) (record { sfits = d₂ .ok })) at (p .ensures) in
     let e : natAbs (getD (drop (a .cell) (now (a .cells))) 0 (pos 0)) ≡ 0 → ⊥ = λ x. c .before .before .before .before .before .if1 .left (m ∙ ap natAbs (d .ensures) ∙ x) in
-    renamed _ _ (a .n) (now (a .out)) _ (p .result)
+    renamed _ _ (a .put) (now (a .out)) _ (p .result)
     (ap₂ (λ (x y : ℤ). 0x20 ∷ typeBytes (now (a .text)) (lentOf (now (a .rows)) (now (a .cells)) []) (typeOf (a .attribute)) x y) (d .ensures) (d₂ .ensures)
     ∙ field-defined (a .undefined) (getD (drop (a .cell) (now (a .cells))) 0 (pos 0)) (typeBytes (now (a .text)) (lentOf (now (a .rows)) (now (a .cells)) []) (typeOf (a .attribute)) (getD (drop (a .cell) (now (a .cells))) 0 (pos 0)) (getD (drop (a .cell) (now (a .cells))) 1 (pos 0))) e) q
 

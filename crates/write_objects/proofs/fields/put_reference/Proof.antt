@@ -6,7 +6,7 @@ use mir.Syntax.{w64}
 use mir.ValLaws.{toZ-ofZ}
 use lib.ListN.{getD}
 use Rattle.meaning.specs.Writing.{identificationBytes}
-use Rattle.write_objects.proofs.Left.{renamed}
+use Rattle.write_lines.proofs.Puts.{renamed}
 use borrow.Author.Needs.{needs}
 use Rattle.write_objects.proofs.fields.put_reference.Statement.{statement}
 use Rattle.write_objects.proofs.fields.put_reference.Tie as tie
@@ -29,7 +29,7 @@ returns c =
     let a = s .args in
     let m = rw (toZ-ofZ w64 (a .b) (s .fits .b)) at (c .before .before .before .before .before .magnitude .ensures) in
     let p = c .before .before .put-identification in
-    renamed _ _ (a .n) (now (a .out)) _ (p .result) (ap (λ (x : ℕ). identificationBytes (now (a .text)) (now (a .cells)) x) (c .before .before .before .before .row-of .ensures ∙ ap (λ (x : ℕ). getD (now (a .rows)) x 0) m)) (p .ensures)
+    renamed _ _ (a .put) (now (a .out)) _ (p .result) (ap (λ (x : ℕ). identificationBytes (now (a .text)) (now (a .cells)) x) (c .before .before .before .before .row-of .ensures ∙ ap (λ (x : ℕ). getD (now (a .rows)) x 0) m)) (p .ensures)
 
 pub put-reference-spec : {M : Type 1} → statement M
 put-reference-spec =

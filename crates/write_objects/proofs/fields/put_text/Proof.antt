@@ -7,7 +7,7 @@ use mir.Syntax.{w64}
 use mir.ValLaws.{toZ-ofZ}
 use lib.IntN.{natAbs}
 use Rattle.meaning.specs.Writing.{stretchBytes}
-use Rattle.write_objects.proofs.Left.{renamed}
+use Rattle.write_lines.proofs.Puts.{renamed}
 use borrow.Author.Needs.{needs}
 use Rattle.write_objects.proofs.fields.put_text.Statement.{statement}
 use Rattle.write_objects.proofs.fields.put_text.Tie as tie
@@ -35,7 +35,7 @@ returns c =
     let p = c .before .before .put-stretch in
     let q = rw (toZ-ofZ w64 (a .b) (s .fits .b)) at (p .ensures) in
     let e : 0 ≡ natAbs (a .a) - 1 = omega (arith, m, c .before .before .before .before .if1 .taken) in
-    renamed _ _ (a .n) (now (a .out)) _ (p .result) (ap (λ (x : ℕ). stretchBytes (now (a .text)) (a .b) x) e) q
+    renamed _ _ (a .put) (now (a .out)) _ (p .result) (ap (λ (x : ℕ). stretchBytes (now (a .text)) (a .b) x) e) q
 
 same-length-2 : tie.Need-same-length-2
 same-length-2 c = search needs
@@ -48,7 +48,7 @@ returns-2 c =
     let p = c .before .before .put-stretch2 in
     let q = rw (toZ-ofZ w64 (a .b) (s .fits .b)) at (p .ensures) in
     let e : (c .before .before .before .before .before .magnitude .result) - 1 ≡ natAbs (a .a) - 1 = omega (arith, m, c .before .before .before .before .if1 .left) in
-    renamed _ _ (a .n) (now (a .out)) _ (p .result) (ap (λ (x : ℕ). stretchBytes (now (a .text)) (a .b) x) e) q
+    renamed _ _ (a .put) (now (a .out)) _ (p .result) (ap (λ (x : ℕ). stretchBytes (now (a .text)) (a .b) x) e) q
 
 pub put-text-spec : {M : Type 1} → statement M
 put-text-spec =

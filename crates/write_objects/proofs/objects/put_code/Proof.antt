@@ -3,7 +3,7 @@ use mathlib.Core.Path.{sym, _∙_}
 use denote.Ref.{now}
 use mir.Syntax.{w64}
 use mir.ValLaws.{toZ-ofZ}
-use Rattle.write_objects.proofs.Left.{renamed}
+use Rattle.write_lines.proofs.Puts.{renamed}
 use Rattle.write_objects.proofs.Drawn.{code-start, code-straight, code-arc}
 use borrow.Author.Needs.{needs}
 use Rattle.write_objects.proofs.objects.put_code.Statement.{statement}
@@ -27,7 +27,7 @@ returns c =
     let a = s .args in
     let m = rw (toZ-ofZ w64 (a .kind) (s .fits .kind)) at (c .before .before .before .before .before .before .magnitude .ensures) in
     let p = c .before .before .put-bytes in
-    renamed _ _ (a .n) (now (a .out)) _ (p .result) (code-start (a .kind) (sym m ∙ c .before .before .before .before .before .if1 .taken)) (p .ensures)
+    renamed _ _ (a .put) (now (a .out)) _ (p .result) (code-start (a .kind) (sym m ∙ c .before .before .before .before .before .if1 .taken)) (p .ensures)
 
 slice-aggregate-put-bytes-2 : tie.Need-slice-aggregate-put-bytes-2
 slice-aggregate-put-bytes-2 c = search needs
@@ -44,7 +44,7 @@ returns-2 c =
     let a = s .args in
     let m = rw (toZ-ofZ w64 (a .kind) (s .fits .kind)) at (c .before .before .before .before .before .before .before .magnitude .ensures) in
     let p = c .before .before .put-bytes2 in
-    renamed _ _ (a .n) (now (a .out)) _ (p .result) (code-straight (a .kind) (sym m ∙ c .before .before .before .before .before .if2 .taken)) (p .ensures)
+    renamed _ _ (a .put) (now (a .out)) _ (p .result) (code-straight (a .kind) (sym m ∙ c .before .before .before .before .before .if2 .taken)) (p .ensures)
 
 slice-aggregate-put-bytes-3 : tie.Need-slice-aggregate-put-bytes-3
 slice-aggregate-put-bytes-3 c = search needs
@@ -61,7 +61,7 @@ returns-3 c =
     let a = s .args in
     let m = rw (toZ-ofZ w64 (a .kind) (s .fits .kind)) at (c .before .before .before .before .before .before .before .magnitude .ensures) in
     let p = c .before .before .put-bytes3 in
-    renamed _ _ (a .n) (now (a .out)) _ (p .result) (code-arc (a .kind) (λ e. c .before .before .before .before .before .before .if1 .left (m ∙ e)) (λ e. c .before .before .before .before .before .if2 .left (m ∙ e))) (p .ensures)
+    renamed _ _ (a .put) (now (a .out)) _ (p .result) (code-arc (a .kind) (λ e. c .before .before .before .before .before .before .if1 .left (m ∙ e)) (λ e. c .before .before .before .before .before .if2 .left (m ∙ e))) (p .ensures)
 
 pub put-code-spec : {M : Type 1} → statement M
 put-code-spec =

@@ -1,64 +1,36 @@
 -- `write_objects::objects::put_object_line` meets its contract. Assumes nothing.
-use denote.Ref.{now}
-use Rattle.write_objects.proofs.Left.{ended, not-ended, put-order}
-use Rattle.write_lines.proofs.Puts.{ends-within}
 use Prim.Native.Nat.{_+_}
+use mathlib.Core.Path.{refl}
 use mathlib.Core.List.{[], _∷_}
+use denote.Ref.{now}
+use borrow.Author.Needs.{needs}
 use lib.ListN.{drop}
 use Rattle.meaning.specs.Field.{OBJE}
 use Rattle.meaning.specs.Writing.{identificationBytes, pairFields, lineBytes}
 use Rattle.model_records.specs.Records.{pairsAt}
 use Rattle.write_objects.specs.Given.{lentOf}
-use borrow.Author.Needs.{needs}
+use Rattle.write_objects.proofs.Whole.{object-some}
 use Rattle.write_objects.proofs.objects.put_object_line.Statement.{statement}
 use Rattle.write_objects.proofs.objects.put_object_line.Tie as tie
 
 put-object-bytes-requires : tie.Need-put-object-bytes-requires
 put-object-bytes-requires c κs = search needs
 
-enum-known-k : tie.Need-enum-known-k
-enum-known-k c = search needs
-
 end-line-requires : tie.Need-end-line-requires
-end-line-requires c κs =
-    let s = c .before .before .before .before .before .before .before .before .before .before .before .before in
-    let a = s .args in
-    let p = c .before .before .before .before .before .before .put-object-bytes in
-    (put-order (a .mark) (a .width) (lineBytes (OBJE ∷ identificationBytes (now (a .text)) (now (a .cells)) (a .row) ∷ pairFields (a .undefined) (now (a .text)) (lentOf (now (a .rows)) (now (a .cells)) []) (pairsAt (now (a .model)) (a .first)) (drop (a .row + 3) (now (a .cells))))) (a .n) (now (a .out)) _ (p .result) (p .ensures) _ (c .before .before .k .given .1), ends-within (lineBytes (OBJE ∷ identificationBytes (now (a .text)) (now (a .cells)) (a .row) ∷ pairFields (a .undefined) (now (a .text)) (lentOf (now (a .rows)) (now (a .cells)) []) (pairsAt (now (a .model)) (a .first)) (drop (a .row + 3) (now (a .cells))))) (a .n) (now (a .out)) _ (p .result) _ (c .before .before .k .given .1) (p .ensures), s .pre .1 .1, s .pre .1 .2)
-
-enum-told : tie.Need-enum-told
-enum-told c = search needs
+end-line-requires c κs = search needs
 
 same-length : tie.Need-same-length
 same-length c = search needs
 
 returns : tie.Need-returns
 returns c =
-    let s = c .before .before .before .before .before .before .before .before .before .before .before .before .before .before .before in
-    let a = s .args in
-    let p = c .before .before .before .before .before .before .before .before .before .put-object-bytes in
+    let a = c .before .before .before .before .before .before .before .before .before .before .before .before .args in
+    let p = c .before .before .before .before .before .before .put-object-bytes in
     let q = c .before .before .end-line in
-    ended (a .mark) (a .width) (lineBytes (OBJE ∷ identificationBytes (now (a .text)) (now (a .cells)) (a .row) ∷ pairFields (a .undefined) (now (a .text)) (lentOf (now (a .rows)) (now (a .cells)) []) (pairsAt (now (a .model)) (a .first)) (drop (a .row + 3) (now (a .cells))))) (a .n) (now (a .out)) _ (p .result) (p .ensures) _ (c .before .before .before .before .before .k .given .1) _ (q .result) (q .ensures)
-
-same-length-2 : tie.Need-same-length-2
-same-length-2 c = search needs
-
-returns-2 : tie.Need-returns-2
-returns-2 c =
-    let s = c .before .before .before .before .before .before .before .before .before .before in
-    let a = s .args in
-    let p = c .before .before .before .before .put-object-bytes in
-    not-ended (a .mark) (a .width) (lineBytes (OBJE ∷ identificationBytes (now (a .text)) (now (a .cells)) (a .row) ∷ pairFields (a .undefined) (now (a .text)) (lentOf (now (a .rows)) (now (a .cells)) []) (pairsAt (now (a .model)) (a .first)) (drop (a .row + 3) (now (a .cells))))) (a .n) (now (a .out)) _ (p .result) (p .ensures) (c .enum-told .given .1)
+    let id = identificationBytes (now (a .text)) (now (a .cells)) (a .row) in
+    let fields = pairFields (a .undefined) (now (a .text)) (lentOf (now (a .rows)) (now (a .cells)) []) (pairsAt (now (a .model)) (a .first)) (drop (a .row + 3) (now (a .cells))) in
+    q .ensures .ends (lineBytes (OBJE ∷ id ∷ fields)) (a .put) (now (a .out)) refl (object-some id fields) (p .ensures)
 
 pub put-object-line-spec : {M : Type 1} → statement M
 put-object-line-spec =
-    tie.close
-    (tie.spec
-    put-object-bytes-requires
-    enum-known-k
-    end-line-requires
-    enum-told
-    same-length
-    returns
-    same-length-2
-    returns-2)
+    tie.close (tie.spec put-object-bytes-requires end-line-requires same-length returns)

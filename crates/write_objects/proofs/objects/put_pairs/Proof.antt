@@ -1,26 +1,26 @@
 -- `write_objects::objects::put_pairs` meets its contract. Assumes nothing.
-use borrow.Author.Needs.{needs}
 use Prim.Native.Nat.{_+_, _-_}
-use native.Mathlib.Omega.{arith}
-use mathlib.Core.Path.{refl, sym, ap, _∙_}
+use mathlib.Core.Path.{sym, ap, _∙_}
 use mathlib.Core.List.{List, []}
+use native.Mathlib.Omega.{arith}
 use denote.Ref.{now}
+use borrow.Author.Needs.{needs}
+use lib.IntN.{ℤ}
 use lib.ListN.{length, drop}
+use Rattle.meaning.specs.Writing.{pairFields, spaced}
 use Rattle.model_records.specs.Records.{modelAt, pairsAt}
 use Rattle.write_objects.specs.Given.{lentOf}
-use Rattle.write_objects.proofs.Walking.{Walking, walk-start, walk-room, walk-less, walk-end, walk-good, walk-parts, walk-count, walk-on, walk-stop}
-use lib.IntN.{ℤ}
-use Rattle.meaning.specs.Writing.{pairFields, spaced}
+use Rattle.write_objects.proofs.Walking.{Walking, walk-start, walk-room, walk-less, walk-end, walk-good, walk-parts, walk-count, walk-on}
 use Rattle.write_objects.proofs.Walking.{fieldsMeant, fields-meant, no-fields, row-fields}
 use Rattle.write_objects.proofs.objects.put_pairs.Statement.{statement}
 use Rattle.write_objects.proofs.objects.put_pairs.Tie as tie
 
 abbrev Inv-loop : tie.InvT-loop
-Inv-loop model first text undefined rows cells row out₀ n at₀ cell₀ end₀ out at cell end =
-    Walking (modelAt model) model (fieldsMeant undefined text (lentOf rows cells []) cells) (length cells + 3) (spaced (pairFields undefined text (lentOf rows cells []) (pairsAt model first) (drop (row + 3) cells))) n out₀ at cell end out
+Inv-loop model first text undefined rows cells row out₀ at₀ cell₀ all₀ out at cell all =
+    Walking (modelAt model) model (fieldsMeant undefined text (lentOf rows cells []) cells) (length cells + 3) (spaced (pairFields undefined text (lentOf rows cells []) (pairsAt model first) (drop (row + 3) cells))) all₀ out₀ at cell all out
 
 abbrev μ-loop : tie.MeasureT-loop
-μ-loop model first text undefined rows cells row out₀ n at₀ cell₀ end₀ out at cell end = length model - at
+μ-loop model first text undefined rows cells row out₀ at₀ cell₀ all₀ out at cell all = length model - at
 
 least-of-requires : tie.Need-least-of-requires Inv-loop μ-loop
 least-of-requires c κs = search needs
@@ -28,72 +28,83 @@ least-of-requires c κs = search needs
 add-cell : tie.Need-add-cell Inv-loop μ-loop
 add-cell c = let s = c .before .before .before .before .before in omega (arith, c .least-of .ensures, s .good .1 .1 .1 .1 .1 .0)
 
+put-nothing-requires : tie.Need-put-nothing-requires Inv-loop μ-loop
+put-nothing-requires c κs = search needs
+
 loop-holds : tie.Need-loop-holds Inv-loop μ-loop
 loop-holds c =
-    let s = c .before .before .before .before .before in
+    let s = c .before .before .before .before .before .before in
     let a = s .args in
-    let m = c .least-of .ensures in
-    walk-start (modelAt (now (a .model))) (now (a .model)) (fieldsMeant (a .undefined) (now (a .text)) (lentOf (now (a .rows)) (now (a .cells)) []) (now (a .cells))) (length (now (a .cells)) + 3) _ (a .first) _ (a .n) (now (a .out)) (s .pre .0) (omega (arith, m)) (ap (λ (l : List ℤ). spaced (pairFields (a .undefined) (now (a .text)) (lentOf (now (a .rows)) (now (a .cells)) []) (pairsAt (now (a .model)) (a .first)) l)) (row-fields (now (a .cells)) (a .row) _ m)) (s .pre .1)
+    let m = c .before .least-of .ensures in
+    let n = c .put-nothing in
+    walk-start (modelAt (now (a .model))) (now (a .model)) (fieldsMeant (a .undefined) (now (a .text)) (lentOf (now (a .rows)) (now (a .cells)) []) (now (a .cells))) (length (now (a .cells)) + 3) _ (a .first) _ (a .put) (n .result) (now (a .out)) (s .pre) (omega (arith, m)) (ap (λ (l : List ℤ). spaced (pairFields (a .undefined) (now (a .text)) (lentOf (now (a .rows)) (now (a .cells)) []) (pairsAt (now (a .model)) (a .first)) l)) (row-fields (now (a .cells)) (a .row) _ m)) (n .ensures (now (a .out)))
 
 kind-at-requires : tie.Need-kind-at-requires Inv-loop μ-loop
 kind-at-requires c κs = walk-room (c .loop .inv)
 
 same-length : tie.Need-same-length Inv-loop μ-loop
-same-length c = c .before .before .loop .inv .left .size
+same-length c = c .before .before .loop .inv .left .puts .room
 
 returns : tie.Need-returns Inv-loop μ-loop
 returns c =
-    let a = c .before .before .before .before .before .before .before .before .args in
-    walk-end (c .before .before .loop .inv) (λ e. c .if1 .taken (c .before .kind-at .ensures ∙ e)) (no-fields (a .undefined) (now (a .text)) (lentOf (now (a .rows)) (now (a .cells)) []) (now (a .cells)) (c .before .before .loop .cell))
+    let l = c .before .before in
+    let a = c .before .before .before .before .before .before .before .before .before .args in
+    walk-end (l .loop .inv) (a .put) (λ e. c .if1 .taken (c .before .kind-at .ensures ∙ e)) (no-fields (a .undefined) (now (a .text)) (lentOf (now (a .rows)) (now (a .cells)) []) (now (a .cells)) (l .loop .cell)) (l .before .put-nothing .ensures (now (a .out)))
 
 put-attribute-at-requires : tie.Need-put-attribute-at-requires Inv-loop μ-loop
 put-attribute-at-requires c κs =
-    let s = c .before .before .before .before .before .before .before .before .before in
-    let i = c .before .before .before .loop .inv in
-    let e = (sym (c .before .before .kind-at .ensures) ∙ c .before .if1 .left) in
-    (walk-good i e, (i .left .within, omega (arith, i .few, walk-parts i e, s .good .0, s .good .1 .1 .1 .1 .1 .0)))
-
-enum-known-put : tie.Need-enum-known-put Inv-loop μ-loop
-enum-known-put c = search needs
-
-enum-told : tie.Need-enum-told Inv-loop μ-loop
-enum-told c = search needs
-
-same-length-2 : tie.Need-same-length-2 Inv-loop μ-loop
-same-length-2 c = c .before .before .before .before .put-attribute-at .kept .1 .1 .1 .1 .1 .1 .1 .0 ∙ c .before .before .before .before .before .before .before .before .loop .inv .left .size
-
-returns-2 : tie.Need-returns-2 Inv-loop μ-loop
-returns-2 c =
-    let a = c .before .before .before .before .before .before .before .before .before .before .before .before .before .before .args in
-    let p = c .before .before .before .before .put-attribute-at in
-    walk-stop (c .before .before .before .before .before .before .before .before .loop .inv) (sym (c .before .before .before .before .before .before .before .kind-at .ensures) ∙ c .before .before .before .before .before .before .if1 .left) _ _ (record { fields = refl; pairs = refl }) (fields-meant (a .undefined) (now (a .text)) (lentOf (now (a .rows)) (now (a .cells)) []) (now (a .cells))) _ (p .result) (p .ensures) (c .enum-told .given .1)
+    let t = c .before in
+    let i = t .before .before .loop .inv in
+    let e = sym (t .before .kind-at .ensures) ∙ t .if1 .left in
+    let s = c .before .before .before .before .before .before .before .before .before .before in
+    (walk-good i e, omega (arith, i .few, walk-parts i e, s .good .0, s .good .1 .1 .1 .1 .1 .0))
 
 add-count-of : tie.Need-add-count-of Inv-loop μ-loop
-add-count-of c = let q = walk-parts (c .before .before .before .before .before .before .before .before .before .loop .inv) (sym (c .before .before .before .before .before .before .before .before .kind-at .ensures) ∙ c .before .before .before .before .before .before .before .if1 .left) in omega (arith, c .before .before .before .before .before .before .before .before .before .before .before .before .before .before .before .good .0)
+add-count-of c =
+    let t = c .before .before .before .before in
+    let i = t .before .before .loop .inv in
+    let e = sym (t .before .kind-at .ensures) ∙ t .if1 .left in
+    omega (arith, walk-parts i e, c .before .before .before .before .before .before .before .before .before .before .before .before .before .good .0)
 
 shared-slice-read-count-of : tie.Need-shared-slice-read-count-of Inv-loop μ-loop
-shared-slice-read-count-of c = let q = walk-parts (c .before .before .before .before .before .before .before .before .before .before .loop .inv) (sym (c .before .before .before .before .before .before .before .before .before .kind-at .ensures) ∙ c .before .before .before .before .before .before .before .before .if1 .left) in omega arith
+shared-slice-read-count-of c =
+    let t = c .before .before .before .before .before in
+    let i = t .before .before .loop .inv in
+    let e = sym (t .before .kind-at .ensures) ∙ t .if1 .left in
+    omega (arith, walk-parts i e)
 
 count-of-requires : tie.Need-count-of-requires Inv-loop μ-loop
 count-of-requires c κs = search needs
 
 mul-cell : tie.Need-mul-cell Inv-loop μ-loop
-mul-cell c = omega (arith, walk-count (c .before .before .before .before .before .before .before .before .before .before .before .before .loop .inv) (sym (c .before .before .before .before .before .before .before .before .before .before .before .kind-at .ensures) ∙ c .before .before .before .before .before .before .before .before .before .before .if1 .left) _ _ (c .before .count-of .ensures))
+mul-cell c =
+    let t = c .before .before .before .before .before .before .before in
+    let i = t .before .before .loop .inv in
+    let e = sym (t .before .kind-at .ensures) ∙ t .if1 .left in
+    omega (arith, walk-count i e _ _ (c .before .count-of .ensures))
 
 add-cell-2 : tie.Need-add-cell-2 Inv-loop μ-loop
-add-cell-2 c = let s = c .before .before .before .before .before .before .before .before .before .before .before .before .before .before .before .before .before .before in let q = walk-parts (c .before .before .before .before .before .before .before .before .before .before .before .before .loop .inv) (sym (c .before .before .before .before .before .before .before .before .before .before .before .kind-at .ensures) ∙ c .before .before .before .before .before .before .before .before .before .before .if1 .left) in omega (arith, walk-count (c .before .before .before .before .before .before .before .before .before .before .before .before .loop .inv) (sym (c .before .before .before .before .before .before .before .before .before .before .before .kind-at .ensures) ∙ c .before .before .before .before .before .before .before .before .before .before .if1 .left) _ _ (c .before .count-of .ensures), c .before .before .before .before .before .before .before .before .before .before .before .before .loop .inv .few, s .good .1 .1 .1 .1 .1 .0, s .good .0)
+add-cell-2 c =
+    let t = c .before .before .before .before .before .before .before in
+    let i = t .before .before .loop .inv in
+    let e = sym (t .before .kind-at .ensures) ∙ t .if1 .left in
+    let s = c .before .before .before .before .before .before .before .before .before .before .before .before .before .before .before .before in
+    omega (arith, walk-count i e _ _ (c .before .count-of .ensures), walk-parts i e, i .few, s .good .1 .1 .1 .1 .1 .0, s .good .0)
 
 next-at-requires : tie.Need-next-at-requires Inv-loop μ-loop
-next-at-requires c κs = walk-room (c .before .before .before .before .before .before .before .before .before .before .before .before .loop .inv)
+next-at-requires c κs = walk-room (c .before .before .before .before .before .before .before .before .before .loop .inv)
 
 loop-less : tie.Need-loop-less Inv-loop μ-loop
-loop-less c = omega (arith, walk-less (c .before .before .before .before .before .before .before .before .before .before .before .before .before .loop .inv), c .next-at .ensures)
+loop-less c = omega (arith, walk-less (c .before .before .before .before .before .before .before .before .before .before .loop .inv), c .next-at .ensures)
 
 loop-again : tie.Need-loop-again Inv-loop μ-loop
 loop-again c =
-    let a = c .before .before .before .before .before .before .before .before .before .before .before .before .before .before .before .before .before .before .before .args in
-    let p = c .before .before .before .before .before .before .before .before .before .put-attribute-at in
-    rw (c .next-at .ensures) (walk-on (c .before .before .before .before .before .before .before .before .before .before .before .before .before .loop .inv) (sym (c .before .before .before .before .before .before .before .before .before .before .before .before .kind-at .ensures) ∙ c .before .before .before .before .before .before .before .before .before .before .before .if1 .left) _ _ (c .before .before .count-of .ensures) (fields-meant (a .undefined) (now (a .text)) (lentOf (now (a .rows)) (now (a .cells)) []) (now (a .cells))) _ (p .result) (p .ensures) _ (c .before .before .before .before .before .put .given .1))
+    let t = c .before .before .before .before .before .before .before .before in
+    let i = t .before .before .loop .inv in
+    let e = sym (t .before .kind-at .ensures) ∙ t .if1 .left in
+    let a = c .before .before .before .before .before .before .before .before .before .before .before .before .before .before .before .before .before .args in
+    let p = c .before .before .before .before .before .before .put-attribute-at in
+    rw (c .next-at .ensures) (walk-on i e _ _ (c .before .before .count-of .ensures) (fields-meant (a .undefined) (now (a .text)) (lentOf (now (a .rows)) (now (a .cells)) []) (now (a .cells))) _ (p .result) (p .ensures))
 
 pub put-pairs-spec : {M : Type 1} → statement M
 put-pairs-spec =
@@ -103,15 +114,12 @@ put-pairs-spec =
     μ-loop
     least-of-requires
     add-cell
+    put-nothing-requires
     loop-holds
     kind-at-requires
     same-length
     returns
     put-attribute-at-requires
-    enum-known-put
-    enum-told
-    same-length-2
-    returns-2
     add-count-of
     shared-slice-read-count-of
     count-of-requires

@@ -1,17 +1,11 @@
--- Bytes put behind what stands in a room already.
+-- Lines of fields as they are written, and what is fit for it.
 use Prim.Native.Nat.{ℕ, _≤_}
 use mathlib.Core.Path.{_≡_}
-use mathlib.Core.List.{List, _++_}
+use mathlib.Core.List.{List}
 use Rattle.meaning.specs.Model.{Model}
 use Rattle.meaning.specs.Writing.{linesBytes}
 use Rattle.meaning.specs.Width.{cutLines}
-use Rattle.write_lines.specs.declared.Put.{Put}
-use Rattle.write_lines.specs.Puts.{Puts}
 use Rattle.write_file.specs.declared.lines.LineStyle.{LineStyle}
-
--- whatever was put before, with this answer, now has bs behind it
-pub record Follows (bs : List ℕ) (before : Put) (entry exit : List ℕ) (r : Put) : Type 0 where
-  pub joins : (xs : List ℕ) (n : ℕ) (e : List ℕ) → Puts xs n e entry before → Puts (xs ++ bs) n e exit r
 
 -- lines of fields as they are written
 abbrev pub cutOf : LineStyle → List (List (List ℕ)) → List ℕ
