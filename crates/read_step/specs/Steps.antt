@@ -2,7 +2,7 @@
 -- buffers.
 use Prim.Native.Nat.{ℕ, _+_}
 use mathlib.Core.Path.{_≡_}
-use mathlib.Core.List.{List, []}
+use mathlib.Core.List.{List}
 use lib.IntN.{ℤ}
 use lib.ListN.{length}
 use Rattle.meaning.specs.Field.{fieldsOf}
@@ -17,12 +17,9 @@ use Rattle.read_state.specs.declared.Due.{Due}
 use Rattle.read_state.specs.declared.State.{State}
 use Rattle.read_state.specs.declared.Step.{Step}
 use Rattle.read_polylines.specs.Ways.{StepHolds}
+use Rattle.table.specs.Contents.{marksOnly}
 
 -- ## Marks
-
--- a table with these marks and nothing else
-abbrev pub marksOnly : (marks : List ℕ) → Content
-marksOnly marks = record { marks = marks; rows = []; cells = []; points = [] }
 
 -- the marks behind a line that begins a topic
 abbrev pub topicMarksBy : FrameDue → (marks : List ℕ) → List ℕ

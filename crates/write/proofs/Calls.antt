@@ -22,7 +22,7 @@ use Rattle.model_check.proofs.Found.{found-bad}
 use Rattle.write_lines.specs.declared.Put.{Put}
 use Rattle.write_lines.specs.Puts.{Puts}
 use Rattle.write_lines.proofs.Puts.{at-front}
-use Rattle.write_file.specs.Walks.{contentIn}
+use Rattle.table.specs.Contents.{contentIn}
 use Rattle.write.specs.Answers.{refusalOf, Fitting, Limited, settledOf}
 
 module _ (b : List ℕ) (t : Lent) (width room : ℕ) where

@@ -9,7 +9,7 @@ ghost use Rattle.meaning.specs.Width.{cutLines, writeChecked};
 ghost use Rattle.model_records.specs.Records.{modelAt};
 ghost use Rattle.model_records.specs.Places.{Placed};
 ghost use Rattle.write_file.specs.Styles.{Fit};
-ghost use Rattle.write_file.specs.Walks.{contentIn};
+ghost use Rattle.table.specs.Contents.{contentIn};
 ghost use Rattle.write.specs.Answers.{answerOf, refusalOf, Fitting, Limited, settledOf};
 use crate::Answer;
 use base::numbers::least_of;

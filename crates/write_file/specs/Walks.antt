@@ -16,10 +16,6 @@ use Rattle.write_file.specs.declared.lines.LineStyle.{LineStyle}
 use Rattle.write_file.specs.declared.walk.Walked.{Walked}
 use Rattle.write_file.specs.Styles.{cutOf}
 
--- the table whose lines are written
-abbrev pub contentIn : (marks rows : List ℕ) (cells points : List ℤ) → Content
-contentIn marks rows cells points = record { marks = marks; rows = rows; cells = cells; points = points }
-
 -- ## Rows
 
 -- from row number `row` on the rows before r are of table t, and r is of another

@@ -27,7 +27,7 @@ use Rattle.table.specs.Rows.{identificationOf, Row, Listed}
 use Rattle.table_index.specs.Index.{hashOf, insertOf}
 use Rattle.table_index.specs.Holds.{Known}
 use Rattle.table_index.proofs.More.{known-more}
-use Rattle.write_judge.specs.Meant.{contentFrom}
+use Rattle.table.specs.Contents.{contentIn}
 use Rattle.write_judge.specs.Rows.{tableTests, nameTests}
 
 -- ## A cell and a number
@@ -244,7 +244,7 @@ module _ (b : List ℕ) (shape : Shape) (places marks : List ℕ) (placed : Plac
   Z = not (isUsed (identificationBytes text cells at) (lentObjects text cells (take o rows)))
 
   abbrev J : Bool
-  J = judgeRow m text (contentFrom marks [] cells []) least at (take o rows)
+  J = judgeRow m text (contentIn marks [] cells []) least at (take o rows)
 
   row-split : J ≡ (X && (Y && Z))
   unfolding judgeRow allOf tableTests nameTests

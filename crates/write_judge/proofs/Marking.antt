@@ -16,7 +16,8 @@ use Rattle.meaning.specs.Judge.{judgeTables}
 use Rattle.model_records.specs.Records.{modelAt}
 use Rattle.model_records.specs.Places.{topicOf}
 use Rattle.model_records.specs.declared.places.Shape.{Shape}
-use Rattle.write_judge.specs.Marks.{Judging, marksOnly, tablesFrom, isFine}
+use Rattle.write_judge.specs.Marks.{Judging, tablesFrom, isFine}
+use Rattle.table.specs.Contents.{marksOnly}
 
 -- ## The judge of tables
 

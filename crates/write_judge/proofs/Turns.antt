@@ -18,7 +18,8 @@ use Rattle.meaning.specs.Judge as judge
 use Rattle.meaning.specs.Judge.{afterFound, judgePairs, rowEnd, judgeRow, judgeRows}
 use Rattle.meaning.proofs.Tests.Refuse.{holds}
 use Rattle.table_index.proofs.Kept.{held-start}
-use Rattle.write_judge.specs.Meant.{fineOf, contentFrom}
+use Rattle.write_judge.specs.Meant.{fineOf}
+use Rattle.table.specs.Contents.{contentIn}
 use Rattle.write_judge.specs.Rows.{AtRow, rowsFrom, Turned}
 use Rattle.write_judge.specs.declared.pairs.Fine.{Fine}
 use Rattle.write_judge.specs.declared.pairs.Fine.the-variants as fine
@@ -53,11 +54,11 @@ go-on false = refl
 
 module _ (m : Model) (text marks rows : List ℕ) (cells points : List ℤ) where
   abbrev c : Content
-  c = contentFrom marks rows cells points
+  c = contentIn marks rows cells points
 
   -- the judge of a row says nothing of rows and points
   abbrev J : (o : ℕ) → Place → Bool
-  J o p = judgeRow m text (contentFrom marks [] cells []) (p .least) (p .at) (take o rows)
+  J o p = judgeRow m text (contentIn marks [] cells []) (p .least) (p .at) (take o rows)
 
   abbrev P : Place → Found
   P p = judgePairs (m .undefined) text c true (p .points) (judge.pairsAt m cells (p .at)) (drop (p .at + 3) cells)
@@ -139,7 +140,7 @@ pub record RowsLeft (m : Model) (seed : ℕ) (text marks rows : List ℕ) (cells
   pub here : AtRow seed text rows cells points index o p
   pub count : o ≤ length rows
   pub size : length index ≡ length index₀
-  pub same : rowsFrom m text marks rows cells points o p ≡ judgeRows m text (contentFrom marks rows cells points) 0 0 0 [] rows
+  pub same : rowsFrom m text marks rows cells points o p ≡ judgeRows m text (contentIn marks rows cells points) 0 0 0 [] rows
 
 module _ (m : Model) (seed : ℕ) (text marks rows : List ℕ) (cells points : List ℤ) (index₀ : List ℕ) where
   pub left-start : index₀ ≡ replicate (length index₀) 0 → RowsLeft m seed text marks rows cells points index₀ index₀ (record { least = 0; at = 0; points = 0 }) 0
@@ -152,14 +153,14 @@ module _ (m : Model) (seed : ℕ) (text marks rows : List ℕ) (cells points : L
 
   module _ (index : List ℕ) (p : Place) (o : ℕ) (i : RowsLeft m seed text marks rows cells points index₀ index p o) where
     -- no row more
-    pub left-end : length rows ≤ o → (eqb (p .at) (length cells) && eqb (4 * p .points) (length points)) ≡ judgeRows m text (contentFrom marks rows cells points) 0 0 0 [] rows
+    pub left-end : length rows ≤ o → (eqb (p .at) (length cells) && eqb (4 * p .points) (length points)) ≡ judgeRows m text (contentIn marks rows cells points) 0 0 0 [] rows
     left-end l = sym (rows-end m text marks rows cells points o p l) ∙ i .same
 
     abbrev Answered : (index′ : List ℕ) → Judged → Type 0
     Answered index′ r = Turned (rowsFrom m text marks rows cells points o p) (rowsFrom m text marks rows cells points (o + 1)) (AtRow seed text rows cells points index′ (o + 1)) r
 
     -- its row is not fine
-    pub left-stop : (index′ : List ℕ) (r : Judged) → Answered index′ r → r ≡ judged.No → false ≡ judgeRows m text (contentFrom marks rows cells points) 0 0 0 [] rows
+    pub left-stop : (index′ : List ℕ) (r : Judged) → Answered index′ r → r ≡ judged.No → false ≡ judgeRows m text (contentIn marks rows cells points) 0 0 0 [] rows
     left-stop index′ r h e = subst (Answered index′) e h ∙ i .same
 
     -- its row is fine

@@ -27,7 +27,8 @@ use Rattle.model_records.specs.Attributes.{typeOf, Decoded}
 use Rattle.model_records.specs.Counts.{pairCount}
 use Rattle.model_records.proofs.Standing.{attribute-here, no-attribute}
 use Rattle.model_records.proofs.Counting.{own-count}
-use Rattle.write_judge.specs.Meant.{contentFrom, Counted}
+use Rattle.write_judge.specs.Meant.{Counted}
+use Rattle.table.specs.Contents.{contentIn}
 use Rattle.write_judge.proofs.Signs.{alone}
 use Rattle.write_judge.proofs.Values.{type-coordinate, type-line}
 
@@ -314,14 +315,14 @@ module _ (b : List ℕ) (u : ℕ) (text rows : List ℕ) (cells points : List �
     pub standing : Standing (modelAt b) b at topics tables
     pub inside : here + 2 * length (pairsAt b at) ≤ length cells
     pub drawn : 4 * before ≤ length points
-    pub same : (marks : List ℕ) → judgePairs u text (contentFrom marks rows cells points) true before (pairsAt b at) (drop here cells)
-        ≡ judgePairs u text (contentFrom marks rows cells points) true k (pairsAt b first) (drop cell cells)
+    pub same : (marks : List ℕ) → judgePairs u text (contentIn marks rows cells points) true before (pairsAt b at) (drop here cells)
+        ≡ judgePairs u text (contentIn marks rows cells points) true k (pairsAt b first) (drop cell cells)
 
   pub pairs-start : AttributesHere (modelAt b) b first → cell + 2 * length (pairsAt b first) ≤ length cells → 4 * k ≤ length points → PairsLeft first cell k
   pairs-start h l m = record { topics = h .topics; tables = h .tables; standing = h .standing; inside = l; drawn = m; same = λ marks. refl }
 
   module _ (at here before : ℕ) (i : PairsLeft at here before) where
-    pub pairs-end : (kindAt b at ≡ 5 → ⊥) → (marks : List ℕ) → found before ≡ judgePairs u text (contentFrom marks rows cells points) true k (pairsAt b first) (drop cell cells)
+    pub pairs-end : (kindAt b at ≡ 5 → ⊥) → (marks : List ℕ) → found before ≡ judgePairs u text (contentIn marks rows cells points) true k (pairsAt b first) (drop cell cells)
     unfolding pairsOf judgePairs
     pairs-end n marks = rw (no-attribute (modelAt b) b at (i .topics) (i .tables) (i .standing) n) at (i .same marks)
 
@@ -346,23 +347,23 @@ module _ (b : List ℕ) (u : ℕ) (text rows : List ℕ) (cells points : List �
         pub count-inside : (count : ℕ) → count ≡ pairCount (a .kind) → here + 2 * count ≤ length cells
         count-inside count ec = omega (arith, own-inside, own-size)
 
-        turned : (marks : List ℕ) → judgePairs u text (contentFrom marks rows cells points) true k (pairsAt b first) (drop cell cells)
-            ≡ afterFound (judgePairs u text (contentFrom marks rows cells points) true before own (drop here cells)) missing (λ n. judgePairs u text (contentFrom marks rows cells points) true n (pairsAt b (nextAt b at)) (drop (here + 2 * length own) cells))
+        turned : (marks : List ℕ) → judgePairs u text (contentIn marks rows cells points) true k (pairsAt b first) (drop cell cells)
+            ≡ afterFound (judgePairs u text (contentIn marks rows cells points) true before own (drop here cells)) missing (λ n. judgePairs u text (contentIn marks rows cells points) true n (pairsAt b (nextAt b at)) (drop (here + 2 * length own) cells))
         turned marks =
-            sym (i .same marks) ∙ ap (λ (ps : List Pair). judgePairs u text (contentFrom marks rows cells points) true before ps (drop here cells)) pairs-here
-            ∙ attribute-turn u text (contentFrom marks rows cells points) own (attributesAt b (nextAt b at)) before here cells
+            sym (i .same marks) ∙ ap (λ (ps : List Pair). judgePairs u text (contentIn marks rows cells points) true before ps (drop here cells)) pairs-here
+            ∙ attribute-turn u text (contentIn marks rows cells points) own (attributesAt b (nextAt b at)) before here cells
 
-        pub pairs-stop : ((marks : List ℕ) → missing ≡ judgePairs u text (contentFrom marks rows cells points) true before own (drop here cells))
-            → (marks : List ℕ) → missing ≡ judgePairs u text (contentFrom marks rows cells points) true k (pairsAt b first) (drop cell cells)
+        pub pairs-stop : ((marks : List ℕ) → missing ≡ judgePairs u text (contentIn marks rows cells points) true before own (drop here cells))
+            → (marks : List ℕ) → missing ≡ judgePairs u text (contentIn marks rows cells points) true k (pairsAt b first) (drop cell cells)
         pairs-stop h marks = rw (turned marks, sym (h marks)) refl
 
-        pub pairs-on : (n : ℕ) → ((marks : List ℕ) → found n ≡ judgePairs u text (contentFrom marks rows cells points) true before own (drop here cells))
+        pub pairs-on : (n : ℕ) → ((marks : List ℕ) → found n ≡ judgePairs u text (contentIn marks rows cells points) true before own (drop here cells))
             → (count next : ℕ) → count ≡ pairCount (a .kind) → next ≡ nextAt b at → PairsLeft next (here + 2 * count) n
         pairs-on n h count next ec en = rw (ec, ← own-size, en) (record {
           topics = i .topics;
           tables = i .tables;
           standing = attribute-here (modelAt b) b at (i .topics) (i .tables) (i .standing) e .next;
           inside = own-inside;
-          drawn = pairs-within u text (contentFrom [] rows cells points) own true before n (drop here cells) (i .drawn) (sym (h []));
+          drawn = pairs-within u text (contentIn [] rows cells points) own true before n (drop here cells) (i .drawn) (sym (h []));
           same = λ marks. sym (turned marks ∙ rw (sym (h marks)) refl);
         })

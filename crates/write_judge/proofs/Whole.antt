@@ -19,7 +19,7 @@ use Rattle.model_records.specs.Records.{modelAt}
 use Rattle.model_records.specs.Places.{Placed}
 use Rattle.model_records.specs.declared.places.Shape.{Shape}
 use Rattle.write_judge.specs.Marks.{Judging}
-use Rattle.write_judge.specs.Meant.{contentFrom}
+use Rattle.table.specs.Contents.{contentIn}
 use Rattle.write_judge.specs.Tables.{judgeUsed}
 use Rattle.meaning.specs.Writing.{lentOf}
 
@@ -82,7 +82,7 @@ module _ (b : List ℕ) (shape : Shape) (places : List ℕ) (placed : Placed b s
   unfolding judge allOf
   whole-none h = rw (← fit-is, h)
 
-  pub whole-used : Fit ≡ true → judgeUsed (modelAt b) text (contentFrom (take count marks) (take objects rows) (take cellCount cells) (take (4 * pointCount) points)) ≡ judge (modelAt b) t
+  pub whole-used : Fit ≡ true → judgeUsed (modelAt b) text (contentIn (take count marks) (take objects rows) (take cellCount cells) (take (4 * pointCount) points)) ≡ judge (modelAt b) t
   unfolding judge judgeUsed allOf contentOf
   whole-used h = rw (← fit-is, h, placed .topics, placed .tables)
 

@@ -39,10 +39,6 @@ abbrev pub fineOf : Fine → Found
 fineOf (fine.At k) = found k
 fineOf fine.No = missing
 
--- a table whose cells and points are these; its marks say nothing of a pair
-abbrev pub contentFrom : (marks rows : List ℕ) (cells points : List ℤ) → Content
-contentFrom marks rows cells points = record { marks = marks; rows = rows; cells = cells; points = points }
-
 -- the second cell of a pair whose first one is 1: "Reference: 1 and the number of the object.
 -- Number, date, enumeration: 1 and the value"
 unfoldable pub judgeSecond : Content → AttributeType → (b : ℤ) → Bool

@@ -13,7 +13,7 @@ use Rattle.meaning.specs.Reading.{cellAt}
 use Rattle.meaning.specs.Judge.{judgeStretch, judgeRows}
 use Rattle.model_records.specs.declared.places.Shape.{Shape}
 use Rattle.table_index.specs.Holds.{Known}
-use Rattle.write_judge.specs.Meant.{contentFrom}
+use Rattle.table.specs.Contents.{contentIn}
 use Rattle.write_judge.specs.declared.rows.Place.{Place}
 use Rattle.write_judge.specs.declared.rows.Judged.{Judged}
 use Rattle.write_judge.specs.declared.rows.Judged.the-variants.{On, No}
@@ -42,7 +42,7 @@ pub record AtRow (seed : ℕ) (text rows : List ℕ) (cells points : List ℤ) (
 -- the judge of the rows from that of object o on
 unfoldable pub rowsFrom : Model → (text marks rows : List ℕ) (cells points : List ℤ) (o : ℕ) → Place → Bool
 rowsFrom m text marks rows cells points o p =
-    judgeRows m text (contentFrom marks rows cells points) (p .least) (p .at) (p .points) (take o rows) (drop o rows)
+    judgeRows m text (contentIn marks rows cells points) (p .least) (p .at) (p .points) (take o rows) (drop o rows)
 
 -- a row is fine, and the next one's place says what the row's place said; or it is not fine
 abbrev pub Turned : (whole : Bool) (next : Place → Bool) (Holds : Place → Type 0) → Judged → Type 0

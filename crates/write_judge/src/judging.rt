@@ -8,7 +8,7 @@ ghost use Rattle.meaning.specs.Judge as meaning;
 ghost use Rattle.model_records.specs.Records.{modelAt};
 ghost use Rattle.model_records.specs.Places.{Placed};
 ghost use Rattle.write_judge.specs.Marks.{Judging};
-ghost use Rattle.write_judge.specs.Meant.{contentFrom};
+ghost use Rattle.table.specs.Contents.{contentIn};
 ghost use Rattle.write_judge.specs.Tables.{judgeUsed};
 ghost use Rattle.meaning.specs.Writing.{lentOf};
 use crate::marks;
@@ -50,7 +50,7 @@ fn judge_used(
 ) -> bool
     requires { ⌜ Judging (now model) shape (now places) (now marks) ⌝ }
     ensures { λ r. ⌜ r ≡ judgeUsed (modelAt (now (model .entry))) (now (text .entry))
-        (contentFrom (now (marks .entry)) (now (rows .entry)) (now (cells .entry)) (now (points .entry))) ⌝ }
+        (contentIn (now (marks .entry)) (now (rows .entry)) (now (cells .entry)) (now (points .entry))) ⌝ }
 {
     if !marks::are_marks(marks) {
         return false;

@@ -14,7 +14,8 @@ ghost use Rattle.meaning.specs.Judge.{judgeComponent, judgeLine, fineIf, judgeP
 ghost use Rattle.model_records.specs.Components.{componentOf, componentsOf};
 ghost use Rattle.model_records.specs.Records.{modelAt, pairsAt};
 ghost use Rattle.model_records.specs.Attributes.{typeOf};
-ghost use Rattle.write_judge.specs.Meant.{fineOf, contentFrom, judgeSecond, Counted};
+ghost use Rattle.write_judge.specs.Meant.{fineOf, judgeSecond, Counted};
+ghost use Rattle.table.specs.Contents.{contentIn};
 ghost use Rattle.model_records.specs.Standing.{AttributesHere};
 use crate::cells;
 use crate::points;
@@ -72,7 +73,7 @@ fn judge_leaf(leaves: usize, b: i64) -> bool
 // "Reference: 1 and the number of the object", which is of the target's table.
 fn judge_reference(rows: &[u64], cells: &[i64], target: usize, b: i64) -> bool
     ensures { λ r. ⌜ ((marks : List ℕ) (points : List ℤ) →
-        r ≡ judgeReference (contentFrom marks (now (rows .entry)) (now (cells .entry)) points) target b) ⌝ }
+        r ≡ judgeReference (contentIn marks (now (rows .entry)) (now (cells .entry)) points) target b) ⌝ }
 {
     if cells::is_below(b, 0) {
         return false;
@@ -106,7 +107,7 @@ fn judge_text(text: &[u8], undefined: u8, longest: usize, a: i64, b: i64) -> boo
 fn judge_second(attribute: Attribute, rows: &[u64], cells: &[i64], b: i64) -> bool
     requires { ⌜ length (attribute .components .items) ≡ 3 ⌝ }
     ensures { λ r. ⌜ ((marks : List ℕ) (points : List ℤ) →
-        r ≡ judgeSecond (contentFrom marks (now (rows .entry)) (now (cells .entry)) points) (typeOf attribute) b) ⌝ }
+        r ≡ judgeSecond (contentIn marks (now (rows .entry)) (now (cells .entry)) points) (typeOf attribute) b) ⌝ }
 {
     let kind = attribute.kind;
     let components = attribute.components;
@@ -132,7 +133,7 @@ fn judge_value(
 ) -> bool
     requires { ⌜ length (attribute .components .items) ≡ 3 ⌝ }
     ensures { λ r. ⌜ ((marks : List ℕ) (points : List ℤ) →
-        let t = contentFrom marks (now (rows .entry)) (now (cells .entry)) points in
+        let t = contentIn marks (now (rows .entry)) (now (cells .entry)) points in
         r ≡ judgeValue undefined (now (text .entry)) t (typeOf attribute) a b) ⌝ }
 {
     let kind = attribute.kind;
@@ -164,7 +165,7 @@ fn judge_own(
 ) -> bool
     requires { ⌜ length (attribute .components .items) ≡ 3 ⌝ }
     ensures { λ r. ⌜ ((marks : List ℕ) (points : List ℤ) →
-        let t = contentFrom marks (now (rows .entry)) (now (cells .entry)) points in
+        let t = contentIn marks (now (rows .entry)) (now (cells .entry)) points in
         r ≡ choose (cellIs a 0) (judgeUndefined (attribute .optional) b)
         (judgeValue undefined (now (text .entry)) t (typeOf attribute) a b)) ⌝ }
 {
@@ -259,7 +260,7 @@ fn judge_drawn(
     requires { ⌜ (2 ≤ components .count) × (components .count ≤ 3) × (length (components .items) ≡ 3) ⌝ }
     requires { ⌜ 4 * k ≤ length (now points) ⌝ }
     ensures { λ r. ⌜ ((marks rows : List ℕ) (cells : List ℤ) →
-        let t = contentFrom marks rows cells (now (points .entry)) in
+        let t = contentIn marks rows cells (now (points .entry)) in
         fineOf r ≡ fineIf (judgeLine t k forms (componentsOf components) a b) (k + (natAbs a - 1))) ⌝ }
 {
     if cells::is_below(a, 2) {
@@ -284,7 +285,7 @@ fn judge_line(attribute: Attribute, points: &[i64], k: usize, a: i64, b: i64) ->
         × (length (attribute .components .items) ≡ 3) ⌝ }
     requires { ⌜ 4 * k ≤ length (now points) ⌝ }
     ensures { λ r. ⌜ ((undefined : ℕ) (text marks rows : List ℕ) (cells : List ℤ) →
-        fineOf r ≡ judgePair undefined text (contentFrom marks rows cells (now (points .entry))) true k
+        fineOf r ≡ judgePair undefined text (contentIn marks rows cells (now (points .entry))) true k
         (OfLine (attribute .optional) (attribute .number) (componentsOf (attribute .components))) a b) ⌝ }
 {
     let components = attribute.components;
@@ -310,7 +311,7 @@ fn judge_attribute(
     requires { ⌜ cell + 2 * length (pairsOfType (attribute .optional) (typeOf attribute)) ≤ length (now cells) ⌝ }
     requires { ⌜ 4 * k ≤ length (now points) ⌝ }
     ensures { λ r. ⌜ ((marks : List ℕ) → fineOf r ≡ judgePairs undefined (now (text .entry))
-        (contentFrom marks (now (rows .entry)) (now (cells .entry)) (now (points .entry))) true k
+        (contentIn marks (now (rows .entry)) (now (cells .entry)) (now (points .entry))) true k
         (pairsOfType (attribute .optional) (typeOf attribute)) (drop cell (now (cells .entry)))) ⌝ }
 {
     let kind = attribute.kind;
@@ -352,7 +353,7 @@ pub(crate) fn judge_pairs(
     requires { ⌜ cell + 2 * length (pairsAt (now model) first) ≤ length (now cells) ⌝ }
     requires { ⌜ 4 * k ≤ length (now points) ⌝ }
     ensures judged { λ r. ⌜ ((marks : List ℕ) → fineOf r ≡ judgePairs undefined (now (text .entry))
-        (contentFrom marks (now (rows .entry)) (now (cells .entry)) (now (points .entry))) true k
+        (contentIn marks (now (rows .entry)) (now (cells .entry)) (now (points .entry))) true k
         (pairsAt (now (model .entry)) first) (drop cell (now (cells .entry)))) ⌝ }
     ensures within { λ r. ⌜ ((n : ℕ) → r ≡ Fine.At n → 4 * n ≤ length (now (points .entry))) ⌝ }
 {

@@ -14,7 +14,7 @@ ghost use Rattle.model_records.specs.Records.{modelAt};
 ghost use Rattle.table.specs.Rows.{identificationOf, Row};
 ghost use Rattle.table_index.specs.Holds.{Known};
 ghost use Rattle.write_judge.specs.Marks.{Judging};
-ghost use Rattle.write_judge.specs.Meant.{contentFrom};
+ghost use Rattle.table.specs.Contents.{contentIn};
 ghost use Rattle.write_judge.specs.Rows.{AtRow, tableTests, nameTests, rowsFrom, Turned};
 use crate::cells;
 use crate::pairs;
@@ -158,7 +158,7 @@ fn judge_row(
     requires { ⌜ (object < length (now rows)) × (getD (now rows) object 0 ≡ place .at)
         × (place .at ≤ length (now cells)) ⌝ }
     ensures end { λ r. ⌜ (let m = modelAt (now (model .entry)) in
-        r ≡ choose (judgeRow m (now (text .entry)) (contentFrom (now (marks .entry)) [] (now (cells .entry)) [])
+        r ≡ choose (judgeRow m (now (text .entry)) (contentIn (now (marks .entry)) [] (now (cells .entry)) [])
         (place .least) (place .at) (take object (now (rows .entry)))) (rowEnd m (now (cells .entry)) (place .at)) 0) ⌝ }
     ensures known { λ r. ⌜ (0 < r →
         Known seed (now (text .entry)) (now (rows .entry)) (now (cells .entry)) (now (index .exit)) (object + 1)) ⌝ }
@@ -258,7 +258,7 @@ pub(crate) fn judge_rows(
     requires { ⌜ Judging (now model) shape (now places) (now marks) ⌝ }
     requires { ⌜ now index ≡ replicate (length (now index)) 0 ⌝ }
     ensures { λ r. ⌜ r ≡ judgeRows (modelAt (now (model .entry))) (now (text .entry))
-        (contentFrom (now (marks .entry)) (now (rows .entry)) (now (cells .entry)) (now (points .entry)))
+        (contentIn (now (marks .entry)) (now (rows .entry)) (now (cells .entry)) (now (points .entry)))
         0 0 0 [] (now (rows .entry)) ⌝ }
 {
     let mut place = Place {

@@ -2,7 +2,7 @@
 use mathlib.Core.Path.{sym, _∙_}
 use denote.Ref.{now}
 use Rattle.model_records.specs.Records.{modelAt}
-use Rattle.write_file.specs.Walks.{contentIn}
+use Rattle.table.specs.Contents.{contentIn}
 use Rattle.write_file.proofs.Topics.{topic-over, topic-begun}
 use borrow.Author.Needs.{needs}
 use native.Mathlib.Omega.{arith}

@@ -4,7 +4,7 @@ use mathlib.Core.Path.{ap}
 use Rattle.meaning.specs.Width.{cutLines}
 use Rattle.model_records.specs.Records.{modelAt}
 use Rattle.model_records.proofs.Standing.{beginning}
-use Rattle.write_file.specs.Walks.{contentIn}
+use Rattle.table.specs.Contents.{contentIn}
 use Rattle.write_lines.proofs.Puts.{renamed}
 use Rattle.write_file.proofs.Frames.{lines-then}
 use Rattle.write_file.proofs.Topics.{whole-file}

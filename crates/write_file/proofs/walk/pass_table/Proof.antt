@@ -1,7 +1,7 @@
 -- `write_file::pass_table` meets its contract. Assumes nothing.
 use borrow.Author.Tests.{not-true, not-false}
 use denote.Ref.{now}
-use Rattle.write_file.specs.Walks.{contentIn}
+use Rattle.table.specs.Contents.{contentIn}
 use Rattle.write_file.proofs.Walks.{table-over, table-due}
 use borrow.Author.Needs.{needs}
 use Rattle.write_file.proofs.walk.pass_table.Statement.{statement}

@@ -6,7 +6,7 @@ use native.Mathlib.Omega.{arith}
 use mathlib.Core.Path.{sym, ap, _∙_}
 use mir.Syntax.{w64}
 use mir.ValLaws.{toZ-ofZ}
-use Rattle.write_judge.specs.Meant.{contentFrom}
+use Rattle.table.specs.Contents.{contentIn}
 use Rattle.write_judge.proofs.Signs.{size-low}
 use Rattle.write_judge.proofs.Walk.{line-none, line-elsewhere, line-outside, line-drawn, lent-points}
 use Rattle.write_judge.proofs.pairs.judge_drawn.Statement.{statement}
@@ -73,7 +73,7 @@ returns-4 c = λ marks rows cells. let s = c .before .before .before .before .be
     let t = toZ-ofZ w64 (s .args .a) (s .fits .a) in
     let z = rw t at (c .before .before .before .before .size-of .ensures) in
     rw (c .fine-if .ensures, c .before .judge-points .ensures)
-    (line-drawn (contentFrom marks rows cells (s .args .points .now)) (s .args .k) (s .args .forms) _ (s .args .a) (s .args .b) _ (sym (rw t at (c .before .before .before .before .before .before .before .before .is-below .ensures)) ∙ c .before .before .before .before .before .before .before .if1 .left) (sym (rw (toZ-ofZ w64 (s .args .b) (s .fits .b)) at (c .before .before .before .before .before .before .is-number .ensures)) ∙ not-false _ (c .before .before .before .before .before .if2 .left))
+    (line-drawn (contentIn marks rows cells (s .args .points .now)) (s .args .k) (s .args .forms) _ (s .args .a) (s .args .b) _ (sym (rw t at (c .before .before .before .before .before .before .before .before .is-below .ensures)) ∙ c .before .before .before .before .before .before .before .if1 .left) (sym (rw (toZ-ofZ w64 (s .args .b) (s .fits .b)) at (c .before .before .before .before .before .before .is-number .ensures)) ∙ not-false _ (c .before .before .before .before .before .if2 .left))
     _ (ap (λ (x : ℕ). x - 1) z) (omega (arith, s .pre .1)) _ (lent-points (s .args .points .now) _) _ (ap (λ (x : ℕ). s .args .k + (x - 1)) z))
 
 pub judge-drawn-spec : {M : Type 1} → statement M

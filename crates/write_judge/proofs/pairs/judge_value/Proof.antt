@@ -2,7 +2,7 @@
 use borrow.Author.Needs.{needs}
 use mir.Syntax.{w64}
 use mir.ValLaws.{toZ-ofZ}
-use Rattle.write_judge.specs.Meant.{contentFrom}
+use Rattle.table.specs.Contents.{contentIn}
 use Rattle.write_judge.proofs.Values.{type-text, value-second}
 use Rattle.write_judge.proofs.pairs.judge_value.Statement.{statement}
 use Rattle.write_judge.proofs.pairs.judge_value.Tie as tie
@@ -21,7 +21,7 @@ both-requires c κs = search needs
 
 returns : tie.Need-returns
 returns c = λ marks points. let s = c .before .before .before .before in
-    rw (type-text (s .args .attribute) (c .before .match .keys1)) (rw (toZ-ofZ w64 (s .args .a) (s .fits .a), toZ-ofZ w64 (s .args .b) (s .fits .b)) at (c .judge-text .ensures (contentFrom marks (s .args .rows .now) (s .args .cells .now) points)))
+    rw (type-text (s .args .attribute) (c .before .match .keys1)) (rw (toZ-ofZ w64 (s .args .a) (s .fits .a), toZ-ofZ w64 (s .args .b) (s .fits .b)) at (c .judge-text .ensures (contentIn marks (s .args .rows .now) (s .args .cells .now) points)))
 
 returns-2 : tie.Need-returns-2
 returns-2 c = λ marks points. let s = c .before .before .before .before .before .before in
