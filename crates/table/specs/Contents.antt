@@ -11,3 +11,7 @@ contentIn marks rows cells points = record { marks = marks; rows = rows; cells =
 -- marks and nothing else
 abbrev pub marksOnly : (marks : List ℕ) → Content
 marksOnly marks = contentIn marks [] [] []
+
+-- rows, cells and points without marks
+abbrev pub unmarkedIn : (rows : List ℕ) (cells points : List ℤ) → Content
+unmarkedIn rows cells points = contentIn [] rows cells points

@@ -23,7 +23,8 @@ use Rattle.model_records.specs.Components.{componentsOf}
 use Rattle.model_records.specs.declared.Attribute.{Attribute}
 use Rattle.model_records.specs.Attributes.{typeOf}
 use Rattle.model_records.proofs.Types.{coordinate-type, line-type}
-use Rattle.write_objects.specs.Given.{lentOf, GoodComponents, GoodAttribute}
+use Rattle.write_objects.specs.Given.{GoodComponents, GoodAttribute}
+use Rattle.table.specs.Contents.{unmarkedIn}
 use Rattle.write_objects.proofs.Typed.{one-of, own-pairs}
 
 -- ## A point
@@ -97,7 +98,7 @@ elin-line mark width = sym (append-nil (cutLine mark width ELIN))
 module _ (t : Attribute) (cells points : List ℤ) (cell : ℕ) where
   pub drawn : t .kind ≡ 8
       → pointLines (componentsOf (t .components)) (min (cellAt cells cell - 1) (length points / 4)) (drop (4 * cellAt cells (cell + 1)) points) ++ ((ELIN ∷ []) ∷ [])
-      ≡ attributeLines (lentOf [] cells points) (lineAttributes cell (pairsOfType (t .optional) (typeOf t)))
+      ≡ attributeLines (unmarkedIn [] cells points) (lineAttributes cell (pairsOfType (t .optional) (typeOf t)))
   unfolding attributeLines lineAttributes pairsOfType
   drawn e = rw (line-type t (inr (omega arith)))
 
@@ -121,7 +122,7 @@ module _ (t : Attribute) (cells points : List ℤ) (cell : ℕ) where
       go false y e f = let q = leb-false 2 (t .kind) e in rw (own-pairs t (one-of (t .kind) l h (λ x. omega arith) (λ x. omega arith) d))
 
   pub not-drawn : (mark width : ℕ) → 1 ≤ t .kind → t .kind ≤ 8 → (t .kind ≡ 8 → ⊥)
-      → [] ≡ cutLines mark width (linesBytes (attributeLines (lentOf [] cells points) (lineAttributes cell (pairsOfType (t .optional) (typeOf t)))))
+      → [] ≡ cutLines mark width (linesBytes (attributeLines (unmarkedIn [] cells points) (lineAttributes cell (pairsOfType (t .optional) (typeOf t)))))
   unfolding attributeLines linesBytes cutLines
   not-drawn mark width l h d = rw (no-line l h d)
 

@@ -26,7 +26,8 @@ use Rattle.model_records.specs.declared.Attribute.{Attribute}
 use Rattle.model_records.specs.Attributes.{typeOf, firstOf}
 use Rattle.model_records.proofs.Types.{coordinate-type, line-type}
 use Rattle.table.specs.Stretches.{Cut}
-use Rattle.write_objects.specs.Given.{lentOf, componentFields, GoodComponents, GoodAttribute}
+use Rattle.write_objects.specs.Given.{componentFields, GoodComponents, GoodAttribute}
+use Rattle.table.specs.Contents.{unmarkedIn}
 
 -- ## Cells outside the list
 
@@ -76,31 +77,31 @@ module _ (a : Attribute) (g : GoodAttribute a) where
 -- ## A value by its type
 
 module _ (text rows : List ℕ) (cells : List ℤ) (t : Attribute) (a b : ℤ) where
-  pub value-reference : t .kind ≡ 1 → identificationBytes text cells (getD rows (natAbs b) 0) ≡ typeBytes text (lentOf rows cells []) (typeOf t) a b
+  pub value-reference : t .kind ≡ 1 → identificationBytes text cells (getD rows (natAbs b) 0) ≡ typeBytes text (unmarkedIn rows cells []) (typeOf t) a b
   unfolding typeBytes typeOf choose
   value-reference e = rw e
 
-  pub value-number : t .kind ≡ 4 → numberBytes (firstOf (t .components .items) .decimals) b ≡ typeBytes text (lentOf rows cells []) (typeOf t) a b
+  pub value-number : t .kind ≡ 4 → numberBytes (firstOf (t .components .items) .decimals) b ≡ typeBytes text (unmarkedIn rows cells []) (typeOf t) a b
   unfolding typeBytes typeOf choose
   value-number e = rw e
 
-  pub value-text : t .kind ≡ 5 → stretchBytes text b (natAbs a - 1) ≡ typeBytes text (lentOf rows cells []) (typeOf t) a b
+  pub value-text : t .kind ≡ 5 → stretchBytes text b (natAbs a - 1) ≡ typeBytes text (unmarkedIn rows cells []) (typeOf t) a b
   unfolding typeBytes typeOf choose
   value-text e = rw e
 
-  pub value-date : t .kind ≡ 6 → dateBytes b ≡ typeBytes text (lentOf rows cells []) (typeOf t) a b
+  pub value-date : t .kind ≡ 6 → dateBytes b ≡ typeBytes text (unmarkedIn rows cells []) (typeOf t) a b
   unfolding typeBytes typeOf choose
   value-date e = rw e
 
-  pub value-leaf : t .kind ≡ 7 → numberBytes 0 b ≡ typeBytes text (lentOf rows cells []) (typeOf t) a b
+  pub value-leaf : t .kind ≡ 7 → numberBytes 0 b ≡ typeBytes text (unmarkedIn rows cells []) (typeOf t) a b
   unfolding typeBytes typeOf choose
   value-leaf e = rw e
 
-  pub value-nothing : (t .kind ≡ 1 → ⊥) → (t .kind ≡ 4 → ⊥) → (t .kind ≡ 5 → ⊥) → (t .kind ≡ 6 → ⊥) → (t .kind ≡ 7 → ⊥) → [] ≡ typeBytes text (lentOf rows cells []) (typeOf t) a b
+  pub value-nothing : (t .kind ≡ 1 → ⊥) → (t .kind ≡ 4 → ⊥) → (t .kind ≡ 5 → ⊥) → (t .kind ≡ 6 → ⊥) → (t .kind ≡ 7 → ⊥) → [] ≡ typeBytes text (unmarkedIn rows cells []) (typeOf t) a b
   unfolding typeBytes typeOf choose
   value-nothing n₁ n₄ n₅ n₆ n₇ = rw (ne-eqb (t .kind) 1 n₁, ne-eqb (t .kind) 4 n₄, ne-eqb (t .kind) 5 n₅, ne-eqb (t .kind) 6 n₆, ne-eqb (t .kind) 7 n₇) (go (eqb (t .kind) 2) (eqb (t .kind) 3))
     where
-      go : (x y : Bool) → [] ≡ typeBytes text (lentOf rows cells []) (choose x (Coordinate (componentsOf (t .components))) (choose y (Coordinate (componentsOf (t .components))) (Line (t .number) (componentsOf (t .components))))) a b
+      go : (x y : Bool) → [] ≡ typeBytes text (unmarkedIn rows cells []) (choose x (Coordinate (componentsOf (t .components))) (choose y (Coordinate (componentsOf (t .components))) (Line (t .number) (componentsOf (t .components))))) a b
       go true y = refl
       go false true = refl
       go false false = refl

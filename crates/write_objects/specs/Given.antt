@@ -8,16 +8,11 @@ use lib.ListN.{length, drop, getD}
 use Rattle.meaning.specs.Model.{Component}
 use Rattle.meaning.specs.Check.{goodComponents, goodType}
 use Rattle.meaning.specs.Digits.{numberBytes}
-use Rattle.meaning.specs.Reading.{Content}
 use Rattle.meaning.specs.Writing.{fieldBytes}
 use Rattle.model_records.specs.Components.{componentsOf}
 use Rattle.model_records.specs.declared.Components.{Components}
 use Rattle.model_records.specs.declared.Attribute.{Attribute}
 use Rattle.model_records.specs.Attributes.{typeOf}
-
--- the content of the lists that are lent; an object's lines say nothing of the marks
-abbrev pub lentOf : List ℕ → List ℤ → List ℤ → Content
-lentOf rows cells points = record { marks = []; rows = rows; cells = cells; points = points }
 
 -- the fields of a coordinate's components, whose cells are cs
 unfoldable pub componentFields : (u : ℕ) → List Component → List ℤ → List (List ℕ)

@@ -11,7 +11,8 @@ ghost use Rattle.meaning.specs.Writing.{stretchBytes, identificationBytes, type
 ghost use Rattle.model_records.specs.Components.{componentsOf};
 ghost use Rattle.model_records.specs.Attributes.{typeOf};
 ghost use Rattle.write_lines.specs.Puts.{Puts};
-ghost use Rattle.write_objects.specs.Given.{lentOf, componentFields, GoodComponents, GoodAttribute};
+ghost use Rattle.write_objects.specs.Given.{componentFields, GoodComponents, GoodAttribute};
+ghost use Rattle.table.specs.Contents.{unmarkedIn};
 use base::numbers::magnitude;
 use model_records::Attribute;
 use model_records::Components;
@@ -117,7 +118,7 @@ fn put_value(
     put: Put,
 ) -> Put
     requires { ⌜ GoodAttribute attribute ⌝ }
-    ensures { λ r. ⌜ (let c = lentOf (now (rows .entry)) (now (cells .entry)) [] in
+    ensures { λ r. ⌜ (let c = unmarkedIn (now (rows .entry)) (now (cells .entry)) [] in
         let bytes = typeBytes (now (text .entry)) c (typeOf attribute) a b in
         Puts bytes put (now (out .entry)) (now (out .exit)) r) ⌝ }
 {
@@ -164,7 +165,7 @@ fn put_value_field(
     put: Put,
 ) -> Put
     requires { ⌜ GoodAttribute attribute ⌝ }
-    ensures { λ r. ⌜ (let c = lentOf (now (rows .entry)) (now (cells .entry)) [] in
+    ensures { λ r. ⌜ (let c = unmarkedIn (now (rows .entry)) (now (cells .entry)) [] in
         let bytes = typeBytes (now (text .entry)) c (typeOf attribute) a b in
         Puts (0x20 ∷ bytes) put (now (out .entry)) (now (out .exit)) r) ⌝ }
 {
@@ -186,7 +187,7 @@ fn put_pair(
     requires { ⌜ GoodAttribute attribute ⌝ }
     ensures { λ r. ⌜ (let a = getD (drop cell (now (cells .entry))) 0 (pos 0) in
         let b = getD (drop cell (now (cells .entry))) 1 (pos 0) in
-        let c = lentOf (now (rows .entry)) (now (cells .entry)) [] in
+        let c = unmarkedIn (now (rows .entry)) (now (cells .entry)) [] in
         let field = fieldBytes undefined a (typeBytes (now (text .entry)) c (typeOf attribute) a b) in
         Puts (0x20 ∷ field) put (now (out .entry)) (now (out .exit)) r) ⌝ }
 {
@@ -260,7 +261,7 @@ pub(crate) fn put_attribute(
 ) -> Put
     requires { ⌜ GoodAttribute attribute ⌝ }
     requires { ⌜ cell + 6 < 2 ^ 64 ⌝ }
-    ensures { λ r. ⌜ (let c = lentOf (now (rows .entry)) (now (cells .entry)) [] in
+    ensures { λ r. ⌜ (let c = unmarkedIn (now (rows .entry)) (now (cells .entry)) [] in
         let pairs = pairsOfType (attribute .optional) (typeOf attribute) in
         let fields = pairFields undefined (now (text .entry)) c pairs (drop cell (now (cells .entry))) in
         Puts (spaced fields) put (now (out .entry)) (now (out .exit)) r) ⌝ }

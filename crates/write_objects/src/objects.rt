@@ -15,7 +15,8 @@ ghost use Rattle.model_records.specs.Components.{componentsOf};
 ghost use Rattle.model_records.specs.Records.{modelAt, payloadAt, pairsAt};
 ghost use Rattle.model_records.specs.Standing.{AttributeHere, AttributesHere};
 ghost use Rattle.write_lines.specs.Puts.{Puts};
-ghost use Rattle.write_objects.specs.Given.{lentOf, GoodComponents};
+ghost use Rattle.write_objects.specs.Given.{GoodComponents};
+ghost use Rattle.table.specs.Contents.{unmarkedIn};
 use crate::fields;
 use base::numbers::least_of;
 use base::numbers::magnitude;
@@ -43,7 +44,7 @@ fn put_attribute_at(
     requires { ⌜ cell + 6 < 2 ^ 64 ⌝ }
     ensures { λ r. ⌜ (let attribute = attributeOf at (payloadAt (now (model .entry)) at) in
         let pairs = pairsOfType (attribute .optional) (attribute .type) in
-        let c = lentOf (now (rows .entry)) (now (cells .entry)) [] in
+        let c = unmarkedIn (now (rows .entry)) (now (cells .entry)) [] in
         let fields = pairFields undefined (now (text .entry)) c pairs (drop cell (now (cells .entry))) in
         Puts (spaced fields) put (now (out .entry)) (now (out .exit)) r) ⌝ }
 {
@@ -64,7 +65,7 @@ fn put_pairs(
     put: Put,
 ) -> Put
     requires { ⌜ AttributesHere (modelAt (now model)) (now model) first ⌝ }
-    ensures { λ r. ⌜ (let c = lentOf (now (rows .entry)) (now (cells .entry)) [] in
+    ensures { λ r. ⌜ (let c = unmarkedIn (now (rows .entry)) (now (cells .entry)) [] in
         let pairs = pairsAt (now (model .entry)) first in
         let fields = pairFields undefined (now (text .entry)) c pairs (drop (row + 3) (now (cells .entry))) in
         Puts (spaced fields) put (now (out .entry)) (now (out .exit)) r) ⌝ }
@@ -96,7 +97,7 @@ fn put_object_bytes(
     put: Put,
 ) -> Put
     requires { ⌜ AttributesHere (modelAt (now model)) (now model) first ⌝ }
-    ensures { λ r. ⌜ (let c = lentOf (now (rows .entry)) (now (cells .entry)) [] in
+    ensures { λ r. ⌜ (let c = unmarkedIn (now (rows .entry)) (now (cells .entry)) [] in
         let pairs = pairsAt (now (model .entry)) first in
         let fields = pairFields undefined (now (text .entry)) c pairs (drop (row + 3) (now (cells .entry))) in
         let id = identificationBytes (now (text .entry)) (now (cells .entry)) row in
@@ -123,7 +124,7 @@ fn put_object_line(
 ) -> Put
     requires { ⌜ AttributesHere (modelAt (now model)) (now model) first ⌝ }
     requires { ⌜ (16 ≤ width) × (width ≤ 65535) ⌝ }
-    ensures { λ r. ⌜ (let c = lentOf (now (rows .entry)) (now (cells .entry)) [] in
+    ensures { λ r. ⌜ (let c = unmarkedIn (now (rows .entry)) (now (cells .entry)) [] in
         let pairs = pairsAt (now (model .entry)) first in
         let fields = pairFields undefined (now (text .entry)) c pairs (drop (row + 3) (now (cells .entry))) in
         let id = identificationBytes (now (text .entry)) (now (cells .entry)) row in
@@ -299,7 +300,7 @@ fn put_line_at(
     requires { ⌜ (16 ≤ width) × (width ≤ 65535) ⌝ }
     ensures { λ r. ⌜ (let attribute = attributeOf at (payloadAt (now (model .entry)) at) in
         let pairs = pairsOfType (attribute .optional) (attribute .type) in
-        let c = lentOf [] (now (cells .entry)) (now (points .entry)) in
+        let c = unmarkedIn [] (now (cells .entry)) (now (points .entry)) in
         let lines = attributeLines c (lineAttributes cell pairs) in
         Puts (cutLines mark width (linesBytes lines)) put (now (out .entry)) (now (out .exit)) r) ⌝ }
 {
@@ -325,7 +326,7 @@ fn put_attribute_lines(
 ) -> Put
     requires { ⌜ AttributesHere (modelAt (now model)) (now model) first ⌝ }
     requires { ⌜ (16 ≤ width) × (width ≤ 65535) ⌝ }
-    ensures { λ r. ⌜ (let c = lentOf [] (now (cells .entry)) (now (points .entry)) in
+    ensures { λ r. ⌜ (let c = unmarkedIn [] (now (cells .entry)) (now (points .entry)) in
         let lines = attributeLines c (lineAttributes (row + 3) (pairsAt (now (model .entry)) first)) in
         Puts (cutLines mark width (linesBytes lines)) put (now (out .entry)) (now (out .exit)) r) ⌝ }
 {

@@ -8,7 +8,7 @@ use denote.Ref.{now}
 use borrow.Author.Needs.{needs}
 use lib.ListN.{drop}
 use Rattle.write_lines.proofs.Puts.{renamed}
-use Rattle.write_objects.specs.Given.{lentOf}
+use Rattle.table.specs.Contents.{unmarkedIn}
 use Rattle.write_objects.proofs.Typed.{coordinate-good, attribute-coordinate, attribute-own, attribute-line}
 use Rattle.write_objects.proofs.fields.put_attribute.Statement.{statement}
 use Rattle.write_objects.proofs.fields.put_attribute.Tie as tie
@@ -30,7 +30,7 @@ put-pair-requires c κs = search needs
 returns : tie.Need-returns
 returns c =
     let a = c .before .before .before .before .before .args in
-    rw (sym (attribute-line (a .undefined) (now (a .text)) (lentOf (now (a .rows)) (now (a .cells)) []) (a .attribute) (drop (a .cell) (now (a .cells))) (c .before .match .keys1))) (c .put-nothing .ensures (now (a .out)))
+    rw (sym (attribute-line (a .undefined) (now (a .text)) (unmarkedIn (now (a .rows)) (now (a .cells)) []) (a .attribute) (drop (a .cell) (now (a .cells))) (c .before .match .keys1))) (c .put-nothing .ensures (now (a .out)))
 
 same-length : tie.Need-same-length
 same-length c = search needs
@@ -42,7 +42,7 @@ returns-2 c =
     let l : 2 ≤ t .kind = omega (arith, c .before .before .before .before .before .before .if1 .left) in
     let h : t .kind ≤ 3 = omega (arith, c .before .before .before .before .before .if2 .taken) in
     let p = c .before .before .put-components in
-    renamed _ _ (a .put) (now (a .out)) _ (p .result) (attribute-coordinate (a .undefined) (now (a .text)) (lentOf (now (a .rows)) (now (a .cells)) []) t (drop (a .cell) (now (a .cells))) l h) (p .ensures)
+    renamed _ _ (a .put) (now (a .out)) _ (p .result) (attribute-coordinate (a .undefined) (now (a .text)) (unmarkedIn (now (a .rows)) (now (a .cells)) []) t (drop (a .cell) (now (a .cells))) l h) (p .ensures)
 
 same-length-2 : tie.Need-same-length-2
 same-length-2 c = search needs
@@ -56,7 +56,7 @@ returns-3 c =
     let n₂ : t .kind ≡ 2 → ⊥ = λ e. ⊎-elim (λ w. omega arith) (λ w. omega arith) j in
     let n₃ : t .kind ≡ 3 → ⊥ = λ e. ⊎-elim (λ w. omega arith) (λ w. omega arith) j in
     let p = c .before .before .put-pair in
-    renamed _ _ (a .put) (now (a .out)) _ (p .result) (attribute-own (a .undefined) (now (a .text)) (lentOf (now (a .rows)) (now (a .cells)) []) t (drop (a .cell) (now (a .cells))) (s .pre .0 .least) (s .pre .0 .most) n₂ n₃ (c .before .before .before .before .before .match .rest .1)) (p .ensures)
+    renamed _ _ (a .put) (now (a .out)) _ (p .result) (attribute-own (a .undefined) (now (a .text)) (unmarkedIn (now (a .rows)) (now (a .cells)) []) t (drop (a .cell) (now (a .cells))) (s .pre .0 .least) (s .pre .0 .most) n₂ n₃ (c .before .before .before .before .before .match .rest .1)) (p .ensures)
 
 pub put-attribute-spec : {M : Type 1} → statement M
 put-attribute-spec =

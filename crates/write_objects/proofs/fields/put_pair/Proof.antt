@@ -8,7 +8,7 @@ use lib.IntN.{ℤ, pos, natAbs}
 use lib.ListN.{drop, getD}
 use Rattle.meaning.specs.Writing.{typeBytes}
 use Rattle.model_records.specs.Attributes.{typeOf}
-use Rattle.write_objects.specs.Given.{lentOf}
+use Rattle.table.specs.Contents.{unmarkedIn}
 use Rattle.write_lines.proofs.Puts.{renamed}
 use Rattle.write_objects.proofs.Typed.{field-undefined, field-defined}
 use borrow.Author.Needs.{needs}
@@ -55,8 +55,8 @@ returns-2 c =
     let q = rw (toZ-ofZ w64 (d .result) (record { sfits = d .ok }), toZ-ofZ w64 (d₂ .result) (record { sfits = d₂ .ok })) at (p .ensures) in
     let e : natAbs (getD (drop (a .cell) (now (a .cells))) 0 (pos 0)) ≡ 0 → ⊥ = λ x. c .before .before .before .before .before .if1 .left (m ∙ ap natAbs (d .ensures) ∙ x) in
     renamed _ _ (a .put) (now (a .out)) _ (p .result)
-    (ap₂ (λ (x y : ℤ). 0x20 ∷ typeBytes (now (a .text)) (lentOf (now (a .rows)) (now (a .cells)) []) (typeOf (a .attribute)) x y) (d .ensures) (d₂ .ensures)
-    ∙ field-defined (a .undefined) (getD (drop (a .cell) (now (a .cells))) 0 (pos 0)) (typeBytes (now (a .text)) (lentOf (now (a .rows)) (now (a .cells)) []) (typeOf (a .attribute)) (getD (drop (a .cell) (now (a .cells))) 0 (pos 0)) (getD (drop (a .cell) (now (a .cells))) 1 (pos 0))) e) q
+    (ap₂ (λ (x y : ℤ). 0x20 ∷ typeBytes (now (a .text)) (unmarkedIn (now (a .rows)) (now (a .cells)) []) (typeOf (a .attribute)) x y) (d .ensures) (d₂ .ensures)
+    ∙ field-defined (a .undefined) (getD (drop (a .cell) (now (a .cells))) 0 (pos 0)) (typeBytes (now (a .text)) (unmarkedIn (now (a .rows)) (now (a .cells)) []) (typeOf (a .attribute)) (getD (drop (a .cell) (now (a .cells))) 0 (pos 0)) (getD (drop (a .cell) (now (a .cells))) 1 (pos 0))) e) q
 
 pub put-pair-spec : {M : Type 1} → statement M
 put-pair-spec =

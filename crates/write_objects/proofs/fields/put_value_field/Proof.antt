@@ -6,7 +6,7 @@ use mir.ValLaws.{toZ-ofZ}
 use borrow.Author.Needs.{needs}
 use Rattle.meaning.specs.Writing.{typeBytes}
 use Rattle.model_records.specs.Attributes.{typeOf}
-use Rattle.write_objects.specs.Given.{lentOf}
+use Rattle.table.specs.Contents.{unmarkedIn}
 use Rattle.write_lines.proofs.Puts.{then}
 use Rattle.write_objects.proofs.fields.put_value_field.Statement.{statement}
 use Rattle.write_objects.proofs.fields.put_value_field.Tie as tie
@@ -26,7 +26,7 @@ returns c =
     let a = s .args in
     let q = c .before .before .put-value in
     let p = c .before .before .before .before .before .before .put-byte in
-    then (0x20 ∷ []) (typeBytes (now (a .text)) (lentOf (now (a .rows)) (now (a .cells)) []) (typeOf (a .attribute)) (a .a) (a .b)) (a .put) _ _ (now (a .out)) _ _ (p .ensures) (rw (toZ-ofZ w64 (a .a) (s .fits .a), toZ-ofZ w64 (a .b) (s .fits .b)) at (q .ensures))
+    then (0x20 ∷ []) (typeBytes (now (a .text)) (unmarkedIn (now (a .rows)) (now (a .cells)) []) (typeOf (a .attribute)) (a .a) (a .b)) (a .put) _ _ (now (a .out)) _ _ (p .ensures) (rw (toZ-ofZ w64 (a .a) (s .fits .a), toZ-ofZ w64 (a .b) (s .fits .b)) at (q .ensures))
 
 pub put-value-field-spec : {M : Type 1} → statement M
 put-value-field-spec =

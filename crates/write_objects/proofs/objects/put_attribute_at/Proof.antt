@@ -7,7 +7,7 @@ use lib.ListN.{drop}
 use Rattle.meaning.specs.Model.{AttributeType}
 use Rattle.meaning.specs.Row.{pairsOfType}
 use Rattle.meaning.specs.Writing.{pairFields, spaced}
-use Rattle.write_objects.specs.Given.{lentOf}
+use Rattle.table.specs.Contents.{unmarkedIn}
 use Rattle.write_lines.proofs.Puts.{renamed}
 use borrow.Author.Needs.{needs}
 use Rattle.write_objects.proofs.objects.put_attribute_at.Statement.{statement}
@@ -27,7 +27,7 @@ returns c =
     let a = c .before .before .before .before .before .before .before .before .before .args in
     let d = c .before .before .before .before .attribute-at in
     let p = c .before .before .put-attribute in
-    renamed _ _ (a .put) (now (a .out)) _ (p .result) (ap₂ (λ (o : Bool) (t : AttributeType). spaced (pairFields (a .undefined) (now (a .text)) (lentOf (now (a .rows)) (now (a .cells)) []) (pairsOfType o t) (drop (a .cell) (now (a .cells))))) (d .ensures .optional) (d .ensures .type)) (p .ensures)
+    renamed _ _ (a .put) (now (a .out)) _ (p .result) (ap₂ (λ (o : Bool) (t : AttributeType). spaced (pairFields (a .undefined) (now (a .text)) (unmarkedIn (now (a .rows)) (now (a .cells)) []) (pairsOfType o t) (drop (a .cell) (now (a .cells))))) (d .ensures .optional) (d .ensures .type)) (p .ensures)
 
 pub put-attribute-at-spec : {M : Type 1} → statement M
 put-attribute-at-spec =

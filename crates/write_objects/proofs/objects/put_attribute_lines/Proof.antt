@@ -10,7 +10,7 @@ use Rattle.meaning.specs.Reading.{lineAttributes}
 use Rattle.meaning.specs.Writing.{attributeLines, linesBytes}
 use Rattle.meaning.specs.Width.{cutLines}
 use Rattle.model_records.specs.Records.{modelAt, pairsAt}
-use Rattle.write_objects.specs.Given.{lentOf}
+use Rattle.table.specs.Contents.{unmarkedIn}
 use Rattle.write_objects.proofs.Walking.{Walking, walk-start, walk-room, walk-less, walk-end, walk-good, walk-parts, walk-count, walk-on}
 use Rattle.write_objects.proofs.Walking.{linesMeant, lines-meant, no-lines, row-lines}
 use Rattle.write_objects.proofs.objects.put_attribute_lines.Statement.{statement}
@@ -18,7 +18,7 @@ use Rattle.write_objects.proofs.objects.put_attribute_lines.Tie as tie
 
 abbrev Inv-loop : tie.InvT-loop
 Inv-loop model first mark width cells points row out₀ at₀ cell₀ all₀ out at cell all =
-    Walking (modelAt model) model (linesMeant mark width (lentOf [] cells points)) (length cells + 3) (cutLines mark width (linesBytes (attributeLines (lentOf [] cells points) (lineAttributes (row + 3) (pairsAt model first))))) all₀ out₀ at cell all out
+    Walking (modelAt model) model (linesMeant mark width (unmarkedIn [] cells points)) (length cells + 3) (cutLines mark width (linesBytes (attributeLines (unmarkedIn [] cells points) (lineAttributes (row + 3) (pairsAt model first))))) all₀ out₀ at cell all out
 
 abbrev μ-loop : tie.MeasureT-loop
 μ-loop model first mark width cells points row out₀ at₀ cell₀ all₀ out at cell all = length model - at
@@ -38,7 +38,7 @@ loop-holds c =
     let a = s .args in
     let m = c .before .least-of .ensures in
     let n = c .put-nothing in
-    walk-start (modelAt (now (a .model))) (now (a .model)) (linesMeant (a .mark) (a .width) (lentOf [] (now (a .cells)) (now (a .points)))) (length (now (a .cells)) + 3) _ (a .first) _ (a .put) (n .result) (now (a .out)) (s .pre .0) (omega (arith, m)) (ap (λ (l : List (List (List ℕ))). cutLines (a .mark) (a .width) (linesBytes l)) (row-lines (lentOf [] (now (a .cells)) (now (a .points))) (pairsAt (now (a .model)) (a .first)) (a .row) _ m)) (n .ensures (now (a .out)))
+    walk-start (modelAt (now (a .model))) (now (a .model)) (linesMeant (a .mark) (a .width) (unmarkedIn [] (now (a .cells)) (now (a .points)))) (length (now (a .cells)) + 3) _ (a .first) _ (a .put) (n .result) (now (a .out)) (s .pre .0) (omega (arith, m)) (ap (λ (l : List (List (List ℕ))). cutLines (a .mark) (a .width) (linesBytes l)) (row-lines (unmarkedIn [] (now (a .cells)) (now (a .points))) (pairsAt (now (a .model)) (a .first)) (a .row) _ m)) (n .ensures (now (a .out)))
 
 kind-at-requires : tie.Need-kind-at-requires Inv-loop μ-loop
 kind-at-requires c κs = walk-room (c .loop .inv)
@@ -50,7 +50,7 @@ returns : tie.Need-returns Inv-loop μ-loop
 returns c =
     let l = c .before .before in
     let a = c .before .before .before .before .before .before .before .args in
-    walk-end (l .loop .inv) (a .put) (λ e. c .if1 .taken (c .before .kind-at .ensures ∙ e)) (no-lines (a .mark) (a .width) (lentOf [] (now (a .cells)) (now (a .points))) (l .loop .cell)) (l .before .put-nothing .ensures (now (a .out)))
+    walk-end (l .loop .inv) (a .put) (λ e. c .if1 .taken (c .before .kind-at .ensures ∙ e)) (no-lines (a .mark) (a .width) (unmarkedIn [] (now (a .cells)) (now (a .points))) (l .loop .cell)) (l .before .put-nothing .ensures (now (a .out)))
 
 put-line-at-requires : tie.Need-put-line-at-requires Inv-loop μ-loop
 put-line-at-requires c κs =
@@ -105,7 +105,7 @@ loop-again c =
     let e = sym (t .before .kind-at .ensures) ∙ t .if1 .left in
     let a = c .before .before .before .before .before .before .before .before .before .before .before .before .before .before .before .args in
     let p = c .before .before .before .before .before .before .put-line-at in
-    rw (c .next-at .ensures) (walk-on i e _ _ (c .before .before .count-of .ensures) (lines-meant (a .mark) (a .width) (lentOf [] (now (a .cells)) (now (a .points)))) _ (p .result) (p .ensures))
+    rw (c .next-at .ensures) (walk-on i e _ _ (c .before .before .count-of .ensures) (lines-meant (a .mark) (a .width) (unmarkedIn [] (now (a .cells)) (now (a .points)))) _ (p .result) (p .ensures))
 
 pub put-attribute-lines-spec : {M : Type 1} → statement M
 put-attribute-lines-spec =

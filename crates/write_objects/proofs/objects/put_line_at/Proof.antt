@@ -11,7 +11,8 @@ use Rattle.meaning.specs.Reading.{lineAttributes}
 use Rattle.meaning.specs.Writing.{attributeLines, linesBytes}
 use Rattle.meaning.specs.Width.{cutLines}
 use Rattle.write_lines.proofs.Puts.{renamed}
-use Rattle.write_objects.specs.Given.{lentOf, GoodAttribute}
+use Rattle.write_objects.specs.Given.{GoodAttribute}
+use Rattle.table.specs.Contents.{unmarkedIn}
 use Rattle.write_objects.proofs.Drawn.{drawn, not-drawn, line-good}
 use Rattle.write_objects.proofs.objects.put_line_at.Statement.{statement}
 use Rattle.write_objects.proofs.objects.put_line_at.Tie as tie
@@ -26,7 +27,7 @@ returns : tie.Need-returns
 returns c =
     let a = c .before .before .before .before .before .before .args in
     let d = c .before .before .before .attribute-at in
-    let e = ap₂ (λ (o : Bool) (x : AttributeType). cutLines (a .mark) (a .width) (linesBytes (attributeLines (lentOf [] (now (a .cells)) (now (a .points))) (lineAttributes (a .cell) (pairsOfType o x))))) (d .ensures .optional) (d .ensures .type) in
+    let e = ap₂ (λ (o : Bool) (x : AttributeType). cutLines (a .mark) (a .width) (linesBytes (attributeLines (unmarkedIn [] (now (a .cells)) (now (a .points))) (lineAttributes (a .cell) (pairsOfType o x))))) (d .ensures .optional) (d .ensures .type) in
     rw (sym (not-drawn (d .result) (now (a .cells)) (now (a .points)) (a .cell) (a .mark) (a .width) (d .ensures .least) (d .ensures .most) (c .before .if1 .taken) ∙ e)) (c .put-nothing .ensures (now (a .out)))
 
 put-line-requires : tie.Need-put-line-requires
@@ -43,7 +44,7 @@ returns-2 : tie.Need-returns-2
 returns-2 c =
     let a = c .before .before .before .before .before .before .before .before .before .before .args in
     let d = c .before .before .before .before .before .before .before .attribute-at in
-    let e = ap₂ (λ (o : Bool) (x : AttributeType). cutLines (a .mark) (a .width) (linesBytes (attributeLines (lentOf [] (now (a .cells)) (now (a .points))) (lineAttributes (a .cell) (pairsOfType o x))))) (d .ensures .optional) (d .ensures .type) in
+    let e = ap₂ (λ (o : Bool) (x : AttributeType). cutLines (a .mark) (a .width) (linesBytes (attributeLines (unmarkedIn [] (now (a .cells)) (now (a .points))) (lineAttributes (a .cell) (pairsOfType o x))))) (d .ensures .optional) (d .ensures .type) in
     let p = c .before .before .put-line in
     renamed _ _ (a .put) (now (a .out)) _ (p .result) (ap (λ (l : List (List (List ℕ))). cutLines (a .mark) (a .width) (linesBytes l)) (drawn (d .result) (now (a .cells)) (now (a .points)) (a .cell) (c .before .before .before .before .before .if1 .left)) ∙ e) (p .ensures)
 

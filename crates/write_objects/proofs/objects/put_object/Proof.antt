@@ -10,7 +10,7 @@ use Rattle.meaning.specs.Writing.{identificationBytes, pairFields, attributeLin
 use Rattle.meaning.specs.Width.{cutLine, cutLines}
 use Rattle.model_records.specs.Records.{modelAt, pairsAt}
 use Rattle.write_lines.proofs.Puts.{renamed, then}
-use Rattle.write_objects.specs.Given.{lentOf}
+use Rattle.table.specs.Contents.{unmarkedIn}
 use Rattle.write_objects.proofs.Whole.{object-lines}
 use Rattle.write_objects.proofs.objects.put_object.Statement.{statement}
 use Rattle.write_objects.proofs.objects.put_object.Tie as tie
@@ -31,8 +31,8 @@ returns c marks =
     let b = now (a .model) in
     let p = c .before .before .before .before .before .before .put-object-line in
     let r = c .before .before .put-attribute-lines in
-    let own = cutLine (a .mark) (a .width) (lineBytes (OBJE ∷ identificationBytes (now (a .text)) (now (a .cells)) (a .row) ∷ pairFields (modelAt b .undefined) (now (a .text)) (lentOf (now (a .rows)) (now (a .cells)) []) (pairsAt b (a .first)) (drop (a .row + 3) (now (a .cells))))) in
-    let others = cutLines (a .mark) (a .width) (linesBytes (attributeLines (lentOf [] (now (a .cells)) (now (a .points))) (lineAttributes (a .row + 3) (pairsAt b (a .first))))) in
+    let own = cutLine (a .mark) (a .width) (lineBytes (OBJE ∷ identificationBytes (now (a .text)) (now (a .cells)) (a .row) ∷ pairFields (modelAt b .undefined) (now (a .text)) (unmarkedIn (now (a .rows)) (now (a .cells)) []) (pairsAt b (a .first)) (drop (a .row + 3) (now (a .cells))))) in
+    let others = cutLines (a .mark) (a .width) (linesBytes (attributeLines (unmarkedIn [] (now (a .cells)) (now (a .points))) (lineAttributes (a .row + 3) (pairsAt b (a .first))))) in
     let q = rw (s .pre .1 .0) at (p .ensures) in
     let c′ : Content = record { marks = marks; rows = now (a .rows); cells = now (a .cells); points = now (a .points) } in
     renamed (own ++ others) _ (a .put) (now (a .out)) _ (r .result) (object-lines (now (a .text)) c′ (a .mark) (a .width) (modelAt b) (pairsAt b (a .first)) (a .row))

@@ -8,7 +8,7 @@ use Rattle.meaning.specs.Field.{OBJE}
 use Rattle.meaning.specs.Writing.{identificationBytes, pairFields, spaced}
 use Rattle.model_records.specs.Records.{pairsAt}
 use Rattle.write_lines.proofs.Puts.{then}
-use Rattle.write_objects.specs.Given.{lentOf}
+use Rattle.table.specs.Contents.{unmarkedIn}
 use Rattle.write_objects.proofs.Whole.{object-bytes}
 use Rattle.write_objects.proofs.objects.put_object_bytes.Statement.{statement}
 use Rattle.write_objects.proofs.objects.put_object_bytes.Tie as tie
@@ -35,7 +35,7 @@ returns c =
     let q = c .before .before .before .before .before .before .put-identification in
     let r = c .before .before .put-pairs in
     let id = identificationBytes (now (a .text)) (now (a .cells)) (a .row) in
-    let fields = pairFields (a .undefined) (now (a .text)) (lentOf (now (a .rows)) (now (a .cells)) []) (pairsAt (now (a .model)) (a .first)) (drop (a .row + 3) (now (a .cells))) in
+    let fields = pairFields (a .undefined) (now (a .text)) (unmarkedIn (now (a .rows)) (now (a .cells)) []) (pairsAt (now (a .model)) (a .first)) (drop (a .row + 3) (now (a .cells))) in
     let both = then id (spaced fields) (p .result) (q .result) (r .result) _ _ _ (q .ensures) (r .ensures) in
     rw (object-bytes id fields) (then (OBJE ++ 0x20 ∷ []) (id ++ spaced fields) (a .put) (p .result) (r .result) (now (a .out)) _ _ (p .ensures) both)
 

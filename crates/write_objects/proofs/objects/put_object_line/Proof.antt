@@ -8,7 +8,7 @@ use lib.ListN.{drop}
 use Rattle.meaning.specs.Field.{OBJE}
 use Rattle.meaning.specs.Writing.{identificationBytes, pairFields, lineBytes}
 use Rattle.model_records.specs.Records.{pairsAt}
-use Rattle.write_objects.specs.Given.{lentOf}
+use Rattle.table.specs.Contents.{unmarkedIn}
 use Rattle.write_objects.proofs.Whole.{object-some}
 use Rattle.write_objects.proofs.objects.put_object_line.Statement.{statement}
 use Rattle.write_objects.proofs.objects.put_object_line.Tie as tie
@@ -28,7 +28,7 @@ returns c =
     let p = c .before .before .before .before .before .before .put-object-bytes in
     let q = c .before .before .end-line in
     let id = identificationBytes (now (a .text)) (now (a .cells)) (a .row) in
-    let fields = pairFields (a .undefined) (now (a .text)) (lentOf (now (a .rows)) (now (a .cells)) []) (pairsAt (now (a .model)) (a .first)) (drop (a .row + 3) (now (a .cells))) in
+    let fields = pairFields (a .undefined) (now (a .text)) (unmarkedIn (now (a .rows)) (now (a .cells)) []) (pairsAt (now (a .model)) (a .first)) (drop (a .row + 3) (now (a .cells))) in
     q .ensures .ends (lineBytes (OBJE ∷ id ∷ fields)) (a .put) (now (a .out)) refl (object-some id fields) (p .ensures)
 
 pub put-object-line-spec : {M : Type 1} → statement M

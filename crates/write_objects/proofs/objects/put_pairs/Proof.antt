@@ -9,7 +9,7 @@ use lib.IntN.{ℤ}
 use lib.ListN.{length, drop}
 use Rattle.meaning.specs.Writing.{pairFields, spaced}
 use Rattle.model_records.specs.Records.{modelAt, pairsAt}
-use Rattle.write_objects.specs.Given.{lentOf}
+use Rattle.table.specs.Contents.{unmarkedIn}
 use Rattle.write_objects.proofs.Walking.{Walking, walk-start, walk-room, walk-less, walk-end, walk-good, walk-parts, walk-count, walk-on}
 use Rattle.write_objects.proofs.Walking.{fieldsMeant, fields-meant, no-fields, row-fields}
 use Rattle.write_objects.proofs.objects.put_pairs.Statement.{statement}
@@ -17,7 +17,7 @@ use Rattle.write_objects.proofs.objects.put_pairs.Tie as tie
 
 abbrev Inv-loop : tie.InvT-loop
 Inv-loop model first text undefined rows cells row out₀ at₀ cell₀ all₀ out at cell all =
-    Walking (modelAt model) model (fieldsMeant undefined text (lentOf rows cells []) cells) (length cells + 3) (spaced (pairFields undefined text (lentOf rows cells []) (pairsAt model first) (drop (row + 3) cells))) all₀ out₀ at cell all out
+    Walking (modelAt model) model (fieldsMeant undefined text (unmarkedIn rows cells []) cells) (length cells + 3) (spaced (pairFields undefined text (unmarkedIn rows cells []) (pairsAt model first) (drop (row + 3) cells))) all₀ out₀ at cell all out
 
 abbrev μ-loop : tie.MeasureT-loop
 μ-loop model first text undefined rows cells row out₀ at₀ cell₀ all₀ out at cell all = length model - at
@@ -37,7 +37,7 @@ loop-holds c =
     let a = s .args in
     let m = c .before .least-of .ensures in
     let n = c .put-nothing in
-    walk-start (modelAt (now (a .model))) (now (a .model)) (fieldsMeant (a .undefined) (now (a .text)) (lentOf (now (a .rows)) (now (a .cells)) []) (now (a .cells))) (length (now (a .cells)) + 3) _ (a .first) _ (a .put) (n .result) (now (a .out)) (s .pre) (omega (arith, m)) (ap (λ (l : List ℤ). spaced (pairFields (a .undefined) (now (a .text)) (lentOf (now (a .rows)) (now (a .cells)) []) (pairsAt (now (a .model)) (a .first)) l)) (row-fields (now (a .cells)) (a .row) _ m)) (n .ensures (now (a .out)))
+    walk-start (modelAt (now (a .model))) (now (a .model)) (fieldsMeant (a .undefined) (now (a .text)) (unmarkedIn (now (a .rows)) (now (a .cells)) []) (now (a .cells))) (length (now (a .cells)) + 3) _ (a .first) _ (a .put) (n .result) (now (a .out)) (s .pre) (omega (arith, m)) (ap (λ (l : List ℤ). spaced (pairFields (a .undefined) (now (a .text)) (unmarkedIn (now (a .rows)) (now (a .cells)) []) (pairsAt (now (a .model)) (a .first)) l)) (row-fields (now (a .cells)) (a .row) _ m)) (n .ensures (now (a .out)))
 
 kind-at-requires : tie.Need-kind-at-requires Inv-loop μ-loop
 kind-at-requires c κs = walk-room (c .loop .inv)
@@ -49,7 +49,7 @@ returns : tie.Need-returns Inv-loop μ-loop
 returns c =
     let l = c .before .before in
     let a = c .before .before .before .before .before .before .before .before .before .args in
-    walk-end (l .loop .inv) (a .put) (λ e. c .if1 .taken (c .before .kind-at .ensures ∙ e)) (no-fields (a .undefined) (now (a .text)) (lentOf (now (a .rows)) (now (a .cells)) []) (now (a .cells)) (l .loop .cell)) (l .before .put-nothing .ensures (now (a .out)))
+    walk-end (l .loop .inv) (a .put) (λ e. c .if1 .taken (c .before .kind-at .ensures ∙ e)) (no-fields (a .undefined) (now (a .text)) (unmarkedIn (now (a .rows)) (now (a .cells)) []) (now (a .cells)) (l .loop .cell)) (l .before .put-nothing .ensures (now (a .out)))
 
 put-attribute-at-requires : tie.Need-put-attribute-at-requires Inv-loop μ-loop
 put-attribute-at-requires c κs =
@@ -104,7 +104,7 @@ loop-again c =
     let e = sym (t .before .kind-at .ensures) ∙ t .if1 .left in
     let a = c .before .before .before .before .before .before .before .before .before .before .before .before .before .before .before .before .before .args in
     let p = c .before .before .before .before .before .before .put-attribute-at in
-    rw (c .next-at .ensures) (walk-on i e _ _ (c .before .before .count-of .ensures) (fields-meant (a .undefined) (now (a .text)) (lentOf (now (a .rows)) (now (a .cells)) []) (now (a .cells))) _ (p .result) (p .ensures))
+    rw (c .next-at .ensures) (walk-on i e _ _ (c .before .before .count-of .ensures) (fields-meant (a .undefined) (now (a .text)) (unmarkedIn (now (a .rows)) (now (a .cells)) []) (now (a .cells))) _ (p .result) (p .ensures))
 
 pub put-pairs-spec : {M : Type 1} → statement M
 put-pairs-spec =
