@@ -17,7 +17,7 @@ use Rattle.model_check.specs.declared.attributes.Attribute.{Attribute}
 use Rattle.model_records.specs.Components.{componentOf, componentsOf, listOf}
 use Rattle.model_records.specs.declared.Component.{Component}
 use Rattle.model_records.specs.declared.Components.{Components}
-use Rattle.model_records.specs.ComponentsAre.{Held}
+use Rattle.model_records.specs.ComponentsAre.{ComponentsAre}
 use Rattle.model_check.specs.Attributes.{typeMeant, firstOf, Sized, PlainNumber}
 
 -- ## Sizes
@@ -68,13 +68,13 @@ first-item q [] l e = absurd (omega arith)
 first-item q (c ∷ items) l e = cc
 
 -- the first of some components
-first-held : (q : List ℕ) (r : Components) → Held q 1 r → firstOf r ≡ meaning.componentOf q
+first-held : (q : List ℕ) (r : Components) → ComponentsAre q 1 r → firstOf r ≡ meaning.componentOf q
 first-held q r h = first-of (r .items) (h .room) (sym (ap (λ (n : ℕ). listOf (take n (r .items))) (h .count)) ∙ h .meant)
   where
     first-of : (items : List Component) → length items ≡ 3 → listOf (take 1 items) ≡ meaning.componentsOf 1 q → componentOf (getD items 0 none) ≡ meaning.componentOf q
     first-of = first-item q
 
-pub decoded-coordinate : (t : ℕ) (q : List ℕ) (o : Bool) (r : Components) → 2 ≤ t → t ≤ 4 → Held q (choose (eqb t 4) 1 t) r
+pub decoded-coordinate : (t : ℕ) (q : List ℕ) (o : Bool) (r : Components) → 2 ≤ t → t ≤ 4 → ComponentsAre q (choose (eqb t 4) 1 t) r
     → typeMeant (record { optional = o; kind = t; number = 0; components = r }) ≡ meaning.typeOf t q
 unfolding typeMeant meaning.typeOf choose
 decoded-coordinate zero q o r l g h = absurd (omega arith)
@@ -97,7 +97,7 @@ decoded-plain (suc (suc (suc (suc (suc (suc zero)))))) n q o r l g f h = refl
 decoded-plain (suc (suc (suc (suc (suc (suc (suc zero))))))) n q o r l g f h = ap meaning.Enumeration (h (λ e. omega arith))
 decoded-plain (suc (suc (suc (suc (suc (suc (suc (suc t)))))))) n q o r l g f h = absurd (omega arith)
 
-pub decoded-line : (p : List ℕ) (o : Bool) (r : Components) → Held (drop 4 p) (choose (eqb (byteAt p 3) 3) 3 2) r
+pub decoded-line : (p : List ℕ) (o : Bool) (r : Components) → ComponentsAre (drop 4 p) (choose (eqb (byteAt p 3) 3) 3 2) r
     → typeMeant (record { optional = o; kind = 8; number = byteAt p 2; components = r }) ≡ meaning.typeOf 8 (drop 2 p)
 unfolding typeMeant meaning.typeOf choose
 decoded-line p o r h =

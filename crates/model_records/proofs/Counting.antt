@@ -10,12 +10,12 @@ use Rattle.meaning.specs.Bytes.{choose, byteAt}
 use Rattle.meaning.specs.Model.{Model, typeOf, componentsOf, attributeOf}
 use Rattle.meaning.specs.Row.{Pair, componentPairs, pairsOfType, pairsOf}
 use Rattle.model_records.specs.Records.{kindAt, payloadAt, nextAt, pairsAt}
-use Rattle.model_records.specs.Standing.{Standing, AttributeHere, AttributeNext, AttributesHere}
+use Rattle.model_records.specs.AtRecord.{AtRecord, AttributeHere, AttributeNext, AttributesHere}
 use Rattle.model_records.specs.Attributes as means
 use Rattle.model_records.specs.Attributes.{Sized, Decoded}
 use Rattle.model_records.specs.declared.Attribute.{Attribute}
-use Rattle.model_records.specs.Counts.{fieldsOf, pairCount, Counted}
-use Rattle.model_records.proofs.Standing.{attribute-here, no-attribute}
+use Rattle.model_records.specs.Counts.{fieldsOf, pairCount, CountsOf}
+use Rattle.model_records.proofs.AtRecord.{attribute-here, no-attribute}
 use Rattle.model_records.proofs.Types.{sized, type-at, parts-room}
 
 -- ## By the number of its type
@@ -50,8 +50,8 @@ module _ (o : Bool) (q : List ℕ) (ps : List Pair) where
 
 -- ## Its record
 
-module _ (m : Model) (b : List ℕ) (at k t : ℕ) (a : AttributeNext m b at k t) (f p : ℕ) (c : Counted (byteAt b (at + 5)) f p) where
-  counted : Counted (byteAt (payloadAt b at) 1) f p
+module _ (m : Model) (b : List ℕ) (at k t : ℕ) (a : AttributeNext m b at k t) (f p : ℕ) (c : CountsOf (byteAt b (at + 5)) f p) where
+  counted : CountsOf (byteAt (payloadAt b at) 1) f p
   counted = rw (type-at b at (a .good)) at c
 
   pub pairs-more : length (pairsAt b at) ≡ p + length (pairsAt b (nextAt b at))
@@ -75,7 +75,7 @@ module _ (b : List ℕ) (at : ℕ) (a : Attribute) (h : AttributeHere b at) (d :
 
 -- ## The records from a byte on
 
-module _ (m : Model) (b : List ℕ) (at k t : ℕ) (s : Standing m b at k t) where
+module _ (m : Model) (b : List ℕ) (at k t : ℕ) (s : AtRecord m b at k t) where
   pub pairs-none : (kindAt b at ≡ 5 → ⊥) → length (pairsAt b at) ≡ 0
   unfolding pairsOf
   pairs-none n = rw (no-attribute m b at k t s n)

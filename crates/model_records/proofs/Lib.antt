@@ -2,6 +2,6 @@ pub mod Twos
 pub mod ComponentLaws
 pub mod Checked
 pub mod Types
-pub mod Standing
+pub mod AtRecord
 pub mod Noting
 pub mod Counting

@@ -11,27 +11,27 @@ use borrow.Author.Tests.{eqb-true, eqb-false, ne-eqb}
 use Rattle.meaning.specs.Bytes.{choose}
 use Rattle.meaning.specs.Model.{Model, Table, tableAt}
 use Rattle.model_records.specs.Records.{kindAt, nextAt}
-use Rattle.model_records.specs.Standing.{Standing, Here}
-use Rattle.model_records.specs.Places.{topicPlace, tablePlace, topicOf, notedBy, Passed, TopicRecord, TableRecord, Noted}
+use Rattle.model_records.specs.AtRecord.{AtRecord, RecordFits}
+use Rattle.model_records.specs.Places.{topicPlace, tablePlace, topicOf, notedBy, RecordPassed, TopicRecord, TableRecord, Noted}
 use Rattle.model_records.specs.declared.places.RecordCursor.{RecordCursor}
-use Rattle.model_records.proofs.Standing.{here, topic-here, table-here, attribute-here, not-others}
+use Rattle.model_records.proofs.AtRecord.{here, topic-here, table-here, attribute-here, not-others}
 
 -- ## One record
 
 -- a record of no other kind is an attribute
-not-others-five : {b : List ℕ} (at : ℕ) → Here b at → (kindAt b at ≡ 3 → ⊥) → (kindAt b at ≡ 4 → ⊥) → (kindAt b at ≡ 6 → ⊥) → kindAt b at ≡ 5
+not-others-five : {b : List ℕ} (at : ℕ) → RecordFits b at → (kindAt b at ≡ 3 → ⊥) → (kindAt b at ≡ 4 → ⊥) → (kindAt b at ≡ 6 → ⊥) → kindAt b at ≡ 5
 not-others-five at h x y z = omega (arith, h .least, h .most)
 
-module _ (m : Model) (b : List ℕ) (s : RecordCursor) (h : Standing m b (s .at) (s .topics) (s .tables)) (next : ℕ) (e : next ≡ nextAt b (s .at)) where
-  pub pass-topic : kindAt b (s .at) ≡ 3 → Passed m b s (record { topics = s .topics + 1; tables = s .tables; at = next })
+module _ (m : Model) (b : List ℕ) (s : RecordCursor) (h : AtRecord m b (s .at) (s .topics) (s .tables)) (next : ℕ) (e : next ≡ nextAt b (s .at)) where
+  pub pass-topic : kindAt b (s .at) ≡ 3 → RecordPassed m b s (record { topics = s .topics + 1; tables = s .tables; at = next })
   unfolding choose
   pass-topic k = record { standing = rw e (topic-here m b _ _ _ h k .next); at = e; topics = rw k; tables = rw k }
 
-  pub pass-table : kindAt b (s .at) ≡ 4 → Passed m b s (record { topics = s .topics; tables = s .tables + 1; at = next })
+  pub pass-table : kindAt b (s .at) ≡ 4 → RecordPassed m b s (record { topics = s .topics; tables = s .tables + 1; at = next })
   unfolding choose
   pass-table k = record { standing = rw e (table-here m b _ _ _ h k .next); at = e; topics = rw k; tables = rw k }
 
-  pub pass-attribute : (kindAt b (s .at) ≡ 3 → ⊥) → (kindAt b (s .at) ≡ 4 → ⊥) → (kindAt b (s .at) ≡ 6 → ⊥) → Passed m b s (record { topics = s .topics; tables = s .tables; at = next })
+  pub pass-attribute : (kindAt b (s .at) ≡ 3 → ⊥) → (kindAt b (s .at) ≡ 4 → ⊥) → (kindAt b (s .at) ≡ 6 → ⊥) → RecordPassed m b s (record { topics = s .topics; tables = s .tables; at = next })
   unfolding choose
   pass-attribute x y z =
       let k = not-others-five (s .at) (here m b _ _ _ h) x y z in
@@ -77,10 +77,10 @@ module _ (m : Model) (b places : List ℕ) (k n : ℕ) (old : Noted m b places k
           (old .owner t (omega (arith, other)))
 
 -- a topic's record, and a table's
-topic-record : (m : Model) (b : List ℕ) (at k t : ℕ) → Standing m b at k t → kindAt b at ≡ 3 → TopicRecord m b k at
+topic-record : (m : Model) (b : List ℕ) (at k t : ℕ) → AtRecord m b at k t → kindAt b at ≡ 3 → TopicRecord m b k at
 topic-record m b at k t s e = record { fits = here m b at k t s .fits; name = sym (topic-here m b at k t s e .topic) }
 
-module _ (m : Model) (b : List ℕ) (at k t : ℕ) (s : Standing m b at k t) (e : kindAt b at ≡ 4) where
+module _ (m : Model) (b : List ℕ) (at k t : ℕ) (s : AtRecord m b at k t) (e : kindAt b at ≡ 4) where
   owner-is : k - 1 ≡ tableAt (m .tables) t .topic
   owner-is = sym (ap (λ (x : Table). x .topic) (table-here m b at k t s e .table))
 
@@ -98,7 +98,7 @@ module _ (m : Model) (b : List ℕ) (at k t : ℕ) (s : Standing m b at k t) (e 
       }
 
 -- the record at s has room among the places, and is noted
-module _ (m : Model) (b : List ℕ) (s : RecordCursor) (h : Standing m b (s .at) (s .topics) (s .tables))
+module _ (m : Model) (b : List ℕ) (s : RecordCursor) (h : AtRecord m b (s .at) (s .topics) (s .tables))
     (topics : length (m .topics) ≤ 64) (tables : length (m .tables) ≤ 512) where
   pub topic-room : kindAt b (s .at) ≡ 3 → s .topics < 64
   topic-room e = omega (arith, topic-here m b _ _ _ h e .inside)
@@ -106,7 +106,7 @@ module _ (m : Model) (b : List ℕ) (s : RecordCursor) (h : Standing m b (s .at)
   pub table-room : kindAt b (s .at) ≡ 4 → (s .tables < 512) × (1 ≤ s .topics)
   table-room e = let t = table-here m b _ _ _ h e in (omega (arith, t .inside), t .begun)
 
-  pub noted-on : (places : List ℕ) (r : RecordCursor) → Noted m b places (s .topics) (s .tables) → Passed m b s r → Noted m b (notedBy (kindAt b (s .at)) s places) (r .topics) (r .tables)
+  pub noted-on : (places : List ℕ) (r : RecordCursor) → Noted m b places (s .topics) (s .tables) → RecordPassed m b s r → Noted m b (notedBy (kindAt b (s .at)) s places) (r .topics) (r .tables)
   unfolding notedBy choose
   noted-on places r old p = go (eqb (kindAt b (s .at)) 3) refl (eqb (kindAt b (s .at)) 4) refl
     where

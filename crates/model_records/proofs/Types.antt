@@ -15,10 +15,10 @@ use Rattle.meaning.specs.Check.{isName, isType, isDimension}
 use Rattle.model_records.specs.declared.Component.{Component}
 use Rattle.model_records.specs.Components.{componentOf, componentsOf, listOf}
 use Rattle.model_records.specs.declared.Attribute.{Attribute}
-use Rattle.model_records.specs.ComponentsAre.{Held}
+use Rattle.model_records.specs.ComponentsAre.{ComponentsAre}
 use Rattle.model_records.specs.Records.{payloadAt, nextAt}
 use Rattle.model_records.specs.Attributes.{typeOf, numberOf, countOf, startOf, Sized, Decoded}
-use Rattle.model_records.specs.Standing.{AttributeHere}
+use Rattle.model_records.specs.AtRecord.{AttributeHere}
 use Rattle.meaning.proofs.Tests.Refuse.{holds}
 
 -- ## A part of a payload
@@ -126,7 +126,7 @@ first-is [] d c e = absurd (nil-cons c [] e)
 first-is (x ∷ cs) d c e = cc
 
 -- what is decoded means the type
-pub meant : (q : List ℕ) (t : ℕ) (a : Attribute) → a .kind ≡ t → a .number ≡ numberOf t q → Held (drop (startOf t) q) (countOf t q) (a .components) → Sized t q
+pub meant : (q : List ℕ) (t : ℕ) (a : Attribute) → a .kind ≡ t → a .number ≡ numberOf t q → ComponentsAre (drop (startOf t) q) (countOf t q) (a .components) → Sized t q
     → typeOf a ≡ meaning.typeOf t q
 unfolding typeOf meaning.typeOf meaning.componentsOf numberOf countOf startOf choose
 meant q zero a k n h s = absurd (omega (arith, s .least))
@@ -143,7 +143,7 @@ meant q (suc (suc (suc (suc (suc (suc (suc (suc (suc n'))))))))) a k n h s = abs
 -- the attribute of a record, from what is read of it
 pub decoded : (b : List ℕ) (at : ℕ) (a : Attribute) → AttributeHere b at → a .optional ≡ meaning.flagOf (payloadAt b at) → a .kind ≡ byteAt (payloadAt b at) 1
     → a .number ≡ numberOf (byteAt (payloadAt b at) 1) (drop 2 (payloadAt b at))
-    → Held (drop (startOf (byteAt (payloadAt b at) 1)) (drop 2 (payloadAt b at))) (countOf (byteAt (payloadAt b at) 1) (drop 2 (payloadAt b at))) (a .components)
+    → ComponentsAre (drop (startOf (byteAt (payloadAt b at) 1)) (drop 2 (payloadAt b at))) (countOf (byteAt (payloadAt b at) 1) (drop 2 (payloadAt b at))) (a .components)
     → Decoded b at a
 unfolding meaning.attributeOf isType countOf meaning.dimensionOf choose
 decoded b at a h o k n c =

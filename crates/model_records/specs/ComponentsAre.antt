@@ -12,7 +12,7 @@ abbrev pub declaredOf : meaning.Component → Component
 declaredOf c = record { decimals = c .decimals; least = c .least; greatest = c .greatest }
 
 -- r holds the first n components of p
-pub record Held (p : List ℕ) (n : ℕ) (r : Components) : Type 0 where
+pub record ComponentsAre (p : List ℕ) (n : ℕ) (r : Components) : Type 0 where
   pub count : r .count ≡ n
   pub room : length (r .items) ≡ 3
   pub meant : componentsOf r ≡ meaning.componentsOf n p

@@ -12,6 +12,6 @@ fieldsOf t = choose (eqb t 2) 2 (choose (eqb t 3) 3 (choose (eqb t 8) 0 1))
 unfoldable pub pairCount : (t : ℕ) → ℕ
 pairCount t = choose (eqb t 2) 2 (choose (eqb t 3) 3 1)
 
-pub record Counted (t f p : ℕ) : Type 0 where
+pub record CountsOf (t f p : ℕ) : Type 0 where
   pub fields : f ≡ fieldsOf t
   pub pairs : p ≡ pairCount t

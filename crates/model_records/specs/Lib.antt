@@ -2,6 +2,6 @@ pub mod Components
 pub mod Records
 pub mod ComponentsAre
 pub mod Attributes
-pub mod Standing
+pub mod AtRecord
 pub mod Places
 pub mod Counts

@@ -9,15 +9,15 @@ use Rattle.meaning.specs.Bytes.{choose}
 use Rattle.meaning.specs.Model.{Model, tableAt, flagOf}
 use Rattle.meaning.specs.Check.{good, checkModel}
 use Rattle.model_records.specs.Records.{kindAt, payloadAt, nextAt, modelAt, attributesAt}
-use Rattle.model_records.specs.Standing.{Standing}
+use Rattle.model_records.specs.AtRecord.{AtRecord}
 use Rattle.model_records.specs.declared.places.Shape.{Shape}
 use Rattle.model_records.specs.declared.places.RecordCursor.{RecordCursor}
 
 -- ## The walk
 
 -- r is behind the record at s
-pub record Passed (m : Model) (b : List ℕ) (s r : RecordCursor) : Type 0 where
-  pub standing : Standing m b (r .at) (r .topics) (r .tables)
+pub record RecordPassed (m : Model) (b : List ℕ) (s r : RecordCursor) : Type 0 where
+  pub standing : AtRecord m b (r .at) (r .topics) (r .tables)
   pub at : r .at ≡ nextAt b (s .at)
   pub topics : r .topics ≡ choose (eqb (kindAt b (s .at)) 3) (s .topics + 1) (s .topics)
   pub tables : r .tables ≡ choose (eqb (kindAt b (s .at)) 4) (s .tables + 1) (s .tables)
@@ -58,7 +58,7 @@ pub record TableRecord (m : Model) (b : List ℕ) (t at : ℕ) : Type 0 where
   pub optional : flagOf (payloadAt b at) ≡ tableAt (m .tables) t .optional
   pub name : drop 1 (payloadAt b at) ≡ tableAt (m .tables) t .name
   pub attributes : attributesAt b (nextAt b at) ≡ tableAt (m .tables) t .attributes
-  pub standing : Standing m b (nextAt b at) (tableAt (m .tables) t .topic + 1) (t + 1)
+  pub standing : AtRecord m b (nextAt b at) (tableAt (m .tables) t .topic + 1) (t + 1)
 
 -- of the first k topics and the first n tables
 pub record Noted (m : Model) (b places : List ℕ) (k n : ℕ) : Type 0 where

@@ -3,8 +3,8 @@ ghost use mathlib.Core.Path.{_≡_};
 ghost use Prim.Native.Nat.{_+_, _≤_};
 ghost use lib.ListN.{length};
 ghost use Rattle.model_records.specs.Records.{modelAt, pairsAt};
-ghost use Rattle.model_records.specs.Standing.{AttributesHere};
-ghost use Rattle.model_records.specs.Counts.{Counted};
+ghost use Rattle.model_records.specs.AtRecord.{AttributesHere};
+ghost use Rattle.model_records.specs.Counts.{CountsOf};
 use crate::ATTRIBUTE;
 use crate::COORDINATE_2;
 use crate::COORDINATE_3;
@@ -18,7 +18,7 @@ pub struct Counts {
 
 // A coordinate has a field and a pair for each component, a line no field on its object's line.
 pub fn count_of(kind: u8) -> Counts
-    ensures { λ r. ⌜ Counted kind (r .fields) (r .pairs) ⌝ }
+    ensures { λ r. ⌜ CountsOf kind (r .fields) (r .pairs) ⌝ }
 {
     match kind {
         COORDINATE_2 => Counts {

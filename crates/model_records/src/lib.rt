@@ -7,9 +7,9 @@ ghost use lib.Dec.{eqb};
 ghost use Rattle.meaning.specs.Model.{flagOf};
 ghost use Rattle.meaning.specs.Check.{good, checkModel};
 ghost use Rattle.model_records.specs.Records.{kindAt, payloadAt, nextAt, modelAt};
-ghost use Rattle.model_records.specs.ComponentsAre.{Held};
+ghost use Rattle.model_records.specs.ComponentsAre.{ComponentsAre};
 ghost use Rattle.model_records.specs.Attributes.{numberOf, countOf, startOf, Sized, Decoded};
-ghost use Rattle.model_records.specs.Standing.{AttributeHere};
+ghost use Rattle.model_records.specs.AtRecord.{AttributeHere};
 
 pub mod counts;
 pub mod numbers;
@@ -158,7 +158,7 @@ fn skip_forms(t: u8) -> usize
 // The components among the parameters.
 fn read_dimensions(q: &[u8], t: u8) -> Components
     requires { ⌜ Sized t (now q) ⌝ }
-    ensures { λ r. ⌜ Held (drop (startOf t) (now (q .entry))) (countOf t (now (q .entry))) r ⌝ }
+    ensures { λ r. ⌜ ComponentsAre (drop (startOf t) (now (q .entry))) (countOf t (now (q .entry))) r ⌝ }
 {
     let count = count_components(q, t);
     let start = skip_forms(t);

@@ -4,7 +4,7 @@ ghost use Prim.Native.Nat.{_+_, _*_, _≤_};
 ghost use lib.ListN.{length};
 ghost use Rattle.meaning.specs.Bytes.{byteAt, u16At, u32At, u64At, i64At, twos};
 ghost use Rattle.meaning.specs.Model.{componentOf};
-ghost use Rattle.model_records.specs.ComponentsAre.{declaredOf, Held};
+ghost use Rattle.model_records.specs.ComponentsAre.{declaredOf, ComponentsAre};
 use crate::Component;
 use crate::Components;
 
@@ -75,7 +75,7 @@ fn read_component(p: &[u8]) -> Component
 pub fn read_components(p: &[u8], n: usize) -> Components
     requires { ⌜ n ≤ 3 ⌝ }
     requires { ⌜ 17 * n ≤ length (now p) ⌝ }
-    ensures { λ r. ⌜ Held (now (p .entry)) n r ⌝ }
+    ensures { λ r. ⌜ ComponentsAre (now (p .entry)) n r ⌝ }
 {
     let none = Component {
         decimals: 0,

@@ -5,9 +5,9 @@ ghost use lib.ListN.{length};
 ghost use Rattle.meaning.specs.Check.{good, checkModel};
 ghost use Rattle.meaning.specs.Model.{tableAt};
 ghost use Rattle.model_records.specs.Records.{kindAt, nextAt, modelAt};
-ghost use Rattle.model_records.specs.Standing.{Standing};
+ghost use Rattle.model_records.specs.AtRecord.{AtRecord};
 ghost use Rattle.model_records.specs.Places.{topicPlace, tablePlace, topicOf, attributesPlace};
-ghost use Rattle.model_records.specs.Places.{notedBy, Passed, Placed};
+ghost use Rattle.model_records.specs.Places.{notedBy, RecordPassed, Placed};
 use crate::END;
 use crate::TABLE;
 use crate::TOPIC;
@@ -29,9 +29,9 @@ pub struct RecordCursor {
 
 // Behind the record that the cursor is at.
 fn pass_record(model: &[u8], here: RecordCursor) -> RecordCursor
-    requires { ⌜ Standing (modelAt (now model)) (now model) (here .at) (here .topics) (here .tables) ⌝ }
+    requires { ⌜ AtRecord (modelAt (now model)) (now model) (here .at) (here .topics) (here .tables) ⌝ }
     requires { ⌜ (kindAt (now model) (here .at) ≡ 6 → ⊥) ⌝ }
-    ensures { λ r. ⌜ Passed (modelAt (now (model .entry))) (now (model .entry)) here r ⌝ }
+    ensures { λ r. ⌜ RecordPassed (modelAt (now (model .entry))) (now (model .entry)) here r ⌝ }
 {
     let at = here.at;
     let topics = here.topics;

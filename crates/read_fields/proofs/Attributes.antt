@@ -20,7 +20,7 @@ use Rattle.model_records.specs.Components.{componentOf, componentsOf, listOf}
 use Rattle.model_records.specs.declared.Attribute.{Attribute}
 use Rattle.model_records.specs.Attributes.{typeOf, firstOf}
 use Rattle.read_fields.specs.Filled.{prefixed, typeAsked, ownAsked, ownPairs, passed, left, going, goingOver, covering, due, Ready, Steps, Fills}
-use Rattle.read_fields.specs.declared.filling.Filling.{Filling}
+use Rattle.read_fields.specs.declared.filling.RowCursor.{RowCursor}
 use Rattle.read_fields.specs.declared.filling.Filled.{Filled}
 use Rattle.read_fields.specs.declared.filling.Filled.the-variants.{On, Rest, No}
 use Rattle.read_fields.proofs.Pairs.{own, of-line}
@@ -29,14 +29,14 @@ use Rattle.read_fields.proofs.Coordinates.{listed-next, length-listed, 
 
 -- ## Steps by their answer
 
-module _ (u start : ℕ) (rest : List ℕ) (m : ℕ) (whole : List Pair → Cells) (s : Filling) (entry exit : List ℤ) where
+module _ (u start : ℕ) (rest : List ℕ) (m : ℕ) (whole : List Pair → Cells) (s : RowCursor) (entry exit : List ℤ) where
   pub fills-as : (whole′ : List Pair → Cells) (n : ℕ) → ((ps : List Pair) → whole′ ps ≡ whole ps) → m ≤ n → (r : Filled) → Fills u start rest m whole s entry exit r → Fills u start rest n whole′ s entry exit r
   fills-as whole′ n e h (On t) f = wider n h (renamed whole′ (going u start rest t) e (λ ps. refl) f)
   fills-as whole′ n e h (Rest t count) f = (omega (arith, f .0), wider n h (renamed whole′ (covering start rest t count) e (λ ps. refl) (f .1)))
   fills-as whole′ n e h (No k g) f = λ ps. e ps ∙ f ps
 
 -- a step, and then another one
-pub then : (u start : ℕ) (rest : List ℕ) {m : ℕ} (n : ℕ) {whole middle : List Pair → Cells} {s t : Filling} {entry between : List ℤ} (exit : List ℤ) → Steps rest m whole middle s t entry between
+pub then : (u start : ℕ) (rest : List ℕ) {m : ℕ} (n : ℕ) {whole middle : List Pair → Cells} {s t : RowCursor} {entry between : List ℤ} (exit : List ℤ) → Steps rest m whole middle s t entry between
     → (r : Filled) → Fills u start rest n middle t between exit r → Fills u start rest (m + n) whole s entry exit r
 unfolding prefixed
 then u start rest n exit a (On v) f = both a f
@@ -45,21 +45,21 @@ then u start rest n exit a (No k g) f = refuses (refused k g) f (λ vs. refl) a
 
 -- ## A coordinate
 
-module _ (u start : ℕ) (rest : List ℕ) (o : Bool) (count : ℕ) (items : List Component) (d : Component) (h : 1 ≤ count) (g : count ≤ length items) (s : Filling) where
+module _ (u start : ℕ) (rest : List ℕ) (o : Bool) (count : ℕ) (items : List Component) (d : Component) (h : 1 ≤ count) (g : count ≤ length items) (s : RowCursor) where
   first-due : (ps : List Pair) → goingOver u start rest (pairsOfType o (Coordinate (listOf (take count items)))) s ps
       ≡ due u start rest (ownAsked o 4 0 (getD items 0 d)) s (componentPairs (drop 1 (listOf (take count items))) ++ ps)
   unfolding pairsOfType typeAsked choose
   first-due ps = rw (listed-next items 0 count d h g) (own u (s .before) (s .place) o _ _ _)
 
   module _ (entry between : List ℤ) where
-    pub coordinate-on : (t : Filling) → Fills u start rest 2 (due u start rest (ownAsked o 4 0 (getD items 0 d)) s) s entry between (On t)
+    pub coordinate-on : (t : RowCursor) → Fills u start rest 2 (due u start rest (ownAsked o 4 0 (getD items 0 d)) s) s entry between (On t)
         → (exit : List ℤ) (r : Filled) → Fills u start rest 4 (goingOver u start rest (componentPairs (drop 1 (listOf (take count items)))) t) t between exit r
         → Fills u start rest 6 (goingOver u start rest (pairsOfType o (Coordinate (listOf (take count items)))) s) s entry exit r
     coordinate-on t a exit r b =
         then u start rest 4 exit (renamed (goingOver u start rest (pairsOfType o (Coordinate (listOf (take count items)))) s) (goingOver u start rest (componentPairs (drop 1 (listOf (take count items)))) t)
         first-due (λ ps. refl) (before (λ ps. componentPairs (drop 1 (listOf (take count items))) ++ ps) a)) r b
 
-    pub coordinate-rest : (t : Filling) (n : ℕ) → count ≤ 3 → Fills u start rest 2 (due u start rest (ownAsked o 4 0 (getD items 0 d)) s) s entry between (Rest t n)
+    pub coordinate-rest : (t : RowCursor) (n : ℕ) → count ≤ 3 → Fills u start rest 2 (due u start rest (ownAsked o 4 0 (getD items 0 d)) s) s entry between (Rest t n)
         → Fills u start rest 6 (goingOver u start rest (pairsOfType o (Coordinate (listOf (take count items)))) s) s entry between (Rest t (n + (count - 1)))
     coordinate-rest t n k a =
         let e : length (drop 1 (listOf (take count items))) ≡ count - 1 = length-drop 1 (listOf (take count items)) ∙ rw (length-listed items count g) refl in (
@@ -75,13 +75,13 @@ module _ (u start : ℕ) (rest : List ℕ) (o : Bool) (count : ℕ) (items : Lis
 
 -- ## An attribute with one field of its own
 
-pub own-due : (u start : ℕ) (rest : List ℕ) (a : Attribute) (s : Filling) (ps : List Pair)
+pub own-due : (u start : ℕ) (rest : List ℕ) (a : Attribute) (s : RowCursor) (ps : List Pair)
     → goingOver u start rest (ownPairs a) s ps ≡ due u start rest (ownAsked (a .optional) (a .kind) (a .number) (firstOf (a .components .items))) s ps
 own-due u start rest a s ps = own u (s .before) (s .place) (a .optional) _ _ _
 
 -- ## A line
 
-pub line-filled : (u start : ℕ) (rest : List ℕ) (o : Bool) (forms : ℕ) (cs : List meaning.Component) (s : Filling) (entry exit : List ℤ) → s .at ≤ length rest → s .place ≤ s .at + 3
+pub line-filled : (u start : ℕ) (rest : List ℕ) (o : Bool) (forms : ℕ) (cs : List meaning.Component) (s : RowCursor) (entry exit : List ℤ) → s .at ≤ length rest → s .place ≤ s .at + 3
     → exit ≡ sets entry (s .used) (pos 0 ∷ pos 0 ∷ []) → Steps rest 6 (goingOver u start rest (OfLine o forms cs ∷ []) s) (going u start rest (passed s)) s (passed s) entry exit
 line-filled u start rest o forms cs s entry exit w p e = record {
   values = pos 0 ∷ pos 0 ∷ [];

@@ -15,7 +15,7 @@ use Rattle.meaning.specs.Row.{Pair, OfComponent, Cells, refused, componentPairs
 use Rattle.model_records.specs.declared.Component.{Component}
 use Rattle.model_records.specs.Components.{componentOf, listOf}
 use Rattle.read_fields.specs.Filled.{prefixed, coveredCells, covered, typeAsked, furtherAsked, left, going, goingOver, covering, due, Steps, Fills}
-use Rattle.read_fields.specs.declared.filling.Filling.{Filling}
+use Rattle.read_fields.specs.declared.filling.RowCursor.{RowCursor}
 use Rattle.read_fields.specs.declared.filling.Filled.{Filled}
 use Rattle.read_fields.specs.declared.filling.Filled.the-variants.{On, Rest, No}
 use Rattle.read_fields.proofs.Pairs.{further}
@@ -64,26 +64,26 @@ covered-over place n cs ps fs = rw (mandatory-components cs ps, count-components
 -- ## A turn
 
 -- what the row means from component i on, and where that is due
-abbrev pub fromComponent : (u start : ℕ) (rest : List ℕ) (count : ℕ) (items : List Component) (i : ℕ) → Filling → List Pair → Cells
+abbrev pub fromComponent : (u start : ℕ) (rest : List ℕ) (count : ℕ) (items : List Component) (i : ℕ) → RowCursor → List Pair → Cells
 fromComponent u start rest count items i t = goingOver u start rest (componentPairs (drop i (listOf (take count items)))) t
 
 module _ (u start : ℕ) (rest : List ℕ) (count : ℕ) (items : List Component) (i : ℕ) (d : Component) (h : i < count) (g : count ≤ length items) where
   behindIt : List Pair → List Pair
   behindIt ps = componentPairs (drop (i + 1) (listOf (take count items))) ++ ps
 
-  component-due : (t : Filling) (ps : List Pair)
+  component-due : (t : RowCursor) (ps : List Pair)
       → fromComponent u start rest count items i t ps ≡ due u start rest (furtherAsked (t .before) (getD items i d)) t (componentPairs (drop (i + 1) (listOf (take count items))) ++ ps)
   unfolding componentPairs typeAsked choose
   component-due t ps = rw (listed-next items i count d h g) (further u (t .before) (t .place) _ _ _)
 
-  module _ {most : ℕ} {whole : List Pair → Cells} {s t : Filling} {entry cells : List ℤ} (now : Steps rest most whole (fromComponent u start rest count items i t) s t entry cells) (exit : List ℤ) where
-    pub component-on : (v : Filling) → Fills u start rest 2 (due u start rest (furtherAsked (t .before) (getD items i d)) t) t cells exit (On v)
+  module _ {most : ℕ} {whole : List Pair → Cells} {s t : RowCursor} {entry cells : List ℤ} (now : Steps rest most whole (fromComponent u start rest count items i t) s t entry cells) (exit : List ℤ) where
+    pub component-on : (v : RowCursor) → Fills u start rest 2 (due u start rest (furtherAsked (t .before) (getD items i d)) t) t cells exit (On v)
         → Steps rest (most + 2) whole (fromComponent u start rest count items (i + 1) v) s v entry exit
     component-on v step =
         both now (renamed (fromComponent u start rest count items i t) (fromComponent u start rest count items (i + 1) v) (component-due t) (λ ps. refl)
         (before (λ ps. componentPairs (drop (i + 1) (listOf (take count items))) ++ ps) step))
 
-    pub component-rest : (v : Filling) (n : ℕ) → Fills u start rest 2 (due u start rest (furtherAsked (t .before) (getD items i d)) t) t cells exit (Rest v n)
+    pub component-rest : (v : RowCursor) (n : ℕ) → Fills u start rest 2 (due u start rest (furtherAsked (t .before) (getD items i d)) t) t cells exit (Rest v n)
         → Steps rest (most + 2) whole (covering start rest v (n + (count - 1 - i))) s v entry exit
     component-rest v n step =
         let e : length (drop (i + 1) (listOf (take count items))) ≡ count - 1 - i = length-drop (i + 1) (listOf (take count items)) ∙ rw (length-listed items count g) (omega arith) in
@@ -96,7 +96,7 @@ module _ (u start : ℕ) (rest : List ℕ) (count : ℕ) (items : List Component
     component-no k f step ps = refuses (refused k f) (λ qs. component-due t qs ∙ step (componentPairs (drop (i + 1) (listOf (take count items))) ++ qs)) (λ vs. refl) now ps
 
 -- behind the last component
-pub components-end : (u start : ℕ) (rest : List ℕ) (count : ℕ) (items : List Component) (i most : ℕ) {whole : List Pair → Cells} {s t : Filling} {entry exit : List ℤ} → count ≤ i
+pub components-end : (u start : ℕ) (rest : List ℕ) (count : ℕ) (items : List Component) (i most : ℕ) {whole : List Pair → Cells} {s t : RowCursor} {entry exit : List ℤ} → count ≤ i
     → Steps rest most whole (fromComponent u start rest count items i t) s t entry exit → Steps rest most whole (going u start rest t) s t entry exit
 unfolding componentPairs
 components-end u start rest count items i most {whole} {s} {t} h now = renamed whole (going u start rest t) (λ ps. refl) (λ ps. rw (listed-end items i count h)) now

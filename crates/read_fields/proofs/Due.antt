@@ -18,8 +18,8 @@ use Rattle.value_read.specs.Meant.{fieldOf}
 use Rattle.read_fields.specs.Taken.{FieldTaken, TwiceTaken, Takes}
 use Rattle.read_fields.specs.declared.taking.Taken.{Taken}
 use Rattle.read_fields.specs.Filled.{prefixed, covered, dueCells, typeAsked, left, moved, filled, going, covering, due, Ready, Steps, PutsPair, Puts, Fills}
-use Rattle.read_fields.specs.declared.filling.Filling.{Filling}
-use Rattle.read_fields.specs.declared.filling.Asked.{Asked}
+use Rattle.read_fields.specs.declared.filling.RowCursor.{RowCursor}
+use Rattle.read_fields.specs.declared.filling.FieldRule.{FieldRule}
 use Rattle.read_fields.specs.declared.filling.Filled.{Filled}
 use Rattle.read_fields.specs.declared.filling.Filled.the-variants.{On, Rest, No}
 use Rattle.read_fields.proofs.Stores.{part-most}
@@ -42,7 +42,7 @@ pub taken : (u : ℕ) (rest : List ℕ) (at : ℕ) {r t : Taken} → r ≡ t →
 taken u rest at {r = r} e f = subst (Takes u (drop at rest)) e (subst (λ (l : List ℕ). Takes u l r) (to-end rest at) f)
 
 -- the field found behind a place lies in the rest, and there is room for its numbers
-pub record Found (start : ℕ) (rest : List ℕ) (s : Filling) (from len : ℕ) : Type 0 where
+pub record Found (start : ℕ) (rest : List ℕ) (s : RowCursor) (from len : ℕ) : Type 0 where
   pub within : s .at + from + len ≤ length rest
   pub begins : s .at + from < 2 ^ 64
   pub ends : s .at + from + len < 2 ^ 64
@@ -51,7 +51,7 @@ pub record Found (start : ℕ) (rest : List ℕ) (s : Filling) (from len : ℕ) 
   pub next : s .place + 1 < 2 ^ 64
   pub pair : s .used + 2 < 2 ^ 64
 
-pub found : (start : ℕ) (rest : List ℕ) (s : Filling) (from len : ℕ) → Ready start rest 2 s → FirstField (drop (s .at) rest) from len → Found start rest s from len
+pub found : (start : ℕ) (rest : List ℕ) (s : RowCursor) (from len : ℕ) → Ready start rest 2 s → FirstField (drop (s .at) rest) from len → Found start rest s from len
 found start rest s from len ready f =
     let w = next-within (s .at) from len rest (ready .within) f in
     let n = part-most (s .at + from) len (drop (s .at + from) rest) in
@@ -65,7 +65,7 @@ found start rest s from len ready f =
       pair = ready .room;
     }
 
-module _ (u start : ℕ) (rest : List ℕ) (asked : Asked) (s : Filling) (ready : Ready start rest 2 s) where
+module _ (u start : ℕ) (rest : List ℕ) (asked : FieldRule) (s : RowCursor) (ready : Ready start rest 2 s) where
   pub missing : ((n : ℕ) → fieldsOf n (drop (s .at) rest) ≡ []) → (ps : List Pair) → due u start rest asked s ps ≡ refused 11 (s .place)
   missing e ps = rw (e (start + s .at)) (due-missing u (s .place) _ ps (asked .needed) (asked .barred))
 

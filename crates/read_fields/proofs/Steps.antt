@@ -10,12 +10,12 @@ use lib.ListN.{length, length-append}
 use lib.Seq.{sets}
 use Rattle.meaning.specs.Row.{Pair, Cells}
 use Rattle.read_fields.specs.Filled.{prefixed, Steps}
-use Rattle.read_fields.specs.declared.filling.Filling.{Filling}
+use Rattle.read_fields.specs.declared.filling.RowCursor.{RowCursor}
 use Rattle.read_fields.proofs.Stores.{sets-append, same-sets}
 use Rattle.read_fields.proofs.Pairs.{prefixed-none, prefixed-both}
 
 -- no step
-pub none : (rest : List ℕ) (whole : List Pair → Cells) (s : Filling) (l : List ℤ) → s .at ≤ length rest → s .place ≤ s .at + 3 → Steps rest 0 whole whole s s l l
+pub none : (rest : List ℕ) (whole : List Pair → Cells) (s : RowCursor) (l : List ℤ) → s .at ≤ length rest → s .place ≤ s .at + 3 → Steps rest 0 whole whole s s l l
 none rest whole s l w p = record {
   values = [];
   meant = λ ps. sym (prefixed-none (whole ps));
@@ -26,7 +26,7 @@ none rest whole s l w p = record {
   placed = p;
 }
 
-module _ {rest : List ℕ} {m n : ℕ} {whole middle after : List Pair → Cells} {s t v : Filling} {entry between exit : List ℤ} where
+module _ {rest : List ℕ} {m n : ℕ} {whole middle after : List Pair → Cells} {s t v : RowCursor} {entry between exit : List ℤ} where
   -- one step, and another
   pub both : Steps rest m whole middle s t entry between → Steps rest n middle after t v between exit → Steps rest (m + n) whole after s v entry exit
   both a b = record {
@@ -39,7 +39,7 @@ module _ {rest : List ℕ} {m n : ℕ} {whole middle after : List Pair → Cells
     placed = b .placed;
   }
 
-module _ {rest : List ℕ} {m : ℕ} {whole after : List Pair → Cells} {s t : Filling} {entry exit : List ℤ} where
+module _ {rest : List ℕ} {m : ℕ} {whole after : List Pair → Cells} {s t : RowCursor} {entry exit : List ℤ} where
   -- a step with more cells allowed
   pub wider : (n : ℕ) → m ≤ n → Steps rest m whole after s t entry exit → Steps rest n whole after s t entry exit
   wider n h a = record { values = a .values; meant = a .meant; used = a .used; stored = a .stored; few = omega (arith, a .few); within = a .within; placed = a .placed }

@@ -18,8 +18,8 @@ use Rattle.model_records.specs.declared.Component as declared
 use Rattle.model_records.specs.Components.{componentOf}
 use Rattle.model_records.specs.declared.Attribute.{Attribute}
 use Rattle.model_records.specs.Attributes.{firstOf}
-use Rattle.read_fields.specs.declared.filling.Filling.{Filling}
-use Rattle.read_fields.specs.declared.filling.Asked.{Asked}
+use Rattle.read_fields.specs.declared.filling.RowCursor.{RowCursor}
+use Rattle.read_fields.specs.declared.filling.FieldRule.{FieldRule}
 use Rattle.read_fields.specs.declared.filling.Filled.{Filled}
 use Rattle.read_fields.specs.declared.filling.Filled.the-variants.{On, Rest, No}
 
@@ -64,22 +64,22 @@ dueCells u needed barred place type ps (f ∷ fs) =
     (putPair place (definedOr defined (valueOf type f)) (pairCells u defined (place + 1) ps fs)))
 
 -- the state behind a field that ends at a byte of the rest, and behind its pair
-abbrev pub moved : Filling → ℕ → Filling
+abbrev pub moved : RowCursor → ℕ → RowCursor
 moved s at = record { at = at; place = s .place; used = s .used; before = false }
 
-abbrev pub filled : Filling → Bool → Filling
+abbrev pub filled : RowCursor → Bool → RowCursor
 filled s before = record { at = s .at; place = s .place + 1; used = s .used + 2; before = before }
 
 -- the state behind a line attribute's pair
-abbrev pub passed : Filling → Filling
+abbrev pub passed : RowCursor → RowCursor
 passed s = record { at = s .at; place = s .place; used = s .used + 2; before = s .before }
 
 -- what a further component has to be
-abbrev pub furtherAsked : Bool → declared.Component → Asked
+abbrev pub furtherAsked : Bool → declared.Component → FieldRule
 furtherAsked before c = record { needed = before; barred = not before; kind = 4; number = 0; component = c }
 
 -- what an attribute's own field has to be, and a coordinate's first component
-abbrev pub ownAsked : Bool → ℕ → ℕ → declared.Component → Asked
+abbrev pub ownAsked : Bool → ℕ → ℕ → declared.Component → FieldRule
 ownAsked optional kind number c = record {
   needed = not optional;
   barred = false;
@@ -94,24 +94,24 @@ ownPairs a = OfAttribute (a .optional) (typeAsked (a .kind) (a .number) (compone
     ∷ []
 
 -- an attribute has the components of its type
-pub record Counted (a : Attribute) : Type 0 where
+pub record ComponentsCounted (a : Attribute) : Type 0 where
   pub room : length (a .components .items) ≡ 3
   pub most : a .components .count ≤ 3
   pub least : 2 ≤ a .kind → a .kind ≤ 3 → 1 ≤ a .components .count
 
 -- the fields that are left
-abbrev pub left : (start : ℕ) → List ℕ → Filling → List Field
+abbrev pub left : (start : ℕ) → List ℕ → RowCursor → List Field
 left start rest s = fieldsOf (start + s .at) (drop (s .at) rest)
 
 -- a row may be filled on, by so many cells
-pub record Ready (start : ℕ) (rest : List ℕ) (most : ℕ) (s : Filling) : Type 0 where
+pub record Ready (start : ℕ) (rest : List ℕ) (most : ℕ) (s : RowCursor) : Type 0 where
   pub short : start + length rest < 2 ^ 62
   pub within : s .at ≤ length rest
   pub placed : s .place ≤ s .at + 3
   pub room : s .used + most < 2 ^ 64
 
 -- a row filled from s to t: whatever pairs follow, what it meant at s is the values stored and what it means at t
-pub record Steps (rest : List ℕ) (most : ℕ) (whole after : List Pair → Cells) (s t : Filling) (entry exit : List ℤ)
+pub record Steps (rest : List ℕ) (most : ℕ) (whole after : List Pair → Cells) (s t : RowCursor) (entry exit : List ℤ)
     : Type 0 where
   pub values : List ℤ
   pub meant : (ps : List Pair) → whole ps ≡ prefixed values (after ps)
@@ -122,37 +122,37 @@ pub record Steps (rest : List ℕ) (most : ℕ) (whole after : List Pair → Cel
   pub placed : t .place ≤ t .at + 3
 
 -- what the rest of the row means at a state
-abbrev pub going : (u start : ℕ) → List ℕ → Filling → List Pair → Cells
+abbrev pub going : (u start : ℕ) → List ℕ → RowCursor → List Pair → Cells
 going u start rest s ps = pairCells u (s .before) (s .place) ps (left start rest s)
 
 -- the same, over an attribute's pairs and those that follow
-abbrev pub goingOver : (u start : ℕ) → List ℕ → List Pair → Filling → List Pair → Cells
+abbrev pub goingOver : (u start : ℕ) → List ℕ → List Pair → RowCursor → List Pair → Cells
 goingOver u start rest own s ps = going u start rest s (own ++ ps)
 
 -- what it means where two undefined bytes stood before, over so many pairs of the attribute
-abbrev pub covering : (start : ℕ) → List ℕ → Filling → ℕ → List Pair → Cells
+abbrev pub covering : (start : ℕ) → List ℕ → RowCursor → ℕ → List Pair → Cells
 covering start rest s count ps = covered (s .place) count ps (left start rest s)
 
 -- a value's pair stored, at a state behind its field
-pub record PutsPair (v : Value) (s t : Filling) (entry exit : List ℤ) : Type 0 where
+pub record PutsPair (v : Value) (s t : RowCursor) (entry exit : List ℤ) : Type 0 where
   pub first : ℤ
   pub second : ℤ
   pub value : v ≡ pair first second
   pub state : t ≡ filled s true
   pub stored : exit ≡ sets entry (s .used) (first ∷ second ∷ [])
 
-abbrev pub Puts : Value → Filling → (entry exit : List ℤ) → Filled → Type 0
+abbrev pub Puts : Value → RowCursor → (entry exit : List ℤ) → Filled → Type 0
 Puts v s entry exit (On t) = PutsPair v s t entry exit
 Puts v s entry exit (Rest t count) = ⊥
 Puts v s entry exit (No k f) = (v ≡ wrong k) × (f ≡ s .place)
 
 -- what the rest of the row means where a field is due
-abbrev pub due : (u start : ℕ) → List ℕ → Asked → Filling → List Pair → Cells
+abbrev pub due : (u start : ℕ) → List ℕ → FieldRule → RowCursor → List Pair → Cells
 due u start rest asked s ps =
     dueCells u (asked .needed) (asked .barred) (s .place)
     (typeAsked (asked .kind) (asked .number) (componentOf (asked .component))) ps (left start rest s)
 
-abbrev pub Fills : (u start : ℕ) (rest : List ℕ) (most : ℕ) (whole : List Pair → Cells) (s : Filling)
+abbrev pub Fills : (u start : ℕ) (rest : List ℕ) (most : ℕ) (whole : List Pair → Cells) (s : RowCursor)
     (entry exit : List ℤ) → Filled → Type 0
 Fills u start rest most whole s entry exit (On t) = Steps rest most whole (going u start rest t) s t entry exit
 Fills u start rest most whole s entry exit (Rest t count) = (t .used + (count + count) ≤ s .used + most)

@@ -13,7 +13,7 @@ ghost use Rattle.model_records.specs.Attributes.{typeOf};
 ghost use Rattle.model_records.specs.Components.{componentOf, componentsOf};
 ghost use Rattle.value_read.specs.Meant.{valueMeant, fieldOf};
 ghost use Rattle.read_fields.specs.Filled.{typeAsked, due, moved, filled, passed, furtherAsked, ownAsked};
-ghost use Rattle.read_fields.specs.Filled.{ownPairs, goingOver, Counted, Ready, Puts, Fills};
+ghost use Rattle.read_fields.specs.Filled.{ownPairs, goingOver, ComponentsCounted, Ready, Puts, Fills};
 use crate::storing;
 use crate::taking;
 use crate::taking::Taken;
@@ -31,7 +31,7 @@ use value_read::Value;
 
 // How far a row is filled: the byte of the rest of the line, the place of the next field, the cells used, and whether
 // the field before was defined.
-pub struct Filling {
+pub struct RowCursor {
     pub at: usize,
     pub place: usize,
     pub used: usize,
@@ -39,7 +39,7 @@ pub struct Filling {
 }
 
 // What a field has to be: whether it must be defined, whether it must be undefined, and the type of its attribute.
-pub struct Asked {
+pub struct FieldRule {
     pub needed: bool,
     pub barred: bool,
     pub kind: u8,
@@ -50,8 +50,8 @@ pub struct Asked {
 // The row goes on; two undefined bytes stood at the place, with so many pairs of the attribute left; or a refusal and
 // its field.
 pub enum Filled {
-    On(Filling),
-    Rest(Filling, usize),
+    On(RowCursor),
+    Rest(RowCursor, usize),
     No(u8, usize),
 }
 
@@ -73,10 +73,10 @@ fn read_value(kind: u8, number: usize, component: Component, field: &[u8], start
 }
 
 // The state behind a field, before its pair.
-fn behind(s: Filling, at: usize) -> Filling
+fn behind(s: RowCursor, at: usize) -> RowCursor
     ensures { λ r. ⌜ r ≡ moved s at ⌝ }
 {
-    Filling {
+    RowCursor {
         at,
         place: s.place,
         used: s.used,
@@ -85,13 +85,13 @@ fn behind(s: Filling, at: usize) -> Filling
 }
 
 // An undefined field's pair, at a state behind it: "Undefined is 0 0".
-fn put_undefined(cells: &mut [i64], s: Filling) -> Filled
+fn put_undefined(cells: &mut [i64], s: RowCursor) -> Filled
     requires { ⌜ (s .place + 1 < 2 ^ 64) × (s .used + 2 < 2 ^ 64) ⌝ }
     ensures answer { λ r. ⌜ r ≡ Filled.On (filled s false) ⌝ }
     ensures stored { λ r. ⌜ now (cells .exit) ≡ sets (now (cells .entry)) (s .used) (pos 0 ∷ pos 0 ∷ []) ⌝ }
 {
     storing::put_pair(cells, s.used, 0, 0);
-    Filled::On(Filling {
+    Filled::On(RowCursor {
         at: s.at,
         place: s.place + 1,
         used: s.used + 2,
@@ -100,14 +100,14 @@ fn put_undefined(cells: &mut [i64], s: Filling) -> Filled
 }
 
 // A value's two cells, at a state behind its field; or its refusal.
-fn put_value(v: Value, cells: &mut [i64], s: Filling) -> Filled
+fn put_value(v: Value, cells: &mut [i64], s: RowCursor) -> Filled
     requires { ⌜ (s .place + 1 < 2 ^ 64) × (s .used + 2 < 2 ^ 64) ⌝ }
     ensures { λ r. ⌜ Puts (valueMeant v) s (now (cells .entry)) (now (cells .exit)) r ⌝ }
 {
     match v {
         Value::Pair(a, b) => {
             storing::put_pair(cells, s.used, a, b);
-            Filled::On(Filling {
+            Filled::On(RowCursor {
                 at: s.at,
                 place: s.place + 1,
                 used: s.used + 2,
@@ -119,7 +119,13 @@ fn put_value(v: Value, cells: &mut [i64], s: Filling) -> Filled
 }
 
 // A defined field, at a state behind it.
-fn put_defined(asked: Asked, field: &[u8], start: usize, cells: &mut [i64], s: Filling) -> Filled
+fn put_defined(
+    asked: FieldRule,
+    field: &[u8],
+    start: usize,
+    cells: &mut [i64],
+    s: RowCursor,
+) -> Filled
     requires { ⌜ start + (1 + length (now field)) < 2 ^ 63 ⌝ }
     requires { ⌜ (s .place + 1 < 2 ^ 64) × (s .used + 2 < 2 ^ 64) ⌝ }
     ensures { λ r. ⌜
@@ -133,12 +139,12 @@ fn put_defined(asked: Asked, field: &[u8], start: usize, cells: &mut [i64], s: F
 
 // A field that is due, and its pair.
 fn put_field(
-    asked: Asked,
+    asked: FieldRule,
     rest: &[u8],
     start: usize,
     undefined: u8,
     cells: &mut [i64],
-    s: Filling,
+    s: RowCursor,
 ) -> Filled
     requires { ⌜ Ready start (now rest) 2 s ⌝ }
     ensures { λ r. ⌜
@@ -172,13 +178,13 @@ fn put_field(
 }
 
 // A line attribute's pair: it has no field here, lines of its own follow.
-fn put_line(cells: &mut [i64], s: Filling) -> Filled
+fn put_line(cells: &mut [i64], s: RowCursor) -> Filled
     requires { ⌜ s .used + 2 < 2 ^ 64 ⌝ }
     ensures answer { λ r. ⌜ r ≡ Filled.On (passed s) ⌝ }
     ensures stored { λ r. ⌜ now (cells .exit) ≡ sets (now (cells .entry)) (s .used) (pos 0 ∷ pos 0 ∷ []) ⌝ }
 {
     storing::put_pair(cells, s.used, 0, 0);
-    Filled::On(Filling {
+    Filled::On(RowCursor {
         at: s.at,
         place: s.place,
         used: s.used + 2,
@@ -187,10 +193,10 @@ fn put_line(cells: &mut [i64], s: Filling) -> Filled
 }
 
 // A further component must be defined where the one before is, and undefined where that one is.
-fn ask_further(before: bool, component: Component) -> Asked
+fn ask_further(before: bool, component: Component) -> FieldRule
     ensures { λ r. ⌜ r ≡ furtherAsked before component ⌝ }
 {
-    Asked {
+    FieldRule {
         needed: before,
         barred: !before,
         kind: 4,
@@ -206,7 +212,7 @@ fn put_further(
     start: usize,
     undefined: u8,
     cells: &mut [i64],
-    s: Filling,
+    s: RowCursor,
 ) -> Filled
     requires { ⌜ (components .count ≤ 3) × (length (components .items) ≡ 3) ⌝ }
     requires { ⌜ Ready start (now rest) 4 s ⌝ }
@@ -244,10 +250,10 @@ fn put_further(
 }
 
 // An attribute's own field, and a coordinate's first component, must be defined where the attribute is mandatory.
-fn ask_own(optional: bool, kind: u8, number: usize, component: Component) -> Asked
+fn ask_own(optional: bool, kind: u8, number: usize, component: Component) -> FieldRule
     ensures { λ r. ⌜ r ≡ ownAsked optional kind number component ⌝ }
 {
-    Asked {
+    FieldRule {
         needed: !optional,
         barred: false,
         kind,
@@ -264,7 +270,7 @@ fn put_coordinate(
     start: usize,
     undefined: u8,
     cells: &mut [i64],
-    s: Filling,
+    s: RowCursor,
 ) -> Filled
     requires { ⌜ (1 ≤ components .count) × (components .count ≤ 3) × (length (components .items) ≡ 3) ⌝ }
     requires { ⌜ Ready start (now rest) 6 s ⌝ }
@@ -296,7 +302,7 @@ fn put_own(
     start: usize,
     undefined: u8,
     cells: &mut [i64],
-    s: Filling,
+    s: RowCursor,
 ) -> Filled
     requires { ⌜ length (a .components .items) ≡ 3 ⌝ }
     requires { ⌜ Ready start (now rest) 6 s ⌝ }
@@ -323,9 +329,9 @@ pub fn put_attribute(
     start: usize,
     undefined: u8,
     cells: &mut [i64],
-    s: Filling,
+    s: RowCursor,
 ) -> Filled
-    requires { ⌜ Counted a ⌝ }
+    requires { ⌜ ComponentsCounted a ⌝ }
     requires { ⌜ Ready start (now rest) 6 s ⌝ }
     ensures { λ r. ⌜
         Fills undefined start (now (rest .entry)) 6

@@ -15,7 +15,7 @@ use Rattle.meaning.specs.Reading.{stretch, objectsOf, isUsed, Content, Rooms}
 use Rattle.meaning.specs.Lines.{Step, no, storeRow, objectFields}
 use Rattle.model_records.specs.Records.{modelAt, pairsAt}
 use Rattle.value_read.specs.Meant.{fieldOf}
-use Rattle.table_index.specs.Holds.{Held}
+use Rattle.table_index.specs.Holds.{IndexedTable}
 use Rattle.table_index.proofs.Kept.{held-used}
 use Rattle.read_objects.specs.declared.OpenTable.{OpenTable}
 use Rattle.read_state.specs.declared.State.{State}
@@ -26,7 +26,7 @@ use Rattle.read_frame.proofs.Moves.{behind-more, behind-at}
 use Rattle.read_objects.specs.declared.naming.Identified.{Identified}
 use Rattle.read_objects.specs.declared.naming.Identified.the-variants.{At}
 use Rattle.read_objects.specs.Names.{identifyIn, IdentifiedAt, Identifies}
-use Rattle.read_objects.specs.Rows.{Adds}
+use Rattle.read_objects.specs.Rows.{RowAdds}
 
 -- ## Parts of the text
 
@@ -88,7 +88,7 @@ module _ (b text : List ℕ) (seed : ℕ) (here : OpenTable) (s : State) (at end
       ∙ ap (λ (fs : List Field). identifyIn (modelAt b .undefined) fs (behindShape (modelAt b) rooms text (here .table) (fieldAt 1 fs) (drop 1 fs) c)) rest-fields
       ∙ ap (λ (v : ℕ). identifyIn v (fieldsOf (at + behind) (stretch text (at + behind) (end - (at + behind)))) (behindShape (modelAt b) rooms text (here .table) (fieldAt 1 (fieldsOf (at + behind) (stretch text (at + behind) (end - (at + behind))))) (drop 1 (fieldsOf (at + behind) (stretch text (at + behind) (end - (at + behind))))) c)) (sym undefined)
 
-  pub unnamed : (k : ℕ) (r : Identified) → r ≡ Identified.No k → Identifies u (stretch text (at + behind) (end - (at + behind))) r → Adds b text seed s whole rows rows′ cs cs′ index index′ (No k 2)
+  pub unnamed : (k : ℕ) (r : Identified) → r ≡ Identified.No k → Identifies u (stretch text (at + behind) (end - (at + behind))) r → RowAdds b text seed s whole rows rows′ cs cs′ index index′ (No k 2)
   unnamed k r e i =
       let h : (p : ℕ) (next : Step) → identifyIn u (fieldsOf p (stretch text (at + behind) (end - (at + behind)))) next ≡ no k 2 = subst (Identifies u (stretch text (at + behind) (end - (at + behind)))) e i in
       record { step = λ j rooms marks points x y z. sym (whole-is rooms _ ∙ h (at + behind) _); holds = λ marks points held. tt }
@@ -107,24 +107,24 @@ module _ (b text : List ℕ) (seed : ℕ) (here : OpenTable) (s : State) (at end
     adding-is : TableHolds (modelAt b) b here → (rooms : Rooms) (c : Content) → adding a size rooms c ≡ whole rooms c
     adding-is t rooms c = sym (whole-is rooms c ∙ i .goesOn (at + behind) _ ∙ rw (rest-is, ← undefined, ← t .attributes))
 
-    pub named : TableHolds (modelAt b) b here → (r : declared.Step) → Adds b text seed s (adding a size) rows rows′ cs cs′ index index′ r → Adds b text seed s whole rows rows′ cs cs′ index index′ r
+    pub named : TableHolds (modelAt b) b here → (r : declared.Step) → RowAdds b text seed s (adding a size) rows rows′ cs cs′ index index′ r → RowAdds b text seed s whole rows rows′ cs cs′ index index′ r
     named t r d = record { step = λ j rooms marks points x y z. d .step j rooms marks points x y z ∙ adding-is t rooms _; holds = d .holds }
 
 -- ## 15
 
-pub used-is : (text : List ℕ) (seed : ℕ) (s : State) (i rows : List ℕ) (cs : List ℤ) (index : List ℕ) → Held seed text (s .rows) (s .cells) rows cs index
+pub used-is : (text : List ℕ) (seed : ℕ) (s : State) (i rows : List ℕ) (cs : List ℤ) (index : List ℕ) → IndexedTable seed text (s .rows) (s .cells) rows cs index
     → (x : Bool) → x ≡ isUsed i (objectsOf text cs (take (s .rows) rows)) → isUsed i (objectsOf text (take (s .cells) cs) (take (s .rows) rows)) ≡ x
 used-is text seed s i rows cs index held x e = sym (e ∙ held-used seed text (s .rows) (s .cells) rows cs index held i)
 
-module _ (b text : List ℕ) (seed : ℕ) (s : State) (i : List ℕ) (rows : List ℕ) (cs : List ℤ) (index : List ℕ) (held : Held seed text (s .rows) (s .cells) rows cs index)
+module _ (b text : List ℕ) (seed : ℕ) (s : State) (i : List ℕ) (rows : List ℕ) (cs : List ℤ) (index : List ℕ) (held : IndexedTable seed text (s .rows) (s .cells) rows cs index)
     (next : Rooms → Content → Step) (rows′ : List ℕ) (cs′ : List ℤ) (index′ : List ℕ) where
   abbrev judged : Rooms → Content → Step
   judged = λ rooms c. refuse (isUsed i (objectsOf text (c .cells) (c .rows))) (no 15 2) (next rooms c)
 
-  pub used-before : isUsed i (objectsOf text (take (s .cells) cs) (take (s .rows) rows)) ≡ true → Adds b text seed s judged rows rows′ cs cs′ index index′ (No 15 2)
+  pub used-before : isUsed i (objectsOf text (take (s .cells) cs) (take (s .rows) rows)) ≡ true → RowAdds b text seed s judged rows rows′ cs cs′ index index′ (No 15 2)
   unfolding refuse
   used-before e = record { step = λ j rooms marks points x y z. rw e; holds = λ marks points h. tt }
 
-  pub unused : (r : declared.Step) → isUsed i (objectsOf text (take (s .cells) cs) (take (s .rows) rows)) ≡ false → Adds b text seed s next rows rows′ cs cs′ index index′ r → Adds b text seed s judged rows rows′ cs cs′ index index′ r
+  pub unused : (r : declared.Step) → isUsed i (objectsOf text (take (s .cells) cs) (take (s .rows) rows)) ≡ false → RowAdds b text seed s next rows rows′ cs cs′ index index′ r → RowAdds b text seed s judged rows rows′ cs cs′ index index′ r
   unfolding refuse
   unused r e d = record { step = λ j rooms marks points x y z. rw e (d .step j rooms marks points x y z); holds = d .holds }

@@ -16,9 +16,9 @@ use Rattle.model_records.specs.Components.{componentOf, listOf}
 use Rattle.model_records.specs.declared.Attribute.{Attribute}
 use Rattle.model_records.specs.Records.{kindAt, payloadAt, nextAt, pairsAt}
 use Rattle.model_records.specs.Attributes.{typeOf, firstOf, Decoded}
-use Rattle.model_records.specs.Standing.{Here, AttributeHere, AttributeNext, AttributesHere}
-use Rattle.model_records.proofs.Standing as standing
-use Rattle.read_fields.specs.Filled.{Counted}
+use Rattle.model_records.specs.AtRecord.{RecordFits, AttributeHere, AttributeNext, AttributesHere}
+use Rattle.model_records.proofs.AtRecord as standing
+use Rattle.read_fields.specs.Filled.{ComponentsCounted}
 use Rattle.read_objects.specs.Fields.{recordPairs}
 use Rattle.read_fields.proofs.Coordinates.{listed-next, mandatory-components}
 use Rattle.read_fields.proofs.Attributes.{coordinate-type, line-type, own-type}
@@ -43,7 +43,7 @@ unfolding pairsOfType
 coordinate-shape o count items h g =
     rw (listed-next items 0 count (record { decimals = 0; least = pos 0; greatest = pos 0 }) h g, append-nil (componentPairs (drop 1 (listOf (take count items)))))
 
-module _ (a : Attribute) (counted : Counted a) where
+module _ (a : Attribute) (counted : ComponentsCounted a) where
   shape : 2 ≤ a .kind → a .kind ≤ 3 → pairsOfType (a .optional) (typeOf a)
       ≡ OfAttribute (a .optional) (Number (componentOf (firstOf (a .components .items)))) ∷ (componentPairs (drop 1 (listOf (take (a .components .count) (a .components .items)))) ++ [])
   shape h g = rw (coordinate-type a h g) (coordinate-shape (a .optional) (a .components .count) (a .components .items) (counted .least h g) (omega (arith, counted .most, counted .room)))
@@ -69,7 +69,7 @@ module _ (a : Attribute) (counted : Counted a) where
 
 -- ## Records
 
-pub counted : (b : List ℕ) (at : ℕ) (a : Attribute) → Decoded b at a → Counted a
+pub counted : (b : List ℕ) (at : ℕ) (a : Attribute) → Decoded b at a → ComponentsCounted a
 counted b at a d = record { room = d .room; most = d .count; least = λ h g. go h g (eqb (a .kind) 2) refl }
   where
     go : 2 ≤ a .kind → a .kind ≤ 3 → (two : Bool) → eqb (a .kind) 2 ≡ two → 1 ≤ a .components .count
@@ -80,7 +80,7 @@ pub decoded-pairs : (b : List ℕ) (at : ℕ) (a : Attribute) → Decoded b at a
 decoded-pairs b at a d = rw (d .type) (ap (λ (o : Bool). pairsOfType o (attributeOf at (payloadAt b at) .type)) (d .optional))
 
 module _ {m : Model} (b : List ℕ) (at : ℕ) (from : AttributesHere m b at) where
-  pub record-here : Here b at
+  pub record-here : RecordFits b at
   record-here = standing.here m b at (from .topics) (from .tables) (from .standing)
 
   pub no-record : (kindAt b at ≡ 5 → ⊥) → pairsAt b at ≡ []

@@ -19,13 +19,13 @@ use Rattle.meaning.specs.Lines.{Step, go, no, storeRow}
 use Rattle.model_records.specs.Records.{modelAt, pairsAt}
 use Rattle.value_read.specs.Meant.{fieldOf}
 use Rattle.table_index.specs.Index.{hashOf, insertOf}
-use Rattle.table_index.specs.Holds.{Held}
+use Rattle.table_index.specs.Holds.{IndexedTable}
 use Rattle.table_index.proofs.More.{held-more}
 use Rattle.read_objects.specs.declared.OpenTable.{OpenTable}
 use Rattle.read_state.specs.declared.State.{State}
 use Rattle.read_state.specs.declared.Step.the-variants.{Go, No}
 use Rattle.read_state.specs.Meaning.{contentOf, stepOf}
-use Rattle.table.specs.Rows.{rowSize, Laid}
+use Rattle.table.specs.Rows.{rowSize, RowsLaidOut}
 use Rattle.read_objects.specs.Tables.{TableHolds}
 use Rattle.read_polylines.proofs.Ways.{point-count}
 use borrow.Rule.Slice.PartMut.{putMid, midOf}
@@ -33,7 +33,7 @@ use Rattle.read_objects.proofs.Tables.{tables-few}
 use Rattle.read_objects.specs.Fields.{Ends}
 use Rattle.read_objects.specs.declared.rows.RowOut.{RowOut}
 use Rattle.read_objects.specs.declared.rows.RowOut.the-variants.{Full}
-use Rattle.read_objects.specs.Rows.{RowFull, Fills, Behind, Adds}
+use Rattle.read_objects.specs.Rows.{RowFull, Fills, BehindRow, RowAdds}
 use Rattle.read_objects.proofs.Sizes.{row-size}
 use Rattle.read_objects.proofs.Cells.{lent, row-stored, row-front, row-first, row-length, one-listed}
 
@@ -98,7 +98,7 @@ module _ (m : Model) (rooms : Rooms) (text : List ℕ) (t : ℕ) (i : Field) (c 
 first-same : {A : Type 0} (l l′ : List A) (n i : ℕ) (d : A) → take n l′ ≡ take n l → i < n → getD l′ i d ≡ getD l i d
 first-same {A} l l′ n i d e h = sym (getD-take n l′ i d h) ∙ ap (λ (t : List A). getD t i d) e ∙ getD-take n l i d h
 
-module _ (m : Model) (n used used′ t : ℕ) (rows rows′ : List ℕ) (cs cs′ : List ℤ) (within : (o : ℕ) → o < n → getD rows o 0 + 2 < used) (d : Laid m n used rows cs)
+module _ (m : Model) (n used used′ t : ℕ) (rows rows′ : List ℕ) (cs cs′ : List ℤ) (within : (o : ℕ) → o < n → getD rows o 0 + 2 < used) (d : RowsLaidOut m n used rows cs)
     (rowsSame : take n rows′ ≡ take n rows) (cellsSame : take used cs′ ≡ take used cs) (atRow : getD rows′ n 0 ≡ used) (atTable : getD cs′ used (pos 0) ≡ pos t)
     (table : t < length (m .tables)) (fits : used + rowSize m t ≤ used′) where
   same-row : (o : ℕ) → o < n → getD rows′ o 0 ≡ getD rows o 0
@@ -110,7 +110,7 @@ module _ (m : Model) (n used used′ t : ℕ) (rows rows′ : List ℕ) (cs cs�
   new-table : cellAt cs′ (getD rows′ n 0) ≡ t
   new-table = ap (cellAt cs′) atRow ∙ ap natAbs atTable
 
-  laid-more : Laid m (n + 1) used′ rows′ cs′
+  laid-more : RowsLaidOut m (n + 1) used′ rows′ cs′
   laid-more = record {
     table = below-more (λ (o : ℕ). cellAt cs′ (getD rows′ o 0) < length (m .tables)) n (λ o l. rw (same-table o l) (d .table o l)) (rw new-table table);
     ends = below-more (λ (o : ℕ). getD rows′ o 0 + rowSize m (cellAt cs′ (getD rows′ o 0)) ≤ used′) n
@@ -127,7 +127,7 @@ module _ (m : Model) (n used used′ t : ℕ) (rows rows′ : List ℕ) (cs cs�
 -- ## A row of the line's fields
 
 module _ (b text : List ℕ) (seed : ℕ) (here : OpenTable) (s : State) (start size : ℕ) (u : ℕ) (fs : List Field) (rows : List ℕ) (cs : List ℤ) (index : List ℕ)
-    (held : Held seed text (s .rows) (s .cells) rows cs index) where
+    (held : IndexedTable seed text (s .rows) (s .cells) rows cs index) where
   abbrev meant : Rooms → Content → Step
   meant = λ rooms c. storeRow (modelAt b) rooms text (here .table) (fieldOf start (stretch text start size)) c (pairCells u true 3 (pairsAt b (here .at)) fs)
 
@@ -137,7 +137,7 @@ module _ (b text : List ℕ) (seed : ℕ) (here : OpenTable) (s : State) (start 
   cells-length : length (take (s .cells) cs) ≡ s .cells
   cells-length = length-take-le (s .cells) cs (held .cells-in)
 
-  pub fields-refused : (rows′ : List ℕ) (cs′ : List ℤ) (index′ : List ℕ) (k f : ℕ) → pairCells u true 3 (pairsAt b (here .at)) fs ≡ refused k f → Adds b text seed s meant rows rows′ cs cs′ index index′ (No k f)
+  pub fields-refused : (rows′ : List ℕ) (cs′ : List ℤ) (index′ : List ℕ) (k f : ℕ) → pairCells u true 3 (pairsAt b (here .at)) fs ≡ refused k f → RowAdds b text seed s meant rows rows′ cs cs′ index index′ (No k f)
   unfolding storeRow
   fields-refused rows′ cs′ index′ k f e = record { step = λ j rooms marks points x y z. rw e; holds = λ marks points h. tt }
 
@@ -146,7 +146,7 @@ module _ (b text : List ℕ) (seed : ℕ) (here : OpenTable) (s : State) (start 
         → (leb (rooms .rows) (length (contentOf j s marks rows cs points .rows)) || ltb (rooms .cells) (length (contentOf j s marks rows cs points .cells) + (3 + length (full .values)))) ≡ (leb (length rows) (s .rows) || ltb (length cs) (s .cells + (3 + n)))
     room-is j rooms marks points x y = rw (x, y, rows-length, cells-length, full .size)
 
-    pub lacks : (rows′ : List ℕ) (cs′ : List ℤ) (index′ : List ℕ) (m : ℕ) → m ≡ length cs → (leb (length rows) (s .rows) || ltb m (s .cells + (3 + n))) ≡ true → Adds b text seed s meant rows rows′ cs cs′ index index′ (No 16 0)
+    pub lacks : (rows′ : List ℕ) (cs′ : List ℤ) (index′ : List ℕ) (m : ℕ) → m ≡ length cs → (leb (length rows) (s .rows) || ltb m (s .cells + (3 + n))) ≡ true → RowAdds b text seed s meant rows rows′ cs cs′ index index′ (No 16 0)
     lacks rows′ cs′ index′ m q e = record {
       step = λ j rooms marks points x y z. rw (full .meaning) (sym (store-lacks (modelAt b) rooms text (here .table) (fieldOf start (stretch text start size)) (contentOf j s marks rows cs points) (full .values) (room-is j rooms marks points x y ∙ rw q at e)));
       holds = λ marks points h. tt;
@@ -158,7 +158,7 @@ module _ (b text : List ℕ) (seed : ℕ) (here : OpenTable) (s : State) (start 
         (listed : rows′ ≡ set rows (s .rows) (s .cells))
         (stored : cs′ ≡ sets cs₁ (s .cells) (pos (here .table) ∷ pos start ∷ pos size ∷ []))
         (linked : index′ ≡ insertOf index (length rows) (s .rows) hash)
-        (behind : Behind b here s (3 + n) r) where
+        (behind : BehindRow b here s (3 + n) r) where
       cells-are : cs′ ≡ sets (sets cs (s .cells + 3) (full .values)) (s .cells) (pos (here .table) ∷ pos start ∷ pos size ∷ [])
       cells-are = stored ∙ ap (λ (l : List ℤ). sets l (s .cells) (pos (here .table) ∷ pos start ∷ pos size ∷ [])) (full .stored (omega arith))
 
@@ -199,12 +199,12 @@ module _ (b text : List ℕ) (seed : ℕ) (here : OpenTable) (s : State) (start 
         cells-count : length cs′ ≡ length cs
         cells-count = ap length cells-are ∙ row-length cs (s .cells) n _ _ _ (full .values) (sym (full .size)) roomCells
 
-        objects : Held seed text (s .rows + 1) (s .cells + (3 + n)) rows′ cs′ index′
+        objects : IndexedTable seed text (s .rows + 1) (s .cells + (3 + n)) rows′ cs′ index′
         objects =
             held-more seed text (s .rows) (s .cells) rows cs index held (s .cells + (3 + n)) rows′ cs′ (here .table) start size (full .values)
             (ap length listed ∙ length-set rows (s .rows) (s .cells)) cells-count roomRows roomCells rows-more cells-more inText unused index′ (length rows) hash refl hashed linked
 
-        pub joins : Adds b text seed s meant rows rows′ cs cs′ index index′ (Go r)
+        pub joins : RowAdds b text seed s meant rows rows′ cs cs′ index index′ (Go r)
         joins = record {
           step = joins-step;
           holds = λ marks points h. record {

@@ -8,8 +8,8 @@ use lib.Dec.{ltb, eqb}
 use lib.ListN.{length, take, drop, length-drop}
 use Rattle.meaning.specs.Bytes.{choose, refuse, u16At}
 use Rattle.meaning.specs.Model.{Records, overrun, entry, recordsFrom, Table, Model, tablesOf}
-use Rattle.model_records.specs.Standing.{Standing}
-use Rattle.model_records.proofs.Standing.{here}
+use Rattle.model_records.specs.AtRecord.{AtRecord}
+use Rattle.model_records.proofs.AtRecord.{here}
 
 pick-few : (x : Bool) (t : Table) (ts : List Table) (n : ℕ) → length ts ≤ n → length (choose x (t ∷ ts) ts) ≤ suc n
 unfolding choose
@@ -30,7 +30,7 @@ records-few zero at k (b ∷ s) =
     record-few (ltb (length s) (u16At (b ∷ s) 0 + 3)) at (u16At (b ∷ s) 2) k (take (u16At (b ∷ s) 0) (drop 3 s)) (recordsFrom (u16At (b ∷ s) 0 + 3) (at + 1) s) (length s)
     (λ j. records-few (u16At (b ∷ s) 0 + 3) (at + 1) j s)
 
-pub tables-few : (m : Model) (b : List ℕ) (at k t : ℕ) → Standing m b at k t → length (m .tables) ≤ length b
+pub tables-few : (m : Model) (b : List ℕ) (at k t : ℕ) → AtRecord m b at k t → length (m .tables) ≤ length b
 tables-few m b at k t s =
     let n = records-few 0 at k (drop at b) in
     let d = ap length (s .tables) ∙ length-drop t (m .tables) in

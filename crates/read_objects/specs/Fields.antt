@@ -9,7 +9,7 @@ use Rattle.meaning.specs.Model.{attributeOf}
 use Rattle.meaning.specs.Row.{Pair, Cells, cells, refused, pairsOfType}
 use Rattle.model_records.specs.Records.{payloadAt}
 use Rattle.read_fields.specs.Filled.{going}
-use Rattle.read_fields.specs.declared.filling.Filling.{Filling}
+use Rattle.read_fields.specs.declared.filling.RowCursor.{RowCursor}
 use Rattle.read_objects.specs.declared.rows.RowOut.{RowOut}
 use Rattle.read_objects.specs.declared.rows.RowOut.the-variants.{Full, No}
 
@@ -30,6 +30,6 @@ Ends meant most used entry exit (Full n) = EndsFull meant most used n entry exit
 Ends meant most used entry exit (No k f) = meant ≡ refused k f
 
 -- a row without further attributes: it is full, or a field is left
-abbrev pub EndsHere : List ℕ → Filling → RowOut → Type 0
+abbrev pub EndsHere : List ℕ → RowCursor → RowOut → Type 0
 EndsHere rest s (Full n) = (n ≡ s .used) × ((u start : ℕ) → going u start rest s [] ≡ cells [])
 EndsHere rest s (No k f) = (u start : ℕ) → going u start rest s [] ≡ refused k f

@@ -31,7 +31,7 @@ Fills meant most at entry exit (Full n) = RowFull meant most at n entry exit
 Fills meant most at entry exit (RowOut.No k f) = meant ≡ refused k f
 
 -- r is the state behind a row of so many cells
-pub record Behind (b : List ℕ) (here : OpenTable) (s : State) (size : ℕ) (r : State) : Type 0 where
+pub record BehindRow (b : List ℕ) (here : OpenTable) (s : State) (size : ℕ) (r : State) : Type 0 where
   pub due : dueOf b (r .due) ≡ dueLines (here .table) (s .points) (linesAt b (here .at) (s .cells + 3))
   pub rows : r .rows ≡ s .rows + 1
   pub cells : r .cells ≡ s .cells + size
@@ -40,7 +40,7 @@ pub record Behind (b : List ℕ) (here : OpenTable) (s : State) (size : ℕ) (r 
       → DueHolds (modelAt b) b rows (s .rows + 1) (s .cells + size) (s .points) (r .due)
 
 -- a line means this, with the rows and cells before and behind it; and what holds stays
-pub record Adds (b text : List ℕ) (seed : ℕ) (s : State) (meant : Rooms → Content → lines.Step)
+pub record RowAdds (b text : List ℕ) (seed : ℕ) (s : State) (meant : Rooms → Content → lines.Step)
     (rows rows′ : List ℕ) (cells cells′ : List ℤ) (index index′ : List ℕ) (r : Step) : Type 0 where
   pub step : (k : ℕ) (rooms : Rooms) (marks : List ℕ) (points : List ℤ)
       → rooms .rows ≡ length rows → rooms .cells ≡ length cells → 4 * s .points ≤ length points

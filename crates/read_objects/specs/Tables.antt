@@ -5,7 +5,7 @@ use mathlib.Core.List.{List}
 use lib.ListN.{length}
 use Rattle.meaning.specs.Model.{Model, tableAt}
 use Rattle.model_records.specs.Records.{attributesAt}
-use Rattle.model_records.specs.Standing.{AttributesHere}
+use Rattle.model_records.specs.AtRecord.{AttributesHere}
 use Rattle.read_objects.specs.declared.OpenTable.{OpenTable}
 
 -- it is a table of the model, and its attribute records stand at its byte

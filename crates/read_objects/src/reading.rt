@@ -10,9 +10,9 @@ ghost use Rattle.meaning.specs.Reading.{stretch, objectsOf, isUsed};
 ghost use Rattle.meaning.specs.Lines.{no, storeRow, objectFields};
 ghost use Rattle.model_records.specs.Records.{modelAt, pairsAt};
 ghost use Rattle.value_read.specs.Meant.{fieldOf};
-ghost use Rattle.table_index.specs.Holds.{Held};
+ghost use Rattle.table_index.specs.Holds.{IndexedTable};
 ghost use Rattle.read_objects.specs.Tables.{TableHolds};
-ghost use Rattle.read_objects.specs.Rows.{Adds};
+ghost use Rattle.read_objects.specs.Rows.{RowAdds};
 use crate::OpenTable;
 use crate::naming;
 use crate::naming::Identified;
@@ -39,9 +39,9 @@ fn add_object(
     requires { ⌜ TableHolds (modelAt (now model)) (now model) here ⌝ }
     requires { ⌜ (start + size ≤ end) × (end ≤ length (now text)) × (length (now text) < 2 ^ 62) ⌝ }
     requires { ⌜ length (now model) ≤ 65536 ⌝ }
-    requires { ⌜ Held seed (now text) (s .rows) (s .cells) (now rows) (now cells) (now index) ⌝ }
+    requires { ⌜ IndexedTable seed (now text) (s .rows) (s .cells) (now rows) (now cells) (now index) ⌝ }
     ensures { λ r. ⌜ (let b = now (model .entry) in let t = now (text .entry) in let i = stretch t start size in
-        Adds b t seed s
+        RowAdds b t seed s
         (λ rooms c. refuse (isUsed i (objectsOf t (c .cells) (c .rows))) (no 15 2)
         (storeRow (modelAt b) rooms t (here .table) (fieldOf start i) c
         (pairCells undefined true 3 (pairsAt b (here .at))
@@ -97,9 +97,9 @@ pub fn object_fields(
     requires { ⌜ (length (now model) ≤ 65536) × (undefined ≡ modelAt (now model) .undefined) ⌝ }
     requires { ⌜ (let l = stretch (now text) at (end - at) in
         (1 ≤ length (fieldsOf at l)) × (drop 1 (fieldsOf at l) ≡ fieldsOf (at + behind) (drop behind l))) ⌝ }
-    requires { ⌜ Held seed (now text) (s .rows) (s .cells) (now rows) (now cells) (now index) ⌝ }
+    requires { ⌜ IndexedTable seed (now text) (s .rows) (s .cells) (now rows) (now cells) (now index) ⌝ }
     ensures { λ r. ⌜ (let b = now (model .entry) in let t = now (text .entry) in
-        Adds b t seed s
+        RowAdds b t seed s
         (λ rooms c. objectFields (modelAt b) rooms t (here .table) (fieldsOf at (stretch t at (end - at))) c)
         (now (rows .entry)) (now (rows .exit)) (now (cells .entry)) (now (cells .exit))
         (now (index .entry)) (now (index .exit)) r) ⌝ }

@@ -7,8 +7,8 @@ ghost use Rattle.meaning.specs.Field.{fieldsOf};
 ghost use Rattle.meaning.specs.Row.{pairsOfType, hasMandatory, pairCells};
 ghost use Rattle.model_records.specs.Attributes.{typeOf};
 ghost use Rattle.model_records.specs.Records.{modelAt, pairsAt};
-ghost use Rattle.model_records.specs.Standing.{AttributeHere, AttributesHere};
-ghost use Rattle.read_fields.specs.Filled.{goingOver, covering, Counted, Ready, Fills};
+ghost use Rattle.model_records.specs.AtRecord.{AttributeHere, AttributesHere};
+ghost use Rattle.read_fields.specs.Filled.{goingOver, covering, ComponentsCounted, Ready, Fills};
 ghost use Rattle.read_objects.specs.Fields.{recordPairs, EndsHere, Ends};
 use base::fields::Next;
 use model_records::ATTRIBUTE;
@@ -18,7 +18,7 @@ use model_records::REFERENCE;
 use model_records::counts;
 use read_fields::filling;
 use read_fields::filling::Filled;
-use read_fields::filling::Filling;
+use read_fields::filling::RowCursor;
 use read_fields::storing;
 
 // The row is full with so many cells behind its first three; or a refusal and its field.
@@ -29,7 +29,7 @@ pub enum RowOut {
 
 // Whether an attribute's field may not be undefined; a line has none here.
 fn is_mandatory(a: Attribute) -> bool
-    requires { ⌜ Counted a ⌝ }
+    requires { ⌜ ComponentsCounted a ⌝ }
     ensures { λ r. ⌜ r ≡ hasMandatory (pairsOfType (a .optional) (typeOf a)) ⌝ }
 {
     let kind = a.kind;
@@ -62,7 +62,7 @@ fn put_record(
     start: usize,
     undefined: u8,
     cells: &mut [i64],
-    s: Filling,
+    s: RowCursor,
 ) -> Filled
     requires { ⌜ AttributeHere (now model) at ⌝ }
     requires { ⌜ Ready start (now rest) 6 s ⌝ }
@@ -74,8 +74,8 @@ fn put_record(
     filling::put_attribute(a, rest, start, undefined, cells, s)
 }
 
-// Behind the last attribute no field is left.
-fn end_row(rest: &[u8], s: Filling) -> RowOut
+// BehindRow the last attribute no field is left.
+fn end_row(rest: &[u8], s: RowCursor) -> RowOut
     requires { ⌜ s .at ≤ length (now rest) ⌝ }
     ensures { λ r. ⌜ EndsHere (now (rest .entry)) s r ⌝ }
 {
@@ -93,7 +93,7 @@ fn undefine_rest(
     rest: &[u8],
     left: usize,
     cells: &mut [i64],
-    s: Filling,
+    s: RowCursor,
 ) -> RowOut
     requires { ⌜ AttributesHere (modelAt (now model)) (now model) at ⌝ }
     requires { ⌜ (s .at ≤ length (now rest)) × (s .place + 1 < 2 ^ 64) × (s .used + (left + left) ≤ at + at) ⌝ }
@@ -132,7 +132,7 @@ pub(crate) fn row_fields(
         (now (cells .entry)) (now (cells .exit)) r) ⌝ }
 {
     let mut here = at;
-    let mut s = Filling {
+    let mut s = RowCursor {
         at: 0,
         place: 3,
         used: 0,

@@ -12,12 +12,12 @@ ghost use Rattle.meaning.specs.Row.{pairCells};
 ghost use Rattle.meaning.specs.Reading.{stretch, objectsOf, isUsed};
 ghost use Rattle.meaning.specs.Lines.{storeRow};
 ghost use Rattle.model_records.specs.Records.{modelAt, pairsAt};
-ghost use Rattle.model_records.specs.Standing.{AttributesHere};
+ghost use Rattle.model_records.specs.AtRecord.{AttributesHere};
 ghost use Rattle.value_read.specs.Meant.{fieldOf};
 ghost use Rattle.table_index.specs.Index.{hashOf, insertOf};
-ghost use Rattle.table_index.specs.Holds.{Held};
+ghost use Rattle.table_index.specs.Holds.{IndexedTable};
 ghost use Rattle.read_objects.specs.Tables.{TableHolds};
-ghost use Rattle.read_objects.specs.Rows.{Fills, Behind, Adds};
+ghost use Rattle.read_objects.specs.Rows.{Fills, BehindRow, RowAdds};
 use crate::OpenTable;
 use crate::rows::RowOut;
 use base::numbers;
@@ -102,7 +102,7 @@ fn state_behind(model: &[u8], here: OpenTable, s: State, size: usize) -> State
     requires { ⌜ TableHolds (modelAt (now model)) (now model) here ⌝ }
     requires { ⌜ (s .rows + 1 < 2 ^ 64) × (s .cells + size < 2 ^ 64)
         × (3 + 2 * length (pairsAt (now model) (here .at)) ≤ size) ⌝ }
-    ensures { λ r. ⌜ Behind (now (model .entry)) here s size r ⌝ }
+    ensures { λ r. ⌜ BehindRow (now (model .entry)) here s size r ⌝ }
 {
     let due = read_polylines::due_lines(model, here.table, here.at, s.cells + 3, s.points);
     State {
@@ -131,10 +131,10 @@ pub(crate) fn store_row(
     requires { ⌜ (length (now model) ≤ 65536) × (s .cells ≤ length (now cells)) × (name .hash < 4294967296) ⌝ }
     ensures { λ r. ⌜ ((seed : ℕ) → let b = now (model .entry) in let t = now (text .entry) in
         let i = stretch t (name .start) (name .size) in let from = name .start + name .size in
-        Held seed t (s .rows) (s .cells) (now (rows .entry)) (now (cells .entry)) (now (index .entry))
+        IndexedTable seed t (s .rows) (s .cells) (now (rows .entry)) (now (cells .entry)) (now (index .entry))
         → isUsed i (objectsOf t (take (s .cells) (now (cells .entry))) (take (s .rows) (now (rows .entry)))) ≡ false
         → name .hash ≡ hashOf seed i
-        → Adds b t seed s
+        → RowAdds b t seed s
         (λ rooms c. storeRow (modelAt b) rooms t (here .table) (fieldOf (name .start) i) c
         (pairCells undefined true 3 (pairsAt b (here .at)) (fieldsOf from (stretch t from (end - from)))))
         (now (rows .entry)) (now (rows .exit)) (now (cells .entry)) (now (cells .exit))

@@ -11,8 +11,8 @@ use Rattle.meaning.specs.Row.{Pair, componentPairs, pairsOfType, pairsOf}
 use Rattle.meaning.specs.Reading.{LineAttribute, lineAttributes, dueLines}
 use Rattle.model_records.specs.Records.{kindAt, payloadAt, nextAt, pairsAt}
 use Rattle.model_records.specs.Counts.{pairCount}
-use Rattle.model_records.specs.Standing.{AttributeNext, AttributesHere}
-use Rattle.model_records.proofs.Standing.{attribute-here, no-attribute}
+use Rattle.model_records.specs.AtRecord.{AttributeNext, AttributesHere}
+use Rattle.model_records.proofs.AtRecord.{attribute-here, no-attribute}
 use Rattle.model_records.proofs.Types.{sized, type-at}
 use Rattle.model_records.proofs.Counting.{pairs-turn}
 use Rattle.read_state.specs.Meaning.{linesAt, openLineOf, dueOf}

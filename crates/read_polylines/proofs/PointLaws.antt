@@ -30,7 +30,7 @@ use Rattle.read_state.specs.declared.Step.{Step}
 use Rattle.read_state.specs.declared.Step.the-variants.{Go, No}
 use Rattle.read_state.specs.Meaning.{lineStateOf, dueOf, contentOf, stepOf}
 use Rattle.read_state.specs.Holds.{LineHolds}
-use Rattle.read_polylines.specs.Ways.{wayOf, Does}
+use Rattle.read_polylines.specs.Ways.{wayOf, LineDoes}
 use Rattle.read_polylines.specs.Points.{movedTo, pointAdded, Stores, Joins}
 use Rattle.read_polylines.proofs.Ways.{due-way, refused-here}
 
@@ -59,7 +59,7 @@ taken-more l vs i k e h =
 -- ## The state behind the point
 
 module _ (b : List ℕ) (u : OpenLine) (s : State) where
-  pub does-same : (meant meant′ : Content → lines.Step) (cells points cells′ points′ : List ℤ) (r : Step) → ((c : Content) → meant c ≡ meant′ c) → Does b u s meant cells points cells′ points′ r → Does b u s meant′ cells points cells′ points′ r
+  pub does-same : (meant meant′ : Content → lines.Step) (cells points cells′ points′ : List ℤ) (r : Step) → ((c : Content) → meant c ≡ meant′ c) → LineDoes b u s meant cells points cells′ points′ r → LineDoes b u s meant′ cells points cells′ points′ r
   does-same meant meant′ cells points cells′ points′ r e d = record { step = λ k marks rows. d .step k marks rows ∙ e _; holds = d .holds }
 
   module _ (next : LineState) where
@@ -91,7 +91,7 @@ module _ (b : List ℕ) (u : OpenLine) (s : State) where
             let f : ltb (length points) (4 * s .points + 4) ≡ true = lt-ltb (length points) (4 * s .points + 4) full in
             rw (er, size-is, f)
 
-        stored-does : (values : List ℤ) → 4 * s .points + 4 ≤ length points → Does b u s (meantBy (row.cells values)) cells points cells (sets points (4 * s .points) (pointCells kind values)) (Go (pointAdded (movedTo next u) s))
+        stored-does : (values : List ℤ) → 4 * s .points + 4 ≤ length points → LineDoes b u s (meantBy (row.cells values)) cells points cells (sets points (4 * s .points) (pointCells kind values)) (Go (pointAdded (movedTo next u) s))
         stored-does values room = record {
           step = stored-step values room;
           holds = λ text seed marks rows index h held. record {
@@ -103,12 +103,12 @@ module _ (b : List ℕ) (u : OpenLine) (s : State) where
           };
         }
 
-        values-do : (values points′ : List ℤ) (r : Step) → Stores (pointCells kind values) (movedTo next u) s points points′ r → Does b u s (meantBy (row.cells values)) cells points cells points′ r
+        values-do : (values points′ : List ℤ) (r : Step) → Stores (pointCells kind values) (movedTo next u) s points points′ r → LineDoes b u s (meantBy (row.cells values)) cells points cells points′ r
         values-do values points′ (Go r) h = rw (h .state, h .stored) (stored-does values (h .room))
         values-do values points′ (No number field) h = rw (h .sixteen, h .none, h .same) (record { step = full-step values (h .full); holds = λ text seed marks rows index g held. tt })
 
         -- a point by its values, or their refusal
-        pub joined : (v : Cells) (points′ : List ℤ) (r : Step) → Joins kind (movedTo next u) s points points′ r v → Does b u s (meantBy v) cells points cells points′ r
+        pub joined : (v : Cells) (points′ : List ℤ) (r : Step) → Joins kind (movedTo next u) s points points′ r v → LineDoes b u s (meantBy v) cells points cells points′ r
         unfolding storePoint
         joined (row.cells values) points′ r h = values-do values points′ r h
         joined (row.refused number field) points′ r h = rw (h .0, h .1) (refused-here b u s _ cells points number field (λ c. refl))

@@ -20,9 +20,9 @@ use Rattle.meaning.specs.Lines.{Step, go, no, bare, attributeLine, lineDue}
 use Rattle.model_records.specs.Components.{componentsOf}
 use Rattle.model_records.specs.declared.Attribute.{Attribute}
 use Rattle.model_records.specs.Records.{modelAt, payloadAt, nextAt, pairsAt}
-use Rattle.model_records.specs.Standing.{AttributeNext, AttributesHere}
+use Rattle.model_records.specs.AtRecord.{AttributeNext, AttributesHere}
 use Rattle.model_records.specs.Attributes.{typeOf, Decoded}
-use Rattle.model_records.proofs.Standing.{attribute-here}
+use Rattle.model_records.proofs.AtRecord.{attribute-here}
 use Rattle.table_index.proofs.Kept.{beside-behind, held-pair}
 use Rattle.read_state.specs.declared.OpenLine.{OpenLine}
 use Rattle.read_state.specs.declared.State.{State}
@@ -31,12 +31,12 @@ use Rattle.read_state.specs.declared.Step as state
 use Rattle.read_state.specs.declared.Step.the-variants.{Go, No}
 use Rattle.read_state.specs.Meaning.{lineStateOf, linesAt, openLineOf, dueOf, contentOf}
 use Rattle.read_state.specs.Holds.{LineHolds, Holds}
-use Rattle.table.specs.Rows.{Laid}
+use Rattle.table.specs.Rows.{RowsLaidOut}
 use Rattle.read_frame.specs.Heads.{HeadOf}
 use Rattle.read_frame.specs.declared.codes.Head.{Head}
 use Rattle.read_frame.proofs.Moves.{behind-more}
 use Rattle.read_polylines.specs.Codes.{codeOf}
-use Rattle.read_polylines.specs.Ways.{wayOf, Given, Behind, Does}
+use Rattle.read_polylines.specs.Ways.{wayOf, LineGiven, BehindLine, LineDoes}
 
 -- ## The code
 
@@ -121,8 +121,8 @@ module _ (m : Model) (rooms : Rooms) (text : List ℕ) (w : meaning.Underway) (f
 -- ## The state behind it
 
 -- behind an undefined line
-pub behind-same : (b : List ℕ) (a : Attribute) (u : OpenLine) (s r : State) → Behind b u s (u .first) r → (meant : Content → Step) (cells points : List ℤ)
-    → ((c : Content) → go (dueLines (u .table) (u .first) (wayOf b a u .others)) c ≡ meant c) → Does b u s meant cells points cells points (Go r)
+pub behind-same : (b : List ℕ) (a : Attribute) (u : OpenLine) (s r : State) → BehindLine b u s (u .first) r → (meant : Content → Step) (cells points : List ℤ)
+    → ((c : Content) → go (dueLines (u .table) (u .first) (wayOf b a u .others)) c ≡ meant c) → LineDoes b u s meant cells points cells points (Go r)
 behind-same b a u s r h meant cells points e = record {
   step = λ k marks rows. rw (h .due, h .rows, h .cells, h .points) (e (contentOf k s marks rows cells points));
   holds = λ text seed marks rows index l held. record {
@@ -145,7 +145,7 @@ pair-taken : (cells : List ℤ) (used x : ℕ) (v w : ℤ) → x + 1 < used → 
 pair-taken cells used x v w h = take-set-lt used (set cells x v) (x + 1) w h ∙ ap (λ (l : List ℤ). set l (x + 1) w) (take-set-lt used cells x v (omega arith))
 
 -- the rows stay laid where a pair behind their first cells changes
-laid-pair : (m : Model) (n used : ℕ) (rows : List ℕ) (cells : List ℤ) (x : ℕ) (v w : ℤ) → ((o : ℕ) → o < n → getD rows o 0 + 2 < x) → Laid m n used rows cells → Laid m n used rows (set (set cells x v) (x + 1) w)
+laid-pair : (m : Model) (n used : ℕ) (rows : List ℕ) (cells : List ℤ) (x : ℕ) (v w : ℤ) → ((o : ℕ) → o < n → getD rows o 0 + 2 < x) → RowsLaidOut m n used rows cells → RowsLaidOut m n used rows (set (set cells x v) (x + 1) w)
 laid-pair m n used rows cells x v w behind d = record {
   table = λ o l. rw (same o l) (d .table o l);
   ends = λ o l. rw (same o l) (d .ends o l);
@@ -158,9 +158,9 @@ laid-pair m n used rows cells x v w behind d = record {
         ∙ getD-set-other cells x (getD rows o 0) v (pos 0) (λ q. omega (arith, behind o l))
 
 -- behind the end of a line
-pub behind-pair : (b : List ℕ) (a : Attribute) (u : OpenLine) (s r : State) → Behind b u s (s .points) r → (meant : Content → Step) (cells points : List ℤ) → u .cell + 1 < s .cells → 4 * s .points ≤ length points
+pub behind-pair : (b : List ℕ) (a : Attribute) (u : OpenLine) (s r : State) → BehindLine b u s (s .points) r → (meant : Content → Step) (cells points : List ℤ) → u .cell + 1 < s .cells → 4 * s .points ≤ length points
     → ((c : Content) → go (dueLines (u .table) (pointCount c) (wayOf b a u .others)) (withLine (wayOf b a u) c) ≡ meant c)
-    → Does b u s meant cells points (set (set cells (u .cell) (pos (1 + (s .points - u .first)))) (u .cell + 1) (pos (u .first))) points (Go r)
+    → LineDoes b u s meant cells points (set (set cells (u .cell) (pos (1 + (s .points - u .first)))) (u .cell + 1) (pos (u .first))) points (Go r)
 unfolding withLine
 behind-pair b a u s r h meant cells points inside fits e = record {
   step = λ k marks rows.
@@ -180,7 +180,7 @@ behind-pair b a u s r h meant cells points inside fits e = record {
 
 -- ## A refusal
 
-pub refused-here : (b : List ℕ) (u : OpenLine) (s : State) (meant : Content → Step) (cells points : List ℤ) (number field : ℕ) → ((c : Content) → no number field ≡ meant c) → Does b u s meant cells points cells points (No number field)
+pub refused-here : (b : List ℕ) (u : OpenLine) (s : State) (meant : Content → Step) (cells points : List ℤ) (number field : ℕ) → ((c : Content) → no number field ≡ meant c) → LineDoes b u s meant cells points cells points (No number field)
 refused-here b u s meant cells points number field e = record { step = λ k marks rows. e (contentOf k s marks rows cells points); holds = λ text seed marks rows index l held. tt }
 
 -- ## A line by its move
@@ -190,16 +190,16 @@ unfolding attributeLine
 unexpected-line m rooms text w fs c = refl
 
 pub by-move : (b : List ℕ) (u : OpenLine) (s : State) (m : Model) (rooms : Rooms) (text : List ℕ) (w : meaning.Underway) (fs : List Field) (cells points cells′ points′ : List ℤ) (move move′ : meaning.Move) → move ≡ move′
-    → (r : state.Step) → Does b u s (λ c. attributeLine m rooms text w fs c move) cells points cells′ points′ r → Does b u s (λ c. attributeLine m rooms text w fs c move′) cells points cells′ points′ r
-by-move b u s m rooms text w fs cells points cells′ points′ move move′ e r d = subst (λ (x : meaning.Move). Does b u s (λ c. attributeLine m rooms text w fs c x) cells points cells′ points′ r) e d
+    → (r : state.Step) → LineDoes b u s (λ c. attributeLine m rooms text w fs c move) cells points cells′ points′ r → LineDoes b u s (λ c. attributeLine m rooms text w fs c move′) cells points cells′ points′ r
+by-move b u s m rooms text w fs cells points cells′ points′ move move′ e r d = subst (λ (x : meaning.Move). LineDoes b u s (λ c. attributeLine m rooms text w fs c x) cells points cells′ points′ r) e d
 
 -- a line of what is due is a line of the line attribute under way
 pub due-line : (b : List ℕ) (a : Attribute) (u : OpenLine) (s : State) → LineHolds (modelAt b) b [] 0 (s .cells) (s .points) u → Decoded b (u .at) a
     → (rooms : Rooms) (text l : List ℕ) (fs : List Field) (cells points cells′ points′ : List ℤ) (r : state.Step)
-    → Does b u s (λ c. attributeLine (modelAt b) rooms text (wayOf b a u) fs c (meaning.move (lineStateOf (u .state)) (meaning.lineCodeOf fs))) cells points cells′ points′ r
-    → Does b u s (λ c. lineDue (modelAt b) rooms text (dueOf b (due.Line u)) l fs c) cells points cells′ points′ r
+    → LineDoes b u s (λ c. attributeLine (modelAt b) rooms text (wayOf b a u) fs c (meaning.move (lineStateOf (u .state)) (meaning.lineCodeOf fs))) cells points cells′ points′ r
+    → LineDoes b u s (λ c. lineDue (modelAt b) rooms text (dueOf b (due.Line u)) l fs c) cells points cells′ points′ r
 unfolding lineDue
-due-line b a u s h d rooms text l fs cells points cells′ points′ r x = subst (λ (y : meaning.Due). Does b u s (λ c. lineDue (modelAt b) rooms text y l fs c) cells points cells′ points′ r) (sym (due-way (modelAt b) b [] 0 (s .cells) (s .points) u h a d)) x
+due-line b a u s h d rooms text l fs cells points cells′ points′ r x = subst (λ (y : meaning.Due). LineDoes b u s (λ c. lineDue (modelAt b) rooms text y l fs c) cells points cells′ points′ r) (sym (due-way (modelAt b) b [] 0 (s .cells) (s .points) u h a d)) x
 
 -- ## What a caller has
 
@@ -209,7 +209,7 @@ pub line-held : (b text : List ℕ) (seed : ℕ) (s : State) (marks rows : List 
 line-held b text seed s marks rows cells points index u e h = rw e at (h .due)
 
 pub given : (b text : List ℕ) (seed : ℕ) (s : State) (marks rows : List ℕ) (cells points : List ℤ) (index : List ℕ) (u : OpenLine) (undefined : ℕ) → s .due ≡ due.Line u → modelAt b .undefined ≡ undefined → Holds (modelAt b) b text seed s marks rows cells points index
-    → Given b undefined u s cells points
+    → LineGiven b undefined u s cells points
 given b text seed s marks rows cells points index u undefined e f h = record {
   line = without-rows (modelAt b) b rows (s .rows) (s .cells) (s .points) u (line-held b text seed s marks rows cells points index u e h);
   cellsFit = h .objects .cells-in;

@@ -8,8 +8,8 @@ use Rattle.meaning.specs.Model.{Component}
 use Rattle.meaning.specs.Field.{fieldsOf}
 use Rattle.meaning.specs.Row.{cells, refused, componentValues}
 use Rattle.read_fields.specs.Filled.{prefixed}
-use Rattle.read_polylines.specs.declared.point_fields.Got as got
-use Rattle.read_polylines.specs.declared.point_fields.Got.the-variants as gets
+use Rattle.read_polylines.specs.declared.point_fields.ValueTaken as got
+use Rattle.read_polylines.specs.declared.point_fields.ValueTaken.the-variants as gets
 use Rattle.read_polylines.specs.declared.point_fields.PointAnswer.{PointAnswer}
 use Rattle.read_polylines.specs.declared.point_fields.PointAnswer.the-variants.{Read, No}
 
@@ -20,7 +20,7 @@ pub record ValueGot (u : ℕ) (c : Component) (rest : List ℕ) (v : ℤ) (end :
       → componentValues u place (c ∷ cs) (fieldsOf start rest)
       ≡ prefixed (v ∷ []) (componentValues u (place + 1) cs (fieldsOf (start + end) (drop end rest)))
 
-abbrev pub GetsValue : ℕ → Component → List ℕ → got.Got → Type 0
+abbrev pub GetsValue : ℕ → Component → List ℕ → got.ValueTaken → Type 0
 GetsValue u c rest (gets.Value v end) = ValueGot u c rest v end
 GetsValue u c rest (gets.No k) = (start place : ℕ) (cs : List Component)
     → componentValues u place (c ∷ cs) (fieldsOf start rest) ≡ refused k place

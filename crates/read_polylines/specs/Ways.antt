@@ -34,20 +34,20 @@ wayOf b a u = record {
 }
 
 -- what a line of the line attribute under way may take for granted: its rows do not matter
-pub record Ready (b : List ℕ) (u : OpenLine) (s : State) : Type 0 where
+pub record LineReady (b : List ℕ) (u : OpenLine) (s : State) : Type 0 where
   pub line : LineHolds (modelAt b) b [] 0 (s .cells) (s .points) u
   pub cells : s .cells < 2 ^ 63
   pub points : s .points < 2 ^ 61
 
 -- the same with the buffers lent to it, and the model's undefined byte
-pub record Given (b : List ℕ) (undefined : ℕ) (u : OpenLine) (s : State) (cells points : List ℤ) : Type 0 where
+pub record LineGiven (b : List ℕ) (undefined : ℕ) (u : OpenLine) (s : State) (cells points : List ℤ) : Type 0 where
   pub line : LineHolds (modelAt b) b [] 0 (s .cells) (s .points) u
   pub cellsFit : s .cells ≤ length cells
   pub pointsFit : 4 * s .points ≤ length points
   pub undefinedByte : modelAt b .undefined ≡ undefined
 
 -- r is the state behind the last line of the line attribute under way, with this first point for the next one
-pub record Behind (b : List ℕ) (u : OpenLine) (s : State) (first : ℕ) (r : State) : Type 0 where
+pub record BehindLine (b : List ℕ) (u : OpenLine) (s : State) (first : ℕ) (r : State) : Type 0 where
   pub due : dueOf b (r .due) ≡ dueLines (u .table) first (linesAt b (nextAt b (u .at)) (u .cell + 2))
   pub rows : r .rows ≡ s .rows
   pub cells : r .cells ≡ s .cells
@@ -62,7 +62,7 @@ StepHolds m b text seed (Go s) marks rows cells points index = Holds m b text se
 StepHolds m b text seed (Step.No number field) marks rows cells points index = Unit {0}
 
 -- a line of the line attribute under way means this, with the cells and points before and behind it; what holds stays
-pub record Does (b : List ℕ) (u : OpenLine) (s : State) (meant : Content → lines.Step)
+pub record LineDoes (b : List ℕ) (u : OpenLine) (s : State) (meant : Content → lines.Step)
     (cells points cells′ points′ : List ℤ) (r : Step) : Type 0 where
   pub step : (k : ℕ) (marks rows : List ℕ)
       → stepOf b k r marks rows cells′ points′ ≡ meant (contentOf k s marks rows cells points)

@@ -9,11 +9,11 @@ ghost use Rattle.meaning.specs.Reading.{dueLines, Rooms, move};
 ghost use Rattle.meaning.specs.Lines.{attributeLine, lineDue};
 ghost use Rattle.model_records.specs.Attributes.{Decoded};
 ghost use Rattle.model_records.specs.Records.{modelAt, pairsAt};
-ghost use Rattle.model_records.specs.Standing.{AttributesHere};
+ghost use Rattle.model_records.specs.AtRecord.{AttributesHere};
 ghost use Rattle.read_state.specs.declared.Due.the-variants.{Line};
 ghost use Rattle.read_state.specs.Meaning.{lineStateOf, lineCodeOf, dueOf, linesAt};
 ghost use Rattle.read_state.specs.Holds.{DueHolds};
-ghost use Rattle.read_polylines.specs.Ways.{wayOf, Given, Does};
+ghost use Rattle.read_polylines.specs.Ways.{wayOf, LineGiven, LineDoes};
 
 pub mod moves;
 pub mod point_fields;
@@ -74,12 +74,12 @@ fn move_line(
     u: OpenLine,
     s: State,
 ) -> Step
-    requires { ⌜ Given (now model) undefined u s (now cells) (now points) ⌝ }
+    requires { ⌜ LineGiven (now model) undefined u s (now cells) (now points) ⌝ }
     requires { ⌜ Decoded (now model) (u .at) a ⌝ }
     ensures { λ r. ⌜ ((rooms : Rooms) (text : List ℕ) (fs : List Field) (start : ℕ) → let b = now (model .entry) in
         rooms .points ≡ length (now (points .entry)) → drop 1 fs ≡ fieldsOf start (now (rest .entry))
         → meaning.lineCodeOf fs ≡ lineCodeOf code
-        → Does b u s
+        → LineDoes b u s
         (λ c. attributeLine (modelAt b) rooms text (wayOf b a u) fs c
         (move (lineStateOf (u .state)) (meaning.lineCodeOf fs)))
         (now (cells .entry)) (now (points .entry)) (now (cells .exit)) (now (points .exit)) r) ⌝ }
@@ -113,10 +113,10 @@ pub fn attribute_line(
     u: OpenLine,
     s: State,
 ) -> Step
-    requires { ⌜ Given (now model) undefined u s (now cells) (now points) ⌝ }
+    requires { ⌜ LineGiven (now model) undefined u s (now cells) (now points) ⌝ }
     ensures { λ r. ⌜ ((rooms : Rooms) (text : List ℕ) (start : ℕ) → let b = now (model .entry) in
         rooms .points ≡ length (now (points .entry))
-        → Does b u s
+        → LineDoes b u s
         (λ c. lineDue (modelAt b) rooms text (dueOf b (Line u)) (now (l .entry)) (fieldsOf start (now (l .entry))) c)
         (now (cells .entry)) (now (points .entry)) (now (cells .exit)) (now (points .exit)) r) ⌝ }
 {

@@ -11,7 +11,7 @@ ghost use Rattle.model_records.specs.declared.Attribute.{Attribute};
 ghost use Rattle.model_records.specs.Records.{modelAt};
 ghost use Rattle.read_state.specs.Meaning.{lineCodeOf};
 ghost use Rattle.read_polylines.specs.Codes.{codeOf};
-ghost use Rattle.read_polylines.specs.Ways.{wayOf, Ready, Behind, Does};
+ghost use Rattle.read_polylines.specs.Ways.{wayOf, LineReady, BehindLine, LineDoes};
 use read_frame::codes;
 use read_state::LineCode;
 use read_state::OpenLine;
@@ -33,8 +33,8 @@ pub(crate) fn name_code(number: u8) -> LineCode
 
 // The state behind the last line of the line attribute under way: the next one has this first point.
 fn behind_line(model: &[u8], u: OpenLine, s: State, first: usize) -> State
-    requires { ⌜ Ready (now model) u s ⌝ }
-    ensures { λ r. ⌜ Behind (now (model .entry)) u s first r ⌝ }
+    requires { ⌜ LineReady (now model) u s ⌝ }
+    ensures { λ r. ⌜ BehindLine (now (model .entry)) u s first r ⌝ }
 {
     let at = u.at;
     let next = model_records::next_at(model, at);
@@ -55,11 +55,11 @@ pub(crate) fn undefined_line(
     u: OpenLine,
     s: State,
 ) -> Step
-    requires { ⌜ Ready (now model) u s ⌝ }
+    requires { ⌜ LineReady (now model) u s ⌝ }
     ensures { λ r. ⌜ ((a : Attribute) (rooms : Rooms) (text : List ℕ) (fs : List Field) (start : ℕ)
         (cells points : List ℤ) → let b = now (model .entry) in
         a .optional ≡ optional → drop 1 fs ≡ fieldsOf start (now (rest .entry))
-        → Does b u s (λ c. attributeLine (modelAt b) rooms text (wayOf b a u) fs c undefinedLine)
+        → LineDoes b u s (λ c. attributeLine (modelAt b) rooms text (wayOf b a u) fs c undefinedLine)
         cells points cells points r) ⌝ }
 {
     if !optional {
@@ -84,12 +84,12 @@ fn put_line(cells: &mut [i64], cell: usize, count: usize, first: usize)
 
 // ELIN behind the last point of a line.
 pub(crate) fn end_line(model: &[u8], rest: &[u8], cells: &mut [i64], u: OpenLine, s: State) -> Step
-    requires { ⌜ Ready (now model) u s ⌝ }
+    requires { ⌜ LineReady (now model) u s ⌝ }
     requires { ⌜ s .cells ≤ length (now cells) ⌝ }
     ensures { λ r. ⌜ ((a : Attribute) (rooms : Rooms) (text : List ℕ) (fs : List Field) (start : ℕ)
         (points : List ℤ) → let b = now (model .entry) in
         4 * s .points ≤ length points → drop 1 fs ≡ fieldsOf start (now (rest .entry))
-        → Does b u s (λ c. attributeLine (modelAt b) rooms text (wayOf b a u) fs c ended)
+        → LineDoes b u s (λ c. attributeLine (modelAt b) rooms text (wayOf b a u) fs c ended)
         (now (cells .entry)) points (now (cells .exit)) points r) ⌝ }
 {
     if !read_frame::lines::is_bare(rest) {

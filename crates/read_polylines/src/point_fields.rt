@@ -14,7 +14,7 @@ use read_fields::taking::Taken;
 use value_read::Value;
 
 // The value of the next field, and where the field ends in the rest; or the number of its refusal.
-pub enum Got {
+pub enum ValueTaken {
     Value(i64, usize),
     No(u8),
 }
@@ -32,20 +32,20 @@ pub struct PointOut {
 }
 
 // "Points are never undefined".
-fn get_value(rest: &[u8], undefined: u8, component: Component) -> Got
+fn get_value(rest: &[u8], undefined: u8, component: Component) -> ValueTaken
     ensures { λ r. ⌜ GetsValue undefined (componentOf component) (now (rest .entry)) r ⌝ }
 {
     match taking::take_field(rest, undefined) {
-        Taken::Missing => Got::No(11),
+        Taken::Missing => ValueTaken::No(11),
         Taken::Defined(from, len) => {
             let end = from + len;
             match value_read::numbers::read_number(&rest[from..end], component) {
-                Value::Pair(_, v) => Got::Value(v, end),
-                Value::Wrong(k) => Got::No(k),
+                Value::Pair(_, v) => ValueTaken::Value(v, end),
+                Value::Wrong(k) => ValueTaken::No(k),
             }
         }
-        Taken::Undefined(_, _) => Got::No(12),
-        Taken::Twice(_, _) => Got::No(12),
+        Taken::Undefined(_, _) => ValueTaken::No(12),
+        Taken::Twice(_, _) => ValueTaken::No(12),
     }
 }
 
@@ -62,11 +62,11 @@ pub(crate) fn point_values(rest: &[u8], undefined: u8, components: Components) -
     let mut i = 0;
     while i < count {
         match get_value(&rest[at..], undefined, items[i]) {
-            Got::Value(v, end) => {
+            ValueTaken::Value(v, end) => {
                 values[i] = v;
                 at = at + end;
             }
-            Got::No(k) => {
+            ValueTaken::No(k) => {
                 return PointOut {
                     answer: PointAnswer::No(k, i + 2),
                     values,

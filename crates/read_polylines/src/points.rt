@@ -14,7 +14,7 @@ ghost use Rattle.model_records.specs.Records.{modelAt};
 ghost use Rattle.model_records.specs.Attributes.{Decoded};
 ghost use Rattle.read_state.specs.Meaning.{lineStateOf, lineCodeOf};
 ghost use Rattle.read_state.specs.Holds.{LineHolds};
-ghost use Rattle.read_polylines.specs.Ways.{wayOf, Does};
+ghost use Rattle.read_polylines.specs.Ways.{wayOf, LineDoes};
 ghost use Rattle.read_polylines.specs.Points.{Stores, Joins};
 use crate::point_fields::PointAnswer;
 use model_records::Attribute;
@@ -96,7 +96,7 @@ pub(crate) fn point_line(
         → Decoded b (u .at) a → LineHolds (modelAt b) b [] 0 (s .cells) (s .points) u
         → modelAt b .undefined ≡ undefined → rooms .points ≡ length (now (points .entry))
         → drop 1 fs ≡ fieldsOf start (now (rest .entry)) → meaning.lineCodeOf fs ≡ lineCodeOf code
-        → Does b u s (λ c. attributeLine (modelAt b) rooms text (wayOf b a u) fs c (point kind (lineStateOf next)))
+        → LineDoes b u s (λ c. attributeLine (modelAt b) rooms text (wayOf b a u) fs c (point kind (lineStateOf next)))
         cells (now (points .entry)) cells (now (points .exit)) r) ⌝ }
 {
     let state = u.state;

@@ -14,10 +14,10 @@ use Rattle.meaning.specs.Row.{Pair, componentPairs, pairsOfType, pairsOf}
 use Rattle.meaning.specs.Reading.{Object}
 use Rattle.meaning.specs.Table.{afterResolved, resolvePair, resolvePairs}
 use Rattle.model_records.specs.Records.{payloadAt, nextAt, pairsAt}
-use Rattle.model_records.specs.Standing.{AttributeHere, AttributeNext}
+use Rattle.model_records.specs.AtRecord.{AttributeHere, AttributeNext}
 use Rattle.model_records.specs.Attributes.{Sized}
 use Rattle.model_records.proofs.Types.{payload-room, payload-byte, sized, type-at, word-size}
-use Rattle.model_records.specs.Counts.{fieldsOf, pairCount, Counted}
+use Rattle.model_records.specs.Counts.{fieldsOf, pairCount, CountsOf}
 
 -- ## The type
 
@@ -86,8 +86,8 @@ module _ (o : Bool) (q : List ℕ) (ps : List Pair) where
 -- ## Its record
 
 -- the pairs from an attribute record on
-module _ (m : Model) (b : List ℕ) (at k t : ℕ) (a : AttributeNext m b at k t) (f p : ℕ) (c : Counted (byteAt b (at + 5)) f p) where
-  counted : Counted (byteAt (payloadAt b at) 1) f p
+module _ (m : Model) (b : List ℕ) (at k t : ℕ) (a : AttributeNext m b at k t) (f p : ℕ) (c : CountsOf (byteAt b (at + 5)) f p) where
+  counted : CountsOf (byteAt (payloadAt b at) 1) f p
   counted = rw (type-at b at (a .good)) at c
 
   module _ (text : List ℕ) (os : List Object) (object field cell : ℕ) (cs : List ℤ) where

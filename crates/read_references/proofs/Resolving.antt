@@ -16,17 +16,17 @@ use Rattle.meaning.specs.Reading.{Object, stretch, cellAt, objectAt, objectsOf}
 use Rattle.meaning.specs.Table.{Resolved, resolved, unresolved, afterResolved, findObject, putReference, resolvePair, resolvePairs, resolveRows}
 use Rattle.model_records.specs.Records.{kindAt, payloadAt, nextAt, attributesAt, pairsAt}
 use Rattle.model_records.specs.Places.{attributesPlace, tablePlace, TableRecord, Noted}
-use Rattle.model_records.specs.Standing.{AttributeHere, AttributeNext, AttributesHere}
-use Rattle.model_records.proofs.Standing.{attribute-here, no-attribute}
+use Rattle.model_records.specs.AtRecord.{AttributeHere, AttributeNext, AttributesHere}
+use Rattle.model_records.proofs.AtRecord.{attribute-here, no-attribute}
 use Rattle.model_records.proofs.Types.{parts-room}
-use Rattle.table_index.specs.Holds.{Held}
+use Rattle.table_index.specs.Holds.{IndexedTable}
 use Rattle.table_index.proofs.Kept.{beside-in, held-pair, held-beside, objects-beside}
-use Rattle.table.specs.Rows.{Laid}
+use Rattle.table.specs.Rows.{RowsLaidOut}
 use Rattle.read_references.specs.declared.Resolved as declared
 use Rattle.read_references.specs.declared.Resolved.the-variants.{All, Unresolved}
 use Rattle.read_references.specs.Resolved.{resolvedOf, Going, RowHere}
-use Rattle.table.specs.Rows.{PairHere, InRow}
-use Rattle.model_records.specs.Counts.{fieldsOf, pairCount, Counted}
+use Rattle.table.specs.Rows.{PairHere, PairsInRow}
+use Rattle.model_records.specs.Counts.{fieldsOf, pairCount, CountsOf}
 use Rattle.read_references.proofs.Attributes.{attribute-turn}
 use Rattle.model_records.proofs.Counting.{pairs-more, field-most}
 
@@ -49,7 +49,7 @@ module _ (r : declared.Resolved) (ds : List ℤ) (x : Resolved) (e : resolvedOf 
 -- ## Cells of a row
 
 -- past the first j of so many pairs
-in-row-on : (rows : List ℕ) (n o cell l size j k : ℕ) → l ≡ j + k → InRow rows n o cell l size → InRow rows n o (cell + 2 * j) k size
+in-row-on : (rows : List ℕ) (n o cell l size j k : ℕ) → l ≡ j + k → PairsInRow rows n o cell l size → PairsInRow rows n o (cell + 2 * j) k size
 in-row-on rows n o cell l size j k e r = record {
   object = r .object;
   behind = omega (arith, r .behind);
@@ -60,10 +60,10 @@ in-row-on rows n o cell l size j k e r = record {
 -- ## The objects stay the same
 
 module _ (seed : ℕ) (text rows : List ℕ) (n : ℕ) (index : List ℕ) (cells₀ : List ℤ) where
-  pub going-start : Held seed text n (length cells₀) rows cells₀ index → Going seed text rows n index cells₀ cells₀
+  pub going-start : IndexedTable seed text n (length cells₀) rows cells₀ index → Going seed text rows n index cells₀ cells₀
   going-start h = record { held = h; size = refl; objects = refl }
 
-  module _ (o cell k : ℕ) (some : 1 ≤ k) (cs : List ℤ) (g : Going seed text rows n index cells₀ cs) (r : InRow rows n o cell k (length cells₀)) where
+  module _ (o cell k : ℕ) (some : 1 ≤ k) (cs : List ℤ) (g : Going seed text rows n index cells₀ cs) (r : PairsInRow rows n o cell k (length cells₀)) where
     pair-here : PairHere rows n cell cs
     pair-here = record {
       inside = omega (arith, r .inside, g .size);
@@ -98,7 +98,7 @@ module _ (seed : ℕ) (text rows : List ℕ) (n : ℕ) (index : List ℕ) (cells
         go false h = going-put object field _ ds h
 
   -- past the pairs of a row
-  pairs-going : (os : List Object) (object o : ℕ) (ps : List Pair) (field cell : ℕ) (cs ds : List ℤ) → Going seed text rows n index cells₀ cs → InRow rows n o cell (length ps) (length cells₀)
+  pairs-going : (os : List Object) (object o : ℕ) (ps : List Pair) (field cell : ℕ) (cs ds : List ℤ) → Going seed text rows n index cells₀ cs → PairsInRow rows n o cell (length ps) (length cells₀)
       → resolvePairs text os object field cell ps cs ≡ resolved ds → Going seed text rows n index cells₀ ds
   unfolding resolvePairs
   pairs-going os object o [] field cell cs ds g r e = rw (sym (same-cells cs ds e)) g
@@ -138,7 +138,7 @@ module _ (seed : ℕ) (text rows : List ℕ) (n : ℕ) (index : List ℕ) (cells
 pub record AttributesLeft (m : Model) (b : List ℕ) (seed : ℕ) (text rows : List ℕ) (n : ℕ) (index : List ℕ) (o first : ℕ) (cells₀ : List ℤ) (at field cell : ℕ) (cells : List ℤ) : Type 0 where
   pub attributes : AttributesHere m b at
   pub going : Going seed text rows n index cells₀ cells
-  pub row : InRow rows n o cell (length (pairsAt b at)) (length cells₀)
+  pub row : PairsInRow rows n o cell (length (pairsAt b at)) (length cells₀)
   pub fields : field ≤ cell
   pub same : resolvePairs text (objectsOf text cells₀ (take n rows)) o field cell (pairsAt b at) cells ≡ resolvePairs text (objectsOf text cells₀ (take n rows)) o 3 (getD rows o 0 + 3) (pairsAt b first) cells₀
 
@@ -149,7 +149,7 @@ module _ (m : Model) (b : List ℕ) (seed : ℕ) (text rows : List ℕ) (n : ℕ
   abbrev whole : Resolved
   whole = resolvePairs text os o 3 (getD rows o 0 + 3) (pairsAt b first) cells₀
 
-  pub attributes-start : Held seed text n (length cells₀) rows cells₀ index → RowHere m b rows n o first (length cells₀) → (cell : ℕ) → cell ≡ getD rows o 0 + 3
+  pub attributes-start : IndexedTable seed text n (length cells₀) rows cells₀ index → RowHere m b rows n o first (length cells₀) → (cell : ℕ) → cell ≡ getD rows o 0 + 3
       → AttributesLeft m b seed text rows n index o first cells₀ first 3 cell cells₀
   attributes-start h r cell e = record {
     attributes = r .attributes;
@@ -177,12 +177,12 @@ module _ (m : Model) (b : List ℕ) (seed : ℕ) (text rows : List ℕ) (n : ℕ
 
       pub attribute-pair : PairHere rows n cell cs
       attribute-pair =
-          let c : Counted (byteAt b (at + 5)) (fieldsOf (byteAt b (at + 5))) (pairCount (byteAt b (at + 5))) = record { fields = refl; pairs = refl } in
+          let c : CountsOf (byteAt b (at + 5)) (fieldsOf (byteAt b (at + 5))) (pairCount (byteAt b (at + 5))) = record { fields = refl; pairs = refl } in
           pair-here seed text rows n index cells₀ o cell (length (pairsAt b at))
           (omega (arith, pairs-more m b at (i .attributes .topics) (i .attributes .tables) a _ _ c, field-most m b at (i .attributes .topics) (i .attributes .tables) a _ _ c .1))
           cs (i .going) (i .row)
 
-    module _ (e : kindAt b at ≡ 5) (f p : ℕ) (c : Counted (byteAt b (at + 5)) f p) where
+    module _ (e : kindAt b at ≡ 5) (f p : ℕ) (c : CountsOf (byteAt b (at + 5)) f p) where
       more : length (pairsAt b at) ≡ p + length (pairsAt b (nextAt b at))
       more = pairs-more m b at (i .attributes .topics) (i .attributes .tables) (a e) f p c
 
@@ -227,7 +227,7 @@ module _ (m : Model) (b places : List ℕ) (seed : ℕ) (text rows : List ℕ) (
   abbrev answer : Resolved
   answer = resolveRows text objects (m .tables) 0 (take n rows) cells₀
 
-  pub rows-start : Held seed text n (length cells₀) rows cells₀ index → RowsLeft (m .tables) seed text rows n index cells₀ 0 cells₀
+  pub rows-start : IndexedTable seed text n (length cells₀) rows cells₀ index → RowsLeft (m .tables) seed text rows n index cells₀ 0 cells₀
   rows-start h = record { going = going-start seed text rows n index cells₀ h; count = omega arith; same = refl }
 
   module _ (o : ℕ) (cs : List ℤ) (i : RowsLeft (m .tables) seed text rows n index cells₀ o cs) where
@@ -238,7 +238,7 @@ module _ (m : Model) (b places : List ℕ) (seed : ℕ) (text rows : List ℕ) (
         let e : drop o (take n rows) ≡ [] = drop-of-length-le (take n rows) {i = o} (omega (arith, length-take-le n rows (in-rows seed text rows n index cells₀ cs (i .going)))) in
         rw e at (i .same)
 
-    module _ (l : o < n) (laid : Laid m n (length cells₀) rows cells₀) {k : ℕ} (placed : Noted m b places k (length (m .tables))) where
+    module _ (l : o < n) (laid : RowsLaidOut m n (length cells₀) rows cells₀) {k : ℕ} (placed : Noted m b places k (length (m .tables))) where
       kept : cellAt cs (getD rows o 0) ≡ cellAt cells₀ (getD rows o 0)
       kept = table-kept seed text rows n index cells₀ cs (i .going) o l
 

@@ -6,7 +6,7 @@ ghost use lib.ListN.{length, set, take};
 ghost use Rattle.meaning.specs.Model.{found};
 ghost use Rattle.meaning.specs.Reading.{objectsOf};
 ghost use Rattle.meaning.specs.Table.{resolvePair};
-ghost use Rattle.table_index.specs.Holds.{Known};
+ghost use Rattle.table_index.specs.Holds.{ObjectsKnown};
 ghost use Rattle.read_references.specs.Resolved.{resolvedOf};
 ghost use Rattle.table.specs.Rows.{PairHere};
 use crate::Resolved;
@@ -35,7 +35,7 @@ pub(crate) fn resolve_pair(
     object: usize,
     field: usize,
 ) -> Resolved
-    requires { ⌜ Known seed (now text) (now rows) (now cells) (now index) objects ⌝ }
+    requires { ⌜ ObjectsKnown seed (now text) (now rows) (now cells) (now index) objects ⌝ }
     requires { ⌜ PairHere (now rows) objects cell (now cells) ⌝ }
     requires { ⌜ objects < 9223372036854775808 ⌝ }
     ensures { λ r. ⌜ (let t = now (text .entry) in let cs = now (cells .entry) in

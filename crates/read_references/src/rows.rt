@@ -7,9 +7,9 @@ ghost use Rattle.meaning.specs.Reading.{objectsOf};
 ghost use Rattle.meaning.specs.Table.{resolvePair, resolvePairs, resolveRows};
 ghost use Rattle.model_records.specs.Records.{modelAt, payloadAt, pairsAt};
 ghost use Rattle.model_records.specs.Places.{Placed};
-ghost use Rattle.model_records.specs.Standing.{AttributeHere};
-ghost use Rattle.table_index.specs.Holds.{Known, Held};
-ghost use Rattle.table.specs.Rows.{Laid};
+ghost use Rattle.model_records.specs.AtRecord.{AttributeHere};
+ghost use Rattle.table_index.specs.Holds.{ObjectsKnown, IndexedTable};
+ghost use Rattle.table.specs.Rows.{RowsLaidOut};
 ghost use Rattle.read_references.specs.Resolved.{resolvedOf, RowHere};
 ghost use Rattle.table.specs.Rows.{PairHere};
 use crate::Resolved;
@@ -35,7 +35,7 @@ fn resolve_attribute(
     field: usize,
 ) -> Resolved
     requires { ⌜ AttributeHere (now model) at ⌝ }
-    requires { ⌜ Known seed (now text) (now rows) (now cells) (now index) objects ⌝ }
+    requires { ⌜ ObjectsKnown seed (now text) (now rows) (now cells) (now index) objects ⌝ }
     requires { ⌜ PairHere (now rows) objects cell (now cells) ⌝ }
     requires { ⌜ objects < 9223372036854775808 ⌝ }
     ensures { λ r. ⌜ (let t = now (text .entry) in let cs = now (cells .entry) in
@@ -73,7 +73,7 @@ fn resolve_row(
     first: usize,
     object: usize,
 ) -> Resolved
-    requires { ⌜ Held seed (now text) objects (length (now cells)) (now rows) (now cells) (now index) ⌝ }
+    requires { ⌜ IndexedTable seed (now text) objects (length (now cells)) (now rows) (now cells) (now index) ⌝ }
     requires { ⌜ RowHere (modelAt (now model)) (now model) (now rows) objects object first (length (now cells)) ⌝ }
     requires { ⌜ objects < 9223372036854775808 ⌝ }
     ensures { λ r. ⌜ (let t = now (text .entry) in let cs = now (cells .entry) in
@@ -125,8 +125,8 @@ pub fn resolve_references(
     seed: u64,
 ) -> Resolved
     requires { ⌜ Placed (now model) shape (now places) ⌝ }
-    requires { ⌜ Held seed (now text) objects (length (now cells)) (now rows) (now cells) (now index) ⌝ }
-    requires { ⌜ Laid (modelAt (now model)) objects (length (now cells)) (now rows) (now cells) ⌝ }
+    requires { ⌜ IndexedTable seed (now text) objects (length (now cells)) (now rows) (now cells) (now index) ⌝ }
+    requires { ⌜ RowsLaidOut (modelAt (now model)) objects (length (now cells)) (now rows) (now cells) ⌝ }
     ensures { λ r. ⌜ (let t = now (text .entry) in let cs = now (cells .entry) in
         resolvedOf r (now (cells .exit))
         ≡ resolveRows t (objectsOf t cs (take objects (now (rows .entry)))) (modelAt (now (model .entry)) .tables) 0

@@ -9,9 +9,9 @@ use lib.ListN.{length, getD}
 use Rattle.meaning.specs.Bytes.{byteAt}
 use Rattle.meaning.specs.Model.{Model}
 use Rattle.model_records.specs.Records.{kindAt, payloadAt, pairsAt}
-use Rattle.model_records.specs.Standing.{AttributesHere}
-use Rattle.table.specs.Rows.{Laid}
-use Rattle.table_index.specs.Holds.{Held}
+use Rattle.model_records.specs.AtRecord.{AttributesHere}
+use Rattle.table.specs.Rows.{RowsLaidOut}
+use Rattle.table_index.specs.Holds.{IndexedTable}
 use Rattle.read_state.specs.declared.OpenLine.{OpenLine}
 use Rattle.read_state.specs.declared.FrameDue.{FrameDue}
 use Rattle.read_state.specs.declared.FrameDue.the-variants as frame
@@ -54,7 +54,7 @@ DueHolds m b rows n used points (Line u) = LineHolds m b rows n used points u
 pub record Holds (m : Model) (b text : List ℕ) (seed : ℕ) (s : State) (marks rows : List ℕ) (cells points : List ℤ)
     (index : List ℕ) : Type 0 where
   pub due : DueHolds m b rows (s .rows) (s .cells) (s .points) (s .due)
-  pub objects : Held seed text (s .rows) (s .cells) rows cells index
-  pub laid : Laid m (s .rows) (s .cells) rows cells
+  pub objects : IndexedTable seed text (s .rows) (s .cells) rows cells index
+  pub laid : RowsLaidOut m (s .rows) (s .cells) rows cells
   pub pointsFit : 4 * s .points ≤ length points
   pub marksFit : length (m .topics) + length (m .tables) ≤ length marks

@@ -33,9 +33,9 @@ use Rattle.read_state.specs.Holds.{Holds}
 use Rattle.read_frame.specs.Heads.{HeadOf}
 use Rattle.read_frame.specs.Moves.{MovedHolds}
 use Rattle.read_frame.specs.declared.codes.Head.{Head}
-use Rattle.read_polylines.specs.Ways.{StepHolds, Does}
+use Rattle.read_polylines.specs.Ways.{StepHolds, LineDoes}
 use Rattle.read_polylines.proofs.Ways.{line-held}
-use Rattle.read_objects.specs.Rows.{Adds}
+use Rattle.read_objects.specs.Rows.{RowAdds}
 use Rattle.read_objects.specs.Tables.{TableHolds}
 use Rattle.read_step.specs.Steps.{topicMarksBy, marksBy, Steps, lineMeant}
 
@@ -181,7 +181,7 @@ behind-within text at end behind a e h =
 
 -- a line that adds this adds the same by another name
 pub adds-as : (b text : List ℕ) (seed : ℕ) (s : State) (meant meant′ : Rooms → Content → lines.Step) (rows rows′ : List ℕ) (cells cells′ : List ℤ) (index index′ : List ℕ) (r : Step)
-    → ((rooms : Rooms) (c : Content) → meant rooms c ≡ meant′ rooms c) → Adds b text seed s meant rows rows′ cells cells′ index index′ r → Adds b text seed s meant′ rows rows′ cells cells′ index index′ r
+    → ((rooms : Rooms) (c : Content) → meant rooms c ≡ meant′ rooms c) → RowAdds b text seed s meant rows rows′ cells cells′ index index′ r → RowAdds b text seed s meant′ rows rows′ cells cells′ index index′ r
 adds-as b text seed s meant meant′ rows rows′ cells cells′ index index′ r e a = record {
   step = λ k rooms marks points er ec fits. a .step k rooms marks points er ec fits ∙ e rooms (contentOf k s marks rows cells points);
   holds = a .holds;
@@ -219,7 +219,7 @@ module _ (b text : List ℕ) (seed : ℕ) (s : State) (at size : ℕ) (marks row
 
   -- a line among the objects of a table
   pub object-steps : (table : ℕ) (rows′ : List ℕ) (cells′ : List ℤ) (index′ : List ℕ) (r : Step) → s .due ≡ Object table
-      → Adds b text seed s (λ rooms c. objectLine (modelAt b) rooms text table (fieldsOf at (stretch text at size)) c) rows rows′ cells cells′ index index′ r
+      → RowAdds b text seed s (λ rooms c. objectLine (modelAt b) rooms text table (fieldsOf at (stretch text at size)) c) rows rows′ cells cells′ index index′ r
       → Steps b text seed s (lineMeant b text at size (s .due)) marks rows cells points index marks rows′ cells′ points index′ r
   unfolding lineDue dueOf
   object-steps table rows′ cells′ index′ r e a = record {
@@ -231,7 +231,7 @@ module _ (b text : List ℕ) (seed : ℕ) (s : State) (at size : ℕ) (marks row
 
   -- a line of the line attribute under way
   pub line-steps : (u : OpenLine) (cells′ points′ : List ℤ) (r : Step) → s .due ≡ Line u
-      → ((rooms : Rooms) (t : List ℕ) (start : ℕ) → rooms .points ≡ length points → Does b u s (λ c. lineDue (modelAt b) rooms t (dueOf b (Line u)) (stretch text at size) (fieldsOf start (stretch text at size)) c) cells points cells′ points′ r)
+      → ((rooms : Rooms) (t : List ℕ) (start : ℕ) → rooms .points ≡ length points → LineDoes b u s (λ c. lineDue (modelAt b) rooms t (dueOf b (Line u)) (stretch text at size) (fieldsOf start (stretch text at size)) c) cells points cells′ points′ r)
       → Steps b text seed s (lineMeant b text at size (s .due)) marks rows cells points index marks rows cells′ points′ index r
   line-steps u cells′ points′ r e d = record {
     step = λ rooms er ec ep.

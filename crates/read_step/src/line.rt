@@ -11,10 +11,10 @@ ghost use Rattle.model_records.specs.Records.{modelAt};
 ghost use Rattle.model_records.specs.Places.{Placed};
 ghost use Rattle.read_state.specs.Meaning.{frameDueOf, movedOf, markedOf, contentOf, stepOf};
 ghost use Rattle.read_state.specs.Holds.{FrameHolds, Holds};
-ghost use Rattle.table_index.specs.Holds.{Held};
+ghost use Rattle.table_index.specs.Holds.{IndexedTable};
 ghost use Rattle.read_frame.specs.Moves.{MovedHolds};
 ghost use Rattle.read_polylines.specs.Ways.{StepHolds};
-ghost use Rattle.read_objects.specs.Rows.{Adds};
+ghost use Rattle.read_objects.specs.Rows.{RowAdds};
 ghost use Rattle.read_step.specs.Steps.{Prepared, Steps, lineMeant};
 use crate::marks;
 use model_records::places;
@@ -139,8 +139,8 @@ fn object_line(
     requires { ⌜ Placed (now model) shape (now places) ⌝ }
     requires { ⌜ table < shape .tables ⌝ }
     requires { ⌜ (at ≤ end) × (end ≤ length (now text)) × (length (now text) < 2 ^ 62) ⌝ }
-    requires { ⌜ Held seed (now text) (s .rows) (s .cells) (now rows) (now cells) (now index) ⌝ }
-    ensures { λ r. ⌜ (let t = now (text .entry) in Adds (now (model .entry)) t seed s
+    requires { ⌜ IndexedTable seed (now text) (s .rows) (s .cells) (now rows) (now cells) (now index) ⌝ }
+    ensures { λ r. ⌜ (let t = now (text .entry) in RowAdds (now (model .entry)) t seed s
         (λ rooms c. objectLine (modelAt (now (model .entry))) rooms t table (fieldsOf at (stretch t at (end - at))) c)
         (now (rows .entry)) (now (rows .exit)) (now (cells .entry)) (now (cells .exit))
         (now (index .entry)) (now (index .exit)) r) ⌝ }

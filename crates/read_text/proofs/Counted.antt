@@ -8,9 +8,9 @@ use lib.ListN.{length, getD, take, replicate, length-append, length-replicate}
 use lib.Seq.{length-take-le, take-at, getD-take}
 use Rattle.meaning.specs.Model.{Model}
 use Rattle.table.specs.Rows.{identificationOf}
-use Rattle.table_index.specs.Holds.{Held}
+use Rattle.table_index.specs.Holds.{IndexedTable}
 use Rattle.table_index.proofs.Kept.{held-behind}
-use Rattle.table.specs.Rows.{Laid}
+use Rattle.table.specs.Rows.{RowsLaidOut}
 
 -- what is looked for behind the end is the same as what is filled in there
 filled-none : {A : Type 0} (z : A) (k i : ℕ) → getD (replicate k z) i z ≡ z
@@ -23,7 +23,7 @@ filled-same z [] k i = filled-none z k i
 filled-same z (x ∷ xs) k zero = refl
 filled-same z (x ∷ xs) k (suc i) = filled-same z xs k i
 
-module _ (seed : ℕ) (text : List ℕ) (n used : ℕ) (rows : List ℕ) (cells : List ℤ) (index : List ℕ) (h : Held seed text n used rows cells index) where
+module _ (seed : ℕ) (text : List ℕ) (n used : ℕ) (rows : List ℕ) (cells : List ℤ) (index : List ℕ) (h : IndexedTable seed text n used rows cells index) where
   -- zeros in place of the cells behind
   zeros : List ℤ
   zeros = take used cells ++ replicate (length cells - used) (pos 0)
@@ -32,7 +32,7 @@ module _ (seed : ℕ) (text : List ℕ) (n used : ℕ) (rows : List ℕ) (cells 
   unfolding zeros
   zeros-length = omega (arith, h .cells-in, length-append (take used cells) (replicate (length cells - used) (pos 0)), length-take-le used cells (h .cells-in), length-replicate (length cells - used) (pos 0))
 
-  zeros-held : Held seed text n used rows zeros index
+  zeros-held : IndexedTable seed text n used rows zeros index
   unfolding zeros
   zeros-held = held-behind seed text n used rows cells index h rows zeros refl zeros-length refl (take-at (take used cells) _ used (length-take-le used cells (h .cells-in)))
 
@@ -46,7 +46,7 @@ module _ (seed : ℕ) (text : List ℕ) (n used : ℕ) (rows : List ℕ) (cells 
   table-same : (o : ℕ) → o < n → getD (take used cells) (getD rows o 0) (pos 0) ≡ getD cells (getD rows o 0) (pos 0)
   table-same o l = getD-take used cells (getD rows o 0) (pos 0) (omega (arith, h .within o l))
 
-  pub first-held : Held seed text n (length (take used cells)) rows (take used cells) index
+  pub first-held : IndexedTable seed text n (length (take used cells)) rows (take used cells) index
   first-held =
       let size : length (take used cells) ≡ used = length-take-le used cells (h .cells-in) in
       record {
@@ -69,7 +69,7 @@ module _ (seed : ℕ) (text : List ℕ) (n used : ℕ) (rows : List ℕ) (cells 
         spaced = h .spaced;
       }
 
-  pub first-laid : (m : Model) → Laid m n used rows cells → Laid m n (length (take used cells)) rows (take used cells)
+  pub first-laid : (m : Model) → RowsLaidOut m n used rows cells → RowsLaidOut m n (length (take used cells)) rows (take used cells)
   first-laid m a = rw (length-take-le used cells (h .cells-in))
       record {
         table = λ o l. rw (table-same o l) (a .table o l);

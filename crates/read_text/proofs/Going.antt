@@ -24,8 +24,8 @@ use Rattle.model_records.specs.declared.places.Shape.{Shape}
 use Rattle.read_state.specs.Meaning.{openLineOf, frameDueOf, dueOf, contentOf}
 use Rattle.read_state.specs.Holds.{Holds}
 use Rattle.table_index.proofs.Kept.{held-start}
-use Rattle.read_text.specs.declared.loops.Ran.{Ran}
-use Rattle.read_text.specs.declared.loops.Ran.the-variants.{Read, Stopped}
+use Rattle.read_text.specs.declared.loops.LinesRun.{LinesRun}
+use Rattle.read_text.specs.declared.loops.LinesRun.the-variants.{Read, Stopped}
 use Rattle.read_text.specs.Text.{linesOf, lineEnd}
 use Rattle.read_step.specs.Steps.{Prepared, Steps, lineMeant}
 use Rattle.read_text.specs.Outcomes.{RanTo, EndsAs}
@@ -146,7 +146,7 @@ module _ (b : List ℕ) (shape : Shape) (places text : List ℕ) (seed : ℕ) wh
       ends-run : (rooms : Rooms) → Lends rows₀ cells₀ points₀ rooms → run (modelAt b) rooms text (startOf (modelAt b)) (linesOf text) ≡ ran (stateAt b number at s marks rows cells points)
       ends-run rooms l = sym (g .runs rooms l) ∙ run-end (modelAt b) rooms text at _ past
 
-      pub ends : (r : Ran) → EndsAs s number r → (rooms : Rooms) → Lends rows₀ cells₀ points₀ rooms
+      pub ends : (r : LinesRun) → EndsAs s number r → (rooms : Rooms) → Lends rows₀ cells₀ points₀ rooms
           → RanTo b text seed marks rows cells points index (readLines (modelAt b) rooms text (startOf (modelAt b)) (linesOf text)) r
       unfolding readLines atEnd isComplete dueOf frameDueOf refuse
       ends (Read t) h rooms l = record {

@@ -12,8 +12,8 @@ use Rattle.meaning.specs.Table.{Resolved, resolved, unresolved, resolveRows, re
 use Rattle.model_records.specs.Records.{modelAt}
 use Rattle.read_state.specs.declared.State.{State}
 use Rattle.read_text.specs.Outcomes.{AllRead, RanTo, Fits, usedOf, TableRead}
-use Rattle.read_text.specs.declared.loops.Ran.{Ran}
-use Rattle.read_text.specs.declared.loops.Ran.the-variants.{Read, Stopped}
+use Rattle.read_text.specs.declared.loops.LinesRun.{LinesRun}
+use Rattle.read_text.specs.declared.loops.LinesRun.the-variants.{Read, Stopped}
 use Rattle.read_text.specs.declared.Answer.{Answer}
 use Rattle.read_text.specs.declared.Answer.the-variants.{Accepted}
 
@@ -47,10 +47,10 @@ stopped-read m rooms text run number line field e = ap (readRun m rooms text) e
 
 module _ (b text : List ℕ) (seed : ℕ) (marks rows : List ℕ) (cells points : List ℤ) (index : List ℕ) (run : Run) where
   -- what the lines came to, by the answer
-  pub ran-read : (r : Ran) (s : State) → r ≡ Read s → RanTo b text seed marks rows cells points index run r → AllRead b text seed marks rows cells points index run s
+  pub ran-read : (r : LinesRun) (s : State) → r ≡ Read s → RanTo b text seed marks rows cells points index run r → AllRead b text seed marks rows cells points index run s
   ran-read r s e h = subst (RanTo b text seed marks rows cells points index run) e h
 
-  pub ran-stopped : (r : Ran) (number line field : ℕ) → r ≡ Stopped number line field → RanTo b text seed marks rows cells points index run r → run ≡ stopped number line field
+  pub ran-stopped : (r : LinesRun) (number line field : ℕ) → r ≡ Stopped number line field → RanTo b text seed marks rows cells points index run r → run ≡ stopped number line field
   ran-stopped r number line field e h = subst (RanTo b text seed marks rows cells points index run) e h
 
   module _ (rooms : Rooms) (s : State) (h : AllRead b text seed marks rows cells points index run s) where

@@ -16,8 +16,8 @@ use Rattle.read_state.specs.declared.Due.the-variants.{Frame}
 use Rattle.read_state.specs.declared.FrameDue.the-variants as frame
 use Rattle.read_state.specs.declared.State.{State}
 use Rattle.read_state.specs.Holds.{Holds}
-use Rattle.read_text.specs.declared.loops.Ran.{Ran}
-use Rattle.read_text.specs.declared.loops.Ran.the-variants.{Read, Stopped}
+use Rattle.read_text.specs.declared.loops.LinesRun.{LinesRun}
+use Rattle.read_text.specs.declared.loops.LinesRun.the-variants.{Read, Stopped}
 use Rattle.read_text.specs.declared.Answer.{Answer}
 use Rattle.read_text.specs.declared.Answer.the-variants.{Accepted, Refused}
 
@@ -37,12 +37,12 @@ pub record AllRead (b text : List ℕ) (seed : ℕ) (marks rows : List ℕ) (cel
   pub holds : Holds (modelAt b) b text seed s marks rows cells points index
 
 abbrev pub RanTo : (b text : List ℕ) (seed : ℕ) (marks rows : List ℕ) (cells points : List ℤ) (index : List ℕ)
-    → lines.Run → Ran → Type 0
+    → lines.Run → LinesRun → Type 0
 RanTo b text seed marks rows cells points index run (Read s) = AllRead b text seed marks rows cells points index run s
 RanTo b text seed marks rows cells points index run (Stopped number line field) = run ≡ lines.stopped number line field
 
 -- behind the last line: the state s, where no line is due
-abbrev pub EndsAs : State → (line : ℕ) → Ran → Type 0
+abbrev pub EndsAs : State → (line : ℕ) → LinesRun → Type 0
 EndsAs s line (Read t) = (t ≡ s) × (s .due ≡ Frame frame.Nothing)
 EndsAs s line (Stopped number at field) =
     (number ≡ 7) × (at ≡ line) × (field ≡ 1) × ((b : List ℕ) → isComplete (dueOf b (s .due)) ≡ false)

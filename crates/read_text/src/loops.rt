@@ -17,7 +17,7 @@ use read_state::State;
 use read_state::Step;
 
 // The state behind the last line; or the first refusal, its line and its field.
-pub enum Ran {
+pub enum LinesRun {
     Read(State),
     Stopped(u8, usize, usize),
 }
@@ -39,19 +39,19 @@ fn is_last(due: FrameDue) -> bool
 }
 
 // 7 where a line is still due behind the last one.
-fn at_end(s: State, line: usize) -> Ran
+fn at_end(s: State, line: usize) -> LinesRun
     ensures { λ r. ⌜ EndsAs s line r ⌝ }
 {
     let due = s.due;
     match due {
         Due::Frame(frame) => {
             if is_last(frame) {
-                return Ran::Read(s);
+                return LinesRun::Read(s);
             }
-            Ran::Stopped(7, line, 1)
+            LinesRun::Stopped(7, line, 1)
         }
-        Due::Object(_) => Ran::Stopped(7, line, 1),
-        Due::Line(_) => Ran::Stopped(7, line, 1),
+        Due::Object(_) => LinesRun::Stopped(7, line, 1),
+        Due::Line(_) => LinesRun::Stopped(7, line, 1),
     }
 }
 
@@ -67,7 +67,7 @@ pub fn read_lines(
     points: &mut [i64],
     index: &mut [u64],
     seed: u64,
-) -> Ran
+) -> LinesRun
     requires { ⌜ Prepared (now model) shape (now places) (now marks) ⌝ }
     requires { ⌜ length (now text) < 2 ^ 62 ⌝ }
     requires { ⌜ (now marks ≡ replicate (length (now marks)) 0) × (now index ≡ replicate (length (now index)) 0) ⌝ }
@@ -107,7 +107,7 @@ pub fn read_lines(
                 s = next;
             }
             Step::No(number, field) => {
-                return Ran::Stopped(number, line, field);
+                return LinesRun::Stopped(number, line, field);
             }
         }
         line += 1;

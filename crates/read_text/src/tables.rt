@@ -8,15 +8,15 @@ ghost use Rattle.meaning.specs.Reading.{startOf, Rooms};
 ghost use Rattle.meaning.specs.Lines.{readLines};
 ghost use Rattle.meaning.specs.Table.{readRun, readResolved, resolve};
 ghost use Rattle.model_records.specs.Records.{modelAt};
-ghost use Rattle.table_index.specs.Holds.{Held};
-ghost use Rattle.table.specs.Rows.{Laid};
+ghost use Rattle.table_index.specs.Holds.{IndexedTable};
+ghost use Rattle.table.specs.Rows.{RowsLaidOut};
 ghost use Rattle.model_records.specs.Places.{Placed};
 ghost use Rattle.read_step.specs.Steps.{Prepared};
 ghost use Rattle.read_text.specs.Text.{linesOf};
 ghost use Rattle.read_text.specs.Outcomes.{Fits, usedOf, TableRead};
 use crate::Answer;
 use crate::loops;
-use crate::loops::Ran;
+use crate::loops::LinesRun;
 use base::rooms;
 use model_records::places::Shape;
 use read_references::Resolved;
@@ -34,8 +34,8 @@ fn resolve_all(
     seed: u64,
     s: State,
 ) -> Answer
-    requires { ⌜ Held seed (now text) (s .rows) (s .cells) (now rows) (now cells) (now index) ⌝ }
-    requires { ⌜ Laid (modelAt (now model)) (s .rows) (s .cells) (now rows) (now cells) ⌝ }
+    requires { ⌜ IndexedTable seed (now text) (s .rows) (s .cells) (now rows) (now cells) (now index) ⌝ }
+    requires { ⌜ RowsLaidOut (modelAt (now model)) (s .rows) (s .cells) (now rows) (now cells) ⌝ }
     requires { ⌜ Placed (now model) shape (now places) ⌝ }
     ensures read { λ r. ⌜ (let m = modelAt (now (model .entry)) in let t = now (text .entry) in
         (rooms : Rooms) (marks : List ℕ) (points : List ℤ) → 4 * s .points ≤ length points
@@ -100,7 +100,7 @@ pub fn read_table(
         seed,
     );
     match ran {
-        Ran::Stopped(number, line, field) => Answer::Refused(number, line, field),
-        Ran::Read(s) => resolve_all(model, places, shape, text, rows, cells, index, seed, s),
+        LinesRun::Stopped(number, line, field) => Answer::Refused(number, line, field),
+        LinesRun::Read(s) => resolve_all(model, places, shape, text, rows, cells, index, seed, s),
     }
 }

@@ -27,12 +27,12 @@ unfoldable pub identificationOf : (text rows : List ℕ) → List ℤ → ℕ �
 identificationOf text rows cells o = stretch text (cellAt cells (getD rows o 0 + 1)) (cellAt cells (getD rows o 0 + 2))
 
 -- the first n objects have such rows
-pub record Listed (text rows : List ℕ) (cells : List ℤ) (n : ℕ) : Type 0 where
+pub record RowsListed (text rows : List ℕ) (cells : List ℤ) (n : ℕ) : Type 0 where
   pub in-rows : n ≤ length rows
   pub row : (o : ℕ) → o < n → Row text cells (getD rows o 0)
 
 -- a cell that is none of the first three of a row
-pub record Beside (rows : List ℕ) (n cell : ℕ) : Type 0 where
+pub record BesideRows (rows : List ℕ) (n cell : ℕ) : Type 0 where
   pub beside : (o k : ℕ) → o < n → k < 3 → cell ≡ getD rows o 0 + k → ⊥
 
 -- ## A row's pairs
@@ -44,11 +44,11 @@ rowSize m t = 3 + 2 * length (pairsOf (tableAt (m .tables) t .attributes))
 -- the pair at this cell is none of the first three cells of a row
 pub record PairHere (rows : List ℕ) (n cell : ℕ) (cells : List ℤ) : Type 0 where
   pub inside : cell + 1 < length cells
-  pub first : Beside rows n cell
-  pub second : Beside rows n (cell + 1)
+  pub first : BesideRows rows n cell
+  pub second : BesideRows rows n (cell + 1)
 
 -- so many pairs from this cell on are of the row of object o: behind its first three cells, and before the later rows
-pub record InRow (rows : List ℕ) (n o cell pairs size : ℕ) : Type 0 where
+pub record PairsInRow (rows : List ℕ) (n o cell pairs size : ℕ) : Type 0 where
   pub object : o < n
   pub behind : getD rows o 0 + 2 < cell
   pub inside : cell + 2 * pairs ≤ size
@@ -57,7 +57,7 @@ pub record InRow (rows : List ℕ) (n o cell pairs size : ℕ) : Type 0 where
 -- ## One row behind the other
 
 -- each row is of a table of the model, has its cells, and the next row comes behind them
-pub record Laid (m : Model) (n used : ℕ) (rows : List ℕ) (cells : List ℤ) : Type 0 where
+pub record RowsLaidOut (m : Model) (n used : ℕ) (rows : List ℕ) (cells : List ℤ) : Type 0 where
   pub table : (o : ℕ) → o < n → cellAt cells (getD rows o 0) < length (m .tables)
   pub ends : (o : ℕ) → o < n → getD rows o 0 + rowSize m (cellAt cells (getD rows o 0)) ≤ used
   pub apart : (o p : ℕ) → o < p → p < n → getD rows o 0 + rowSize m (cellAt cells (getD rows o 0)) ≤ getD rows p 0

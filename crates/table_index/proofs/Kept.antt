@@ -13,10 +13,10 @@ use borrow.Author.Tests.{ltb-true, ltb-false}
 use Rattle.meaning.specs.Reading.{Object, objectAt, objectsOf, isUsed}
 use Rattle.meaning.specs.Table.{findObject}
 use Rattle.table_index.specs.Objects.{lastOf, Unique}
-use Rattle.table.specs.Rows.{identificationOf, Listed}
+use Rattle.table.specs.Rows.{identificationOf, RowsListed}
 use Rattle.table_index.specs.Index.{headOf, hasHead, wordOf, Chained, Indexed}
-use Rattle.table_index.specs.Holds.{Known, Held}
-use Rattle.table.specs.Rows.{Beside}
+use Rattle.table_index.specs.Holds.{ObjectsKnown, IndexedTable}
+use Rattle.table.specs.Rows.{BesideRows}
 use Rattle.table_index.proofs.Last.{last-same, last-le}
 use Rattle.table_index.proofs.Grown.{nothing-chained}
 use Rattle.table_index.proofs.Meant.{objects-more}
@@ -72,7 +72,7 @@ module _ (text rows rows′ : List ℕ) (cells cells′ : List ℤ) (n : ℕ) (a
       ∙ sym (objects-more text cells rows k (omega arith))
 
   module _ (lr : length rows′ ≡ length rows) (lc : length cells′ ≡ length cells) where
-    listed-kept : Listed text rows cells n → Listed text rows′ cells′ n
+    listed-kept : RowsListed text rows cells n → RowsListed text rows′ cells′ n
     listed-kept k = record {
       in-rows = omega (arith, k .in-rows);
       row = λ o l. rw (a .rows-same o l) (record {
@@ -90,10 +90,10 @@ module _ (text rows rows′ : List ℕ) (cells cells′ : List ℤ) (n : ℕ) (a
     indexed-kept : (seed : ℕ) (index : List ℕ) → Indexed seed text rows cells index n → Indexed seed text rows′ cells′ index n
     indexed-kept seed index k = rw lr (λ t. chained-same seed (identificationOf text rows cells) (identificationOf text rows′ cells′) (length rows) index n named-kept (k t))
 
-    pub known-kept : (seed : ℕ) (index : List ℕ) → Known seed text rows cells index n → Known seed text rows′ cells′ index n
+    pub known-kept : (seed : ℕ) (index : List ℕ) → ObjectsKnown seed text rows cells index n → ObjectsKnown seed text rows′ cells′ index n
     known-kept seed index k = record { listed = listed-kept (k .listed); unique = unique-kept (k .unique); indexed = indexed-kept seed index (k .indexed) }
 
-    pub held-kept : (seed used : ℕ) (index : List ℕ) → Held seed text n used rows cells index → Held seed text n used rows′ cells′ index
+    pub held-kept : (seed used : ℕ) (index : List ℕ) → IndexedTable seed text n used rows cells index → IndexedTable seed text n used rows′ cells′ index
     held-kept seed used index h = record {
       known = known-kept seed index (h .known);
       cells-in = omega (arith, h .cells-in);
@@ -103,7 +103,7 @@ module _ (text rows rows′ : List ℕ) (cells cells′ : List ℤ) (n : ℕ) (a
 
 -- ## No object
 
-pub held-start : (seed : ℕ) (text rows : List ℕ) (cells : List ℤ) (index : List ℕ) (k : ℕ) → index ≡ replicate k 0 → Held seed text 0 0 rows cells index
+pub held-start : (seed : ℕ) (text rows : List ℕ) (cells : List ℤ) (index : List ℕ) (k : ℕ) → index ≡ replicate k 0 → IndexedTable seed text 0 0 rows cells index
 held-start seed text rows cells index k e = record {
   known = record {
     listed = record { in-rows = omega arith; row = λ o l. absurd (omega arith) };
@@ -120,7 +120,7 @@ held-start seed text rows cells index k e = record {
 first-same : {A : Type 0} (l l′ : List A) (n i : ℕ) (d : A) → take n l′ ≡ take n l → i < n → getD l′ i d ≡ getD l i d
 first-same {A} l l′ n i d e h = sym (getD-take n l′ i d h) ∙ ap (λ (t : List A). getD t i d) e ∙ getD-take n l i d h
 
-module _ (seed : ℕ) (text : List ℕ) (n used : ℕ) (rows : List ℕ) (cells : List ℤ) (index : List ℕ) (h : Held seed text n used rows cells index) where
+module _ (seed : ℕ) (text : List ℕ) (n used : ℕ) (rows : List ℕ) (cells : List ℤ) (index : List ℕ) (h : IndexedTable seed text n used rows cells index) where
   -- where the rows and the cells that count are the same
   agree-first : (rows′ : List ℕ) (cells′ : List ℤ) → take n rows′ ≡ take n rows → take used cells′ ≡ take used cells → Agree rows rows′ cells cells′ n
   agree-first rows′ cells′ r k = record {
@@ -131,7 +131,7 @@ module _ (seed : ℕ) (text : List ℕ) (n used : ℕ) (rows : List ℕ) (cells 
   }
 
   -- rows and cells written behind those that count
-  pub held-behind : (rows′ : List ℕ) (cells′ : List ℤ) → length rows′ ≡ length rows → length cells′ ≡ length cells → take n rows′ ≡ take n rows → take used cells′ ≡ take used cells → Held seed text n used rows′ cells′ index
+  pub held-behind : (rows′ : List ℕ) (cells′ : List ℤ) → length rows′ ≡ length rows → length cells′ ≡ length cells → take n rows′ ≡ take n rows → take used cells′ ≡ take used cells → IndexedTable seed text n used rows′ cells′ index
   held-behind rows′ cells′ lr lc r k = held-kept text rows rows′ cells cells′ n (agree-first rows′ cells′ r k) lr lc seed used index h
 
   -- the objects stand in the cells that count
@@ -156,7 +156,7 @@ module _ (seed : ℕ) (text : List ℕ) (n used : ℕ) (rows : List ℕ) (cells 
   -- ## A cell changed
 
   -- a cell of row p behind its first three and before the later rows
-  pub beside-in : (p cell : ℕ) → p < n → getD rows p 0 + 2 < cell → ((o : ℕ) → p < o → o < n → cell < getD rows o 0) → Beside rows n cell
+  pub beside-in : (p cell : ℕ) → p < n → getD rows p 0 + 2 < cell → ((o : ℕ) → p < o → o < n → cell < getD rows o 0) → BesideRows rows n cell
   beside-in p cell l b later = record { beside = λ o k m s e. go o k m s e (ltb o p) refl (ltb p o) refl }
     where
       go : (o k : ℕ) → o < n → k < 3 → cell ≡ getD rows o 0 + k → (x : Bool) → ltb o p ≡ x → (y : Bool) → ltb p o ≡ y → ⊥
@@ -166,7 +166,7 @@ module _ (seed : ℕ) (text : List ℕ) (n used : ℕ) (rows : List ℕ) (cells 
           let same : o ≡ p = omega (arith, ltb-false o p x, ltb-false p o y) in
           omega (arith, ap (λ (j : ℕ). getD rows j 0) same)
 
-  agree-beside : (cell : ℕ) (v : ℤ) → Beside rows n cell → Agree rows rows cells (set cells cell v) n
+  agree-beside : (cell : ℕ) (v : ℤ) → BesideRows rows n cell → Agree rows rows cells (set cells cell v) n
   agree-beside cell v b = record {
     rows-same = λ o l. refl;
     table-same = λ o l. getD-set-other cells cell (getD rows o 0) v (pos 0) (λ q. b .beside o 0 l (omega arith) (omega arith));
@@ -174,21 +174,21 @@ module _ (seed : ℕ) (text : List ℕ) (n used : ℕ) (rows : List ℕ) (cells 
     length-same = λ o l. getD-set-other cells cell (getD rows o 0 + 2) v (pos 0) (λ q. b .beside o 2 l (omega arith) (sym q));
   }
 
-  pub held-beside : (cell : ℕ) (v : ℤ) → Beside rows n cell → Held seed text n used rows (set cells cell v) index
+  pub held-beside : (cell : ℕ) (v : ℤ) → BesideRows rows n cell → IndexedTable seed text n used rows (set cells cell v) index
   held-beside cell v b = held-kept text rows rows cells (set cells cell v) n (agree-beside cell v b) refl (length-set cells cell v) seed used index h
 
   -- the objects are the same as before
-  pub objects-beside : (cell : ℕ) (v : ℤ) → Beside rows n cell → objectsOf text (set cells cell v) (take n rows) ≡ objectsOf text cells (take n rows)
+  pub objects-beside : (cell : ℕ) (v : ℤ) → BesideRows rows n cell → objectsOf text (set cells cell v) (take n rows) ≡ objectsOf text cells (take n rows)
   objects-beside cell v b = objects-kept text rows rows cells (set cells cell v) n (agree-beside cell v b) (h .known .listed .in-rows) (h .known .listed .in-rows) n (omega arith)
 
 -- a cell behind the first three of every row
-pub beside-behind : (rows : List ℕ) (n cell : ℕ) → ((o : ℕ) → o < n → getD rows o 0 + 2 < cell) → Beside rows n cell
+pub beside-behind : (rows : List ℕ) (n cell : ℕ) → ((o : ℕ) → o < n → getD rows o 0 + 2 < cell) → BesideRows rows n cell
 beside-behind rows n cell behind = record { beside = λ o k l s e. omega (arith, behind o l) }
 
 -- a pair of cells: a line's, or a reference that is resolved
-module _ (seed : ℕ) (text : List ℕ) (n used : ℕ) (rows : List ℕ) (cells : List ℤ) (index : List ℕ) (h : Held seed text n used rows cells index) where
-  module _ (cell : ℕ) (v w : ℤ) (b : Beside rows n cell) (b′ : Beside rows n (cell + 1)) where
-    pub held-pair : Held seed text n used rows (set (set cells cell v) (cell + 1) w) index
+module _ (seed : ℕ) (text : List ℕ) (n used : ℕ) (rows : List ℕ) (cells : List ℤ) (index : List ℕ) (h : IndexedTable seed text n used rows cells index) where
+  module _ (cell : ℕ) (v w : ℤ) (b : BesideRows rows n cell) (b′ : BesideRows rows n (cell + 1)) where
+    pub held-pair : IndexedTable seed text n used rows (set (set cells cell v) (cell + 1) w) index
     held-pair = held-beside seed text n used rows (set cells cell v) index (held-beside seed text n used rows cells index h cell v b) (cell + 1) w b′
 
     pub objects-pair : objectsOf text (take used (set (set cells cell v) (cell + 1) w)) (take n rows) ≡ objectsOf text (take used cells) (take n rows)

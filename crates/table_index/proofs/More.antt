@@ -14,7 +14,7 @@ use Rattle.meaning.specs.Reading.{stretch, objectsOf, isUsed}
 use Rattle.table_index.specs.Objects.{Unique}
 use Rattle.table.specs.Rows.{identificationOf, Row}
 use Rattle.table_index.specs.Index.{hashOf, insertOf}
-use Rattle.table_index.specs.Holds.{Known, Held}
+use Rattle.table_index.specs.Holds.{ObjectsKnown, IndexedTable}
 use Rattle.table_index.proofs.Grown.{indexed-more}
 use Rattle.table_index.proofs.Meant.{unused-none}
 use Rattle.table_index.proofs.Kept.{held-behind, held-objects}
@@ -23,9 +23,9 @@ unique-more : (ids : ℕ → List ℕ) (n : ℕ) → Unique ids n → ((o : ℕ)
 unique-more ids n u new = record { apart = λ o p l m. below-more (λ (q : ℕ). o < q → sameIdentification (ids o) (ids q) ≡ false) n (λ q g k. u .apart o q k g) (new o) p m l }
 
 -- among rows that stand already
-pub known-more : (seed : ℕ) (text rows : List ℕ) (cells : List ℤ) (index : List ℕ) (n : ℕ) → Known seed text rows cells index n → n < length rows → Row text cells (getD rows n 0)
+pub known-more : (seed : ℕ) (text rows : List ℕ) (cells : List ℤ) (index : List ℕ) (n : ℕ) → ObjectsKnown seed text rows cells index n → n < length rows → Row text cells (getD rows n 0)
     → isUsed (identificationOf text rows cells n) (objectsOf text cells (take n rows)) ≡ false
-    → Known seed text rows cells (insertOf index (length rows) n (hashOf seed (identificationOf text rows cells n))) (n + 1)
+    → ObjectsKnown seed text rows cells (insertOf index (length rows) n (hashOf seed (identificationOf text rows cells n))) (n + 1)
 known-more seed text rows cells index n k l row unused = record {
   listed = record { in-rows = omega arith; row = below-more (λ (o : ℕ). Row text cells (getD rows o 0)) n (k .listed .row) row };
   unique = unique-more (identificationOf text rows cells) n (k .unique) (unused-none text rows cells (identificationOf text rows cells n) n (k .listed .in-rows) unused);
@@ -34,7 +34,7 @@ known-more seed text rows cells index n k l row unused = record {
 
 -- a row written behind the n rows, and its cells behind the `used` cells
 module _
-    (seed : ℕ) (text : List ℕ) (n used : ℕ) (rows : List ℕ) (cells : List ℤ) (index : List ℕ) (h : Held seed text n used rows cells index)
+    (seed : ℕ) (text : List ℕ) (n used : ℕ) (rows : List ℕ) (cells : List ℤ) (index : List ℕ) (h : IndexedTable seed text n used rows cells index)
     (used′ : ℕ) (rows′ : List ℕ) (cells′ : List ℤ) (t start size : ℕ) (pairs : List ℤ)
     (lr : length rows′ ≡ length rows) (lc : length cells′ ≡ length cells) (room : n < length rows) (room′ : used′ ≤ length cells)
     (er : take (n + 1) rows′ ≡ take n rows ++ (used ∷ []))
@@ -73,7 +73,7 @@ module _
     unfolding identificationOf
     new-named = rw (at-row, at-cell 1 (omega arith), at-cell 2 (omega arith))
 
-    before : Held seed text n used rows′ cells′ index
+    before : IndexedTable seed text n used rows′ cells′ index
     before = held-behind seed text n used rows cells index h rows′ cells′ lr lc rows-first cells-first
 
     module _ (in-text : start + size ≤ length text) where
@@ -89,7 +89,7 @@ module _
       -- the index that `insert` leaves, with the hash of the identification
       pub held-more : isUsed (stretch text start size) (objectsOf text (take used cells) (take n rows)) ≡ false
           → (index′ : List ℕ) (links hash : ℕ) → links ≡ length rows → hash ≡ hashOf seed (stretch text start size) → index′ ≡ insertOf index links n hash
-          → Held seed text (n + 1) used′ rows′ cells′ index′
+          → IndexedTable seed text (n + 1) used′ rows′ cells′ index′
       held-more unused index′ links hash el eh ei = record {
         known = rw (ei, el ∙ sym lr, eh ∙ ap (hashOf seed) (sym new-named)) (known-more seed text rows′ cells′ index n (before .known) (omega arith) (rw at-row new-row) (new-unused unused));
         cells-in = omega arith;

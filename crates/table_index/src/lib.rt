@@ -11,9 +11,9 @@ ghost use lib.ListN.{length, getD, take, replicate};
 ghost use Rattle.meaning.specs.Reading.{stretch, objectsOf, isUsed};
 ghost use Rattle.meaning.specs.Table.{findObject};
 ghost use Rattle.table_index.specs.Objects.{isNamed, lastNamed, inTable};
-ghost use Rattle.table.specs.Rows.{identificationOf, Row, Listed};
+ghost use Rattle.table.specs.Rows.{identificationOf, Row, RowsListed};
 ghost use Rattle.table_index.specs.Index.{mixOf, hashOf, Chained, usableOf, Indexed, chainOf, insertOf};
-ghost use Rattle.table_index.specs.Holds.{foundOf, Known};
+ghost use Rattle.table_index.specs.Holds.{foundOf, ObjectsKnown};
 
 // An object's number, from 0 in file order.
 pub enum Found {
@@ -120,7 +120,7 @@ fn find_chained(
     hash: u64,
     identification: &[u8],
 ) -> usize
-    requires { ⌜ Listed (now text) (now rows) (now cells) objects ⌝ }
+    requires { ⌜ RowsListed (now text) (now rows) (now cells) objects ⌝ }
     requires { ⌜ usableOf (length (now rows)) (length (now index)) ≡ true ⌝ }
     requires { ⌜
         Chained seed (identificationOf (now text) (now rows) (now cells)) (length (now rows)) (now index) objects ⌝ }
@@ -150,7 +150,7 @@ fn find_scanned(
     objects: usize,
     identification: &[u8],
 ) -> usize
-    requires { ⌜ Listed (now text) (now rows) (now cells) objects ⌝ }
+    requires { ⌜ RowsListed (now text) (now rows) (now cells) objects ⌝ }
     ensures { λ r. ⌜ r
         ≡ lastNamed (now (text .entry)) (now (rows .entry)) (now (cells .entry)) (now (identification .entry))
         objects ⌝ }
@@ -177,7 +177,7 @@ fn find_hashed(
     hash: u64,
     identification: &[u8],
 ) -> usize
-    requires { ⌜ Listed (now text) (now rows) (now cells) objects ⌝ }
+    requires { ⌜ RowsListed (now text) (now rows) (now cells) objects ⌝ }
     requires { ⌜ Indexed seed (now text) (now rows) (now cells) (now index) objects ⌝ }
     requires { ⌜ hash ≡ hashOf seed (now identification) ⌝ }
     ensures { λ r. ⌜ r
@@ -211,7 +211,7 @@ pub fn is_used(
     hash: u64,
     identification: &[u8],
 ) -> bool
-    requires { ⌜ Known seed (now text) (now rows) (now cells) (now index) objects ⌝ }
+    requires { ⌜ ObjectsKnown seed (now text) (now rows) (now cells) (now index) objects ⌝ }
     requires { ⌜ hash ≡ hashOf seed (now identification) ⌝ }
     ensures { λ r. ⌜ r
         ≡ isUsed (now (identification .entry))
@@ -261,7 +261,7 @@ pub fn find_reference(
     start: usize,
     size: usize,
 ) -> Found
-    requires { ⌜ Known seed (now text) (now rows) (now cells) (now index) objects ⌝ }
+    requires { ⌜ ObjectsKnown seed (now text) (now rows) (now cells) (now index) objects ⌝ }
     requires { ⌜ start + size ≤ length (now text) ⌝ }
     ensures { λ r. ⌜ foundOf r
         ≡ findObject table 0 (stretch (now (text .entry)) start size)

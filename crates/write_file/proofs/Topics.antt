@@ -22,7 +22,7 @@ use Rattle.model_records.proofs.Types.{payload-part}
 use Rattle.write_lines.specs.declared.Put.{Put}
 use Rattle.write_lines.specs.Puts.{Puts}
 use Rattle.write_file.specs.declared.lines.LineStyle.{LineStyle}
-use Rattle.write_file.specs.declared.walk.Walked.{Walked}
+use Rattle.write_file.specs.declared.walk.RowsWritten.{RowsWritten}
 use Rattle.write_file.specs.Styles.{cutOf}
 use Rattle.write_file.specs.Walks.{linesOfTopic, TopicEnd, TopicTurn}
 use Rattle.write_objects.proofs.Joined.{cut-lines-append}
@@ -108,7 +108,7 @@ module _ (m : Model) (text : List ℕ) (c : Content) (s : LineStyle) (p row : �
   }
 
 -- the lines that are left behind the topic, and behind the last one
-pub topics-on : (m : Model) (text : List ℕ) (c : Content) (s : LineStyle) (p row : ℕ) (put : Put) (e e′ : List ℕ) (w : Walked) (turn : TopicTurn m text c s p row put e e′ w)
+pub topics-on : (m : Model) (text : List ℕ) (c : Content) (s : LineStyle) (p row : ℕ) (put : Put) (e e′ : List ℕ) (w : RowsWritten) (turn : TopicTurn m text c s p row put e e′ w)
     → cutOf s (topicLines m text c p (drop p (m .topics)) (drop row (c .rows)))
     ≡ cutOf s (turn .lines) ++ cutOf s (topicLines m text c (p + 1) (drop (p + 1) (m .topics)) (drop (w .row) (c .rows)))
 topics-on m text c s p row put e e′ w turn =

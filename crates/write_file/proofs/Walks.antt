@@ -19,13 +19,13 @@ use Rattle.meaning.specs.Writing.{objectLines, rowLines, rowsOfTable, rowsBehin
 use Rattle.meaning.specs.Width.{cutLines}
 use Rattle.model_records.specs.declared.places.Shape.{Shape}
 use Rattle.model_records.specs.Records.{nextAt, modelAt, pairsAt}
-use Rattle.model_records.specs.Standing.{AttributesHere}
+use Rattle.model_records.specs.AtRecord.{AttributesHere}
 use Rattle.model_records.specs.Places.{tablePlace, topicOf, TableRecord, Placed}
 use Rattle.model_records.proofs.Types.{payload-part}
 use Rattle.write_lines.specs.declared.Put.{Put}
 use Rattle.write_lines.specs.Puts.{Puts}
 use Rattle.write_file.specs.declared.lines.LineStyle.{LineStyle}
-use Rattle.write_file.specs.declared.walk.Walked.{Walked}
+use Rattle.write_file.specs.declared.walk.RowsWritten.{RowsWritten}
 use Rattle.write_file.specs.Styles.{cutOf}
 use Rattle.write_file.specs.Walks.{linesOfTable, TableEnd, TableTurn}
 use Rattle.write_objects.proofs.Joined.{cut-lines-append}
@@ -162,7 +162,7 @@ module _ (b : List ℕ) (shape : Shape) (places text : List ℕ) (c : Content) (
   }
 
 -- the lines that are left behind the table, and behind the last one
-pub tables-on : (m : Model) (text : List ℕ) (c : Content) (s : LineStyle) (p t row : ℕ) (put : Put) (e e′ : List ℕ) (w : Walked) (turn : TableTurn m text c s p t row put e e′ w)
+pub tables-on : (m : Model) (text : List ℕ) (c : Content) (s : LineStyle) (p t row : ℕ) (put : Put) (e e′ : List ℕ) (w : RowsWritten) (turn : TableTurn m text c s p t row put e e′ w)
     → cutOf s (tableLines m text c p t (drop t (m .tables)) (drop row (c .rows)))
     ≡ cutOf s (turn .lines) ++ cutOf s (tableLines m text c p (t + 1) (drop (t + 1) (m .tables)) (drop (w .row) (c .rows)))
 tables-on m text c s p t row put e e′ w turn =

@@ -13,7 +13,7 @@ use Rattle.meaning.specs.Writing.{rowLines, rowsOfTable, rowsBehindTable, rowsB
 use Rattle.write_lines.specs.declared.Put.{Put}
 use Rattle.write_lines.specs.Puts.{Puts}
 use Rattle.write_file.specs.declared.lines.LineStyle.{LineStyle}
-use Rattle.write_file.specs.declared.walk.Walked.{Walked}
+use Rattle.write_file.specs.declared.walk.RowsWritten.{RowsWritten}
 use Rattle.write_file.specs.Styles.{cutOf}
 
 -- ## Rows
@@ -45,7 +45,7 @@ linesOfTopic m text c p rows =
 
 -- table t is passed: of the lines of topic p's tables, those of this one are put
 pub record TableTurn (m : Model) (text : List ℕ) (c : Content) (s : LineStyle) (p t row : ℕ)
-    (before : Put) (entry exit : List ℕ) (w : Walked) : Type 0 where
+    (before : Put) (entry exit : List ℕ) (w : RowsWritten) : Type 0 where
   pub lines : List (List (List ℕ))
   pub put : Puts (cutOf s lines) before entry exit (w .put)
   pub rest : tableLines m text c p t (drop t (m .tables)) (drop row (c .rows))
@@ -54,7 +54,7 @@ pub record TableTurn (m : Model) (text : List ℕ) (c : Content) (s : LineStyle)
 
 -- topic p is passed: of the lines of the topics, those of this one are put
 pub record TopicTurn (m : Model) (text : List ℕ) (c : Content) (s : LineStyle) (p row : ℕ)
-    (before : Put) (entry exit : List ℕ) (w : Walked) : Type 0 where
+    (before : Put) (entry exit : List ℕ) (w : RowsWritten) : Type 0 where
   pub lines : List (List (List ℕ))
   pub put : Puts (cutOf s lines) before entry exit (w .put)
   pub rest : topicLines m text c p (drop p (m .topics)) (drop row (c .rows))

@@ -8,7 +8,7 @@ ghost use Rattle.meaning.specs.Field.{SCNT, slashes, MTID, MODL};
 ghost use Rattle.meaning.specs.Writing.{topicLines, linesOf};
 ghost use Rattle.meaning.specs.Width.{cutLines};
 ghost use Rattle.model_records.specs.Records.{modelAt};
-ghost use Rattle.model_records.specs.Standing.{Beginning};
+ghost use Rattle.model_records.specs.AtRecord.{Beginning};
 ghost use Rattle.model_records.specs.Places.{Placed};
 ghost use Rattle.write_lines.specs.Puts.{Puts};
 ghost use Rattle.write_file.specs.Styles.{Fit, cutOf};
@@ -17,7 +17,7 @@ ghost use Rattle.table.specs.Contents.{contentIn};
 use crate::lines;
 use crate::lines::LineStyle;
 use crate::walk;
-use crate::walk::Walked;
+use crate::walk::RowsWritten;
 use model_records::numbers::byte_at;
 use model_records::places;
 use model_records::places::Shape;
@@ -123,7 +123,7 @@ fn pass_topic(
     points: &[i64],
     row: usize,
     out: &mut [u8],
-) -> Walked
+) -> RowsWritten
     requires { ⌜ Placed (now model) shape (now places) ⌝ }
     requires { ⌜ Fit (modelAt (now model)) style ⌝ }
     requires { ⌜ (p < shape .topics) × (row ≤ length (now rows)) ⌝ }
@@ -132,7 +132,7 @@ fn pass_topic(
         TopicTurn m (now (text .entry)) c style p row put (now (out .entry)) (now (out .exit)) r) ⌝ }
 {
     if byte_at(marks, p) == 0 {
-        return Walked {
+        return RowsWritten {
             put: put_nothing(put),
             row,
         };
@@ -153,7 +153,7 @@ fn pass_topic(
         out,
     );
     let end = behind_topic(places, shape, rows, cells, p, row);
-    Walked { put: all, row: end }
+    RowsWritten { put: all, row: end }
 }
 
 // The lines of the topics.

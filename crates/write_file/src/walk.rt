@@ -7,7 +7,7 @@ ghost use lib.Dec.{eqb};
 ghost use lib.ListN.{length, take, drop, getD};
 ghost use Rattle.meaning.specs.Writing.{rowLines, tableLines};
 ghost use Rattle.model_records.specs.Records.{modelAt, pairsAt};
-ghost use Rattle.model_records.specs.Standing.{AttributesHere};
+ghost use Rattle.model_records.specs.AtRecord.{AttributesHere};
 ghost use Rattle.model_records.specs.Places.{topicOf, Placed};
 ghost use Rattle.write_lines.specs.Puts.{Puts};
 ghost use Rattle.write_file.specs.Styles.{Fit, cutOf};
@@ -25,7 +25,7 @@ use write_lines::fields::put_nothing;
 use write_objects::objects;
 
 // What was put, and the number of the row that comes next.
-pub(crate) struct Walked {
+pub(crate) struct RowsWritten {
     pub(crate) put: Put,
     pub(crate) row: usize,
 }
@@ -162,7 +162,7 @@ fn pass_table(
     points: &[i64],
     row: usize,
     out: &mut [u8],
-) -> Walked
+) -> RowsWritten
     requires { ⌜ Placed (now model) shape (now places) ⌝ }
     requires { ⌜ Fit (modelAt (now model)) style ⌝ }
     requires { ⌜ (t < shape .tables) × (row ≤ length (now rows)) ⌝ }
@@ -171,7 +171,7 @@ fn pass_table(
         TableTurn m (now (text .entry)) c style p t row put (now (out .entry)) (now (out .exit)) r) ⌝ }
 {
     if !is_due(places, shape, p, t, marks) {
-        return Walked {
+        return RowsWritten {
             put: put_nothing(put),
             row,
         };
@@ -192,7 +192,7 @@ fn pass_table(
         end,
         out,
     );
-    Walked { put: all, row: end }
+    RowsWritten { put: all, row: end }
 }
 
 // The lines of the tables of topic p, from row number `row` on.

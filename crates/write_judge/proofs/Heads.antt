@@ -20,12 +20,12 @@ use Rattle.meaning.specs.Judge.{judgeStretch, lentObjects, rowEnd, judgeRow}
 use Rattle.meaning.proofs.Tests.Refuse.{both, holds}
 use Rattle.meaning.proofs.Reading.Stretches.{stretch-pos}
 use Rattle.model_records.specs.Records.{modelAt, pairsAt}
-use Rattle.model_records.specs.Standing.{AttributesHere}
+use Rattle.model_records.specs.AtRecord.{AttributesHere}
 use Rattle.model_records.specs.Places.{attributesPlace, Placed}
 use Rattle.model_records.specs.declared.places.Shape.{Shape}
-use Rattle.table.specs.Rows.{identificationOf, Row, Listed}
+use Rattle.table.specs.Rows.{identificationOf, Row, RowsListed}
 use Rattle.table_index.specs.Index.{hashOf, insertOf}
-use Rattle.table_index.specs.Holds.{Known}
+use Rattle.table_index.specs.Holds.{ObjectsKnown}
 use Rattle.table_index.proofs.More.{known-more}
 use Rattle.table.specs.Contents.{contentIn}
 use Rattle.write_judge.specs.Rows.{tableTests, nameTests}
@@ -149,7 +149,7 @@ objects-same text cells (row ∷ rows) h =
     let p : T (nonNeg (getD cells (row + 1) (pos 0))) = h 0 (omega arith) in
     rw (name-bytes text (getD cells (row + 1) (pos 0)) (cellAt cells (row + 2)) p, objects-same text cells rows (λ o l. h (suc o) (omega arith)))
 
-lent-same : (text rows : List ℕ) (cells : List ℤ) (n : ℕ) → Listed text rows cells n → lentObjects text cells (take n rows) ≡ objectsOf text cells (take n rows)
+lent-same : (text rows : List ℕ) (cells : List ℤ) (n : ℕ) → RowsListed text rows cells n → lentObjects text cells (take n rows) ≡ objectsOf text cells (take n rows)
 lent-same text rows cells n h = objects-same text cells (take n rows) (λ o l. each o (let z = length-take-le n rows (h .in-rows) in omega arith))
   where
     each : (o : ℕ) → o < n → T (nonNeg (getD cells (getD (take n rows) o 0 + 1) (pos 0)))
@@ -166,8 +166,8 @@ module _ (seed : ℕ) (text rows : List ℕ) (cells : List ℤ) (o : ℕ) (part 
   pub add-unused : u ≡ false → true ≡ not (isUsed (identificationOf text rows cells o) (objectsOf text cells (take o rows)))
   add-unused h = rw (← used-is, h)
 
-  pub add-known : (index : List ℕ) → Known seed text rows cells index o → o < length rows → Row text cells (getD rows o 0) → u ≡ false → (hash : ℕ) → hash ≡ hashOf seed part
-      → (index′ : List ℕ) → index′ ≡ insertOf index (length rows) o hash → Known seed text rows cells index′ (o + 1)
+  pub add-known : (index : List ℕ) → ObjectsKnown seed text rows cells index o → o < length rows → Row text cells (getD rows o 0) → u ≡ false → (hash : ℕ) → hash ≡ hashOf seed part
+      → (index′ : List ℕ) → index′ ≡ insertOf index (length rows) o hash → ObjectsKnown seed text rows cells index′ (o + 1)
   add-known index k l r h hash eh index′ ei = rw (ei, eh, e) (known-more seed text rows cells index o k l r (sym used-is ∙ h))
 
 -- ## The row
@@ -230,7 +230,7 @@ end-told true e size r h n = go (leb e size) refl h
 end-told false e size r h n = absurd (n h)
 
 module _ (b : List ℕ) (shape : Shape) (places marks : List ℕ) (placed : Placed b shape places)
-    (text rows : List ℕ) (cells : List ℤ) (o at least : ℕ) (er : getD rows o 0 ≡ at) (listed : Listed text rows cells o) where
+    (text rows : List ℕ) (cells : List ℤ) (o at least : ℕ) (er : getD rows o 0 ≡ at) (listed : RowsListed text rows cells o) where
   abbrev m : Model
   m = modelAt b
 

@@ -21,11 +21,11 @@ use Rattle.table_index.proofs.Kept.{held-start}
 use Rattle.write_judge.specs.Meant.{fineOf}
 use Rattle.table.specs.Contents.{contentIn}
 use Rattle.write_judge.specs.Rows.{AtRow, rowsFrom, Turned}
-use Rattle.write_judge.specs.declared.pairs.Fine.{Fine}
-use Rattle.write_judge.specs.declared.pairs.Fine.the-variants as fine
+use Rattle.write_judge.specs.declared.pairs.PairsJudged.{PairsJudged}
+use Rattle.write_judge.specs.declared.pairs.PairsJudged.the-variants as fine
 use Rattle.write_judge.specs.declared.rows.Place.{Place}
-use Rattle.write_judge.specs.declared.rows.Judged.{Judged}
-use Rattle.write_judge.specs.declared.rows.Judged.the-variants as judged
+use Rattle.write_judge.specs.declared.rows.RowJudged.{RowJudged}
+use Rattle.write_judge.specs.declared.rows.RowJudged.the-variants as judged
 use Rattle.write_judge.proofs.Heads.{below-is, least-pos}
 
 -- a row that is fine has an end
@@ -126,12 +126,12 @@ module _ (m : Model) (text marks rows : List ℕ) (cells points : List ℤ) wher
 -- ## Pairs
 
 -- what the judge of pairs answered
-module _ (r : Fine) (x : Found) (e : fineOf r ≡ x) where
+module _ (r : PairsJudged) (x : Found) (e : fineOf r ≡ x) where
   pub told-at : (k : ℕ) → r ≡ fine.At k → found k ≡ x
-  told-at k h = sym (ap (λ (q : Fine). fineOf q) h) ∙ e
+  told-at k h = sym (ap (λ (q : PairsJudged). fineOf q) h) ∙ e
 
   pub told-none : r ≡ fine.No → missing ≡ x
-  told-none h = sym (ap (λ (q : Fine). fineOf q) h) ∙ e
+  told-none h = sym (ap (λ (q : PairsJudged). fineOf q) h) ∙ e
 
 -- ## The loop
 
@@ -156,15 +156,15 @@ module _ (m : Model) (seed : ℕ) (text marks rows : List ℕ) (cells points : L
     pub left-end : length rows ≤ o → (eqb (p .at) (length cells) && eqb (4 * p .points) (length points)) ≡ judgeRows m text (contentIn marks rows cells points) 0 0 0 [] rows
     left-end l = sym (rows-end m text marks rows cells points o p l) ∙ i .same
 
-    abbrev Answered : (index′ : List ℕ) → Judged → Type 0
+    abbrev Answered : (index′ : List ℕ) → RowJudged → Type 0
     Answered index′ r = Turned (rowsFrom m text marks rows cells points o p) (rowsFrom m text marks rows cells points (o + 1)) (AtRow seed text rows cells points index′ (o + 1)) r
 
     -- its row is not fine
-    pub left-stop : (index′ : List ℕ) (r : Judged) → Answered index′ r → r ≡ judged.No → false ≡ judgeRows m text (contentIn marks rows cells points) 0 0 0 [] rows
+    pub left-stop : (index′ : List ℕ) (r : RowJudged) → Answered index′ r → r ≡ judged.No → false ≡ judgeRows m text (contentIn marks rows cells points) 0 0 0 [] rows
     left-stop index′ r h e = subst (Answered index′) e h ∙ i .same
 
     -- its row is fine
-    pub left-on : o < length rows → (index′ : List ℕ) (r : Judged) → Answered index′ r → (q : Place) → r ≡ judged.On q → length index′ ≡ length index₀ → RowsLeft m seed text marks rows cells points index₀ index′ q (o + 1)
+    pub left-on : o < length rows → (index′ : List ℕ) (r : RowJudged) → Answered index′ r → (q : Place) → r ≡ judged.On q → length index′ ≡ length index₀ → RowsLeft m seed text marks rows cells points index₀ index′ q (o + 1)
     left-on l index′ r h q e s =
         let t : Answered index′ (judged.On q) = subst (Answered index′) e h in
         record { here = t .1; count = omega arith; size = s; same = t .0 ∙ i .same }

@@ -22,12 +22,12 @@ use Rattle.model_records.specs.declared.Component.{Component}
 use Rattle.model_records.specs.Components.{componentOf, listOf}
 use Rattle.model_records.specs.declared.Attribute.{Attribute}
 use Rattle.model_records.specs.Records.{modelAt, kindAt, nextAt, attributesAt, pairsAt}
-use Rattle.model_records.specs.Standing.{Standing, AttributeHere, AttributesHere}
+use Rattle.model_records.specs.AtRecord.{AtRecord, AttributeHere, AttributesHere}
 use Rattle.model_records.specs.Attributes.{typeOf, Decoded}
 use Rattle.model_records.specs.Counts.{pairCount}
-use Rattle.model_records.proofs.Standing.{attribute-here, no-attribute}
+use Rattle.model_records.proofs.AtRecord.{attribute-here, no-attribute}
 use Rattle.model_records.proofs.Counting.{own-count}
-use Rattle.write_judge.specs.Meant.{Counted}
+use Rattle.write_judge.specs.Meant.{ComponentsOfKind}
 use Rattle.table.specs.Contents.{contentIn}
 use Rattle.write_judge.proofs.Signs.{alone}
 use Rattle.write_judge.proofs.Values.{type-coordinate, type-line}
@@ -175,7 +175,7 @@ coordinate-size o (x ∷ (y ∷ (z ∷ items))) (suc (suc zero)) l e f = refl
 coordinate-size o (x ∷ (y ∷ (z ∷ items))) (suc (suc (suc zero))) l e f = refl
 coordinate-size o (x ∷ (y ∷ (z ∷ items))) (suc (suc (suc (suc n)))) l e f = absurd (omega arith)
 
-module _ (a : Attribute) (h : Counted a) where
+module _ (a : Attribute) (h : ComponentsOfKind a) where
   pub coordinate-counted : 2 ≤ a .kind → a .kind ≤ 3 → (2 ≤ a .components .count) × (a .components .count ≤ 3) × (length (pairsOfType (a .optional) (typeOf a)) ≡ a .components .count)
   coordinate-counted l m = go (eqb (a .kind) 2) refl
     where
@@ -304,7 +304,7 @@ few-components n h = go (eqb n 2) refl (eqb n 3) refl
     go false e true f = (omega (arith, eqb-true n 3 f), omega (arith, eqb-true n 3 f))
     go false e false f = absurd (false≢true (rw (e, f) at h))
 
-pub counted : (b : List ℕ) (at : ℕ) (a : Attribute) → Decoded b at a → Counted a
+pub counted : (b : List ℕ) (at : ℕ) (a : Attribute) → Decoded b at a → ComponentsOfKind a
 counted b at a d = record { least = d .least; most = d .most; room = d .room; two = d .two; three = d .three; line = λ e. few-components (a .components .count) (d .line e) }
 
 module _ (b : List ℕ) (u : ℕ) (text rows : List ℕ) (cells points : List ℤ) (first cell k : ℕ) where
@@ -312,7 +312,7 @@ module _ (b : List ℕ) (u : ℕ) (text rows : List ℕ) (cells points : List �
   pub record PairsLeft (at here before : ℕ) : Type 0 where
     pub topics : ℕ
     pub tables : ℕ
-    pub standing : Standing (modelAt b) b at topics tables
+    pub standing : AtRecord (modelAt b) b at topics tables
     pub inside : here + 2 * length (pairsAt b at) ≤ length cells
     pub drawn : 4 * before ≤ length points
     pub same : (marks : List ℕ) → judgePairs u text (contentIn marks rows cells points) true before (pairsAt b at) (drop here cells)

@@ -14,13 +14,13 @@ use Rattle.meaning.specs.Reading.{Content, move, isForbidden}
 use Rattle.meaning.specs.Judge.{kindCodeOf, areWithin, afterPoint, judgeReference, judgeDate, judgeLeaf}
 use Rattle.read_state.specs.Meaning.{lineStateOf}
 use Rattle.model_records.specs.declared.Attribute.{Attribute}
-use Rattle.write_judge.specs.declared.pairs.Fine.{Fine}
-use Rattle.write_judge.specs.declared.pairs.Fine.the-variants as fine
-use Rattle.write_judge.specs.declared.points.Passed.{Passed}
-use Rattle.write_judge.specs.declared.points.Passed.the-variants as passed
+use Rattle.write_judge.specs.declared.pairs.PairsJudged.{PairsJudged}
+use Rattle.write_judge.specs.declared.pairs.PairsJudged.the-variants as fine
+use Rattle.write_judge.specs.declared.points.PointJudged.{PointJudged}
+use Rattle.write_judge.specs.declared.points.PointJudged.the-variants as passed
 
 -- a point that is fine leads to a line state, from which the line goes on
-abbrev pub passedThen : Passed → (meaning.LineState → Bool) → Bool
+abbrev pub passedThen : PointJudged → (meaning.LineState → Bool) → Bool
 passedThen (passed.To state) next = next (lineStateOf state)
 passedThen passed.No next = false
 
@@ -35,7 +35,7 @@ pointThen forms ks state kind east north height next =
     ∷ []))
 
 -- the pairs are fine, with so many points before what follows; or one is not
-abbrev pub fineOf : Fine → Found
+abbrev pub fineOf : PairsJudged → Found
 fineOf (fine.At k) = found k
 fineOf fine.No = missing
 
@@ -51,7 +51,7 @@ judgeSecond c (Enumeration leaves) b = judgeLeaf leaves b
 judgeSecond c (Line forms ks) b = false
 
 -- an attribute has the components of its type
-pub record Counted (a : Attribute) : Type 0 where
+pub record ComponentsOfKind (a : Attribute) : Type 0 where
   pub least : 1 ≤ a .kind
   pub most : a .kind ≤ 8
   pub room : length (a .components .items) ≡ 3

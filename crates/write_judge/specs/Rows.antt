@@ -12,11 +12,11 @@ use Rattle.meaning.specs.Model.{Model}
 use Rattle.meaning.specs.Reading.{cellAt}
 use Rattle.meaning.specs.Judge.{judgeStretch, judgeRows}
 use Rattle.model_records.specs.declared.places.Shape.{Shape}
-use Rattle.table_index.specs.Holds.{Known}
+use Rattle.table_index.specs.Holds.{ObjectsKnown}
 use Rattle.table.specs.Contents.{contentIn}
 use Rattle.write_judge.specs.declared.rows.Place.{Place}
-use Rattle.write_judge.specs.declared.rows.Judged.{Judged}
-use Rattle.write_judge.specs.declared.rows.Judged.the-variants.{On, No}
+use Rattle.write_judge.specs.declared.rows.RowJudged.{RowJudged}
+use Rattle.write_judge.specs.declared.rows.RowJudged.the-variants.{On, No}
 
 -- the first three rules of a row: its table is no earlier than the one before, is one of the model's, and is delivered
 unfoldable pub tableTests : Shape → (marks : List ℕ) → List ℤ → (least at : ℕ) → Bool
@@ -35,7 +35,7 @@ nameTests text cells u at =
 -- the rows before object o are fine: they can be looked for, and its row may start at this place
 pub record AtRow (seed : ℕ) (text rows : List ℕ) (cells points : List ℤ) (index : List ℕ) (o : ℕ) (p : Place)
     : Type 0 where
-  pub known : Known seed text rows cells index o
+  pub known : ObjectsKnown seed text rows cells index o
   pub cellsFit : p .at ≤ length cells
   pub pointsFit : 4 * p .points ≤ length points
 
@@ -45,6 +45,6 @@ rowsFrom m text marks rows cells points o p =
     judgeRows m text (contentIn marks rows cells points) (p .least) (p .at) (p .points) (take o rows) (drop o rows)
 
 -- a row is fine, and the next one's place says what the row's place said; or it is not fine
-abbrev pub Turned : (whole : Bool) (next : Place → Bool) (Holds : Place → Type 0) → Judged → Type 0
+abbrev pub Turned : (whole : Bool) (next : Place → Bool) (Holds : Place → Type 0) → RowJudged → Type 0
 Turned whole next Holds (On p) = (next p ≡ whole) × Holds p
 Turned whole next Holds No = false ≡ whole

@@ -14,9 +14,9 @@ ghost use Rattle.meaning.specs.Judge.{judgeComponent, judgeLine, fineIf, judgeP
 ghost use Rattle.model_records.specs.Components.{componentOf, componentsOf};
 ghost use Rattle.model_records.specs.Records.{modelAt, pairsAt};
 ghost use Rattle.model_records.specs.Attributes.{typeOf};
-ghost use Rattle.write_judge.specs.Meant.{fineOf, judgeSecond, Counted};
+ghost use Rattle.write_judge.specs.Meant.{fineOf, judgeSecond, ComponentsOfKind};
 ghost use Rattle.table.specs.Contents.{contentIn};
-ghost use Rattle.model_records.specs.Standing.{AttributesHere};
+ghost use Rattle.model_records.specs.AtRecord.{AttributesHere};
 use crate::cells;
 use crate::points;
 use base::bools;
@@ -35,16 +35,20 @@ use model_records::TEXT;
 use model_records::counts;
 
 // The pairs are fine, with so many points before what follows; or one is not.
-pub(crate) enum Fine {
+pub(crate) enum PairsJudged {
     At(usize),
     No,
 }
 
-// Fine where a test holds.
-fn fine_if(test: bool, k: usize) -> Fine
+// PairsJudged where a test holds.
+fn fine_if(test: bool, k: usize) -> PairsJudged
     ensures { λ r. ⌜ fineOf r ≡ fineIf test k ⌝ }
 {
-    if test { Fine::At(k) } else { Fine::No }
+    if test {
+        PairsJudged::At(k)
+    } else {
+        PairsJudged::No
+    }
 }
 
 // "Date: eight digits", and a day that exists.
@@ -256,7 +260,7 @@ fn judge_drawn(
     k: usize,
     a: i64,
     b: i64,
-) -> Fine
+) -> PairsJudged
     requires { ⌜ (2 ≤ components .count) × (components .count ≤ 3) × (length (components .items) ≡ 3) ⌝ }
     requires { ⌜ 4 * k ≤ length (now points) ⌝ }
     ensures { λ r. ⌜ ((marks rows : List ℕ) (cells : List ℤ) →
@@ -264,14 +268,14 @@ fn judge_drawn(
         fineOf r ≡ fineIf (judgeLine t k forms (componentsOf components) a b) (k + (natAbs a - 1))) ⌝ }
 {
     if cells::is_below(a, 2) {
-        return Fine::No;
+        return PairsJudged::No;
     }
     if !cells::is_number(b, k) {
-        return Fine::No;
+        return PairsJudged::No;
     }
     let n = table::cells::size_of(a) - 1;
     if points.len() / 4 - k < n {
-        return Fine::No;
+        return PairsJudged::No;
     }
     fine_if(
         points::judge_points(forms, components, &points[4 * k..], n),
@@ -280,7 +284,7 @@ fn judge_drawn(
 }
 
 // The pair of a line attribute.
-fn judge_line(attribute: Attribute, points: &[i64], k: usize, a: i64, b: i64) -> Fine
+fn judge_line(attribute: Attribute, points: &[i64], k: usize, a: i64, b: i64) -> PairsJudged
     requires { ⌜ (2 ≤ attribute .components .count) × (attribute .components .count ≤ 3)
         × (length (attribute .components .items) ≡ 3) ⌝ }
     requires { ⌜ 4 * k ≤ length (now points) ⌝ }
@@ -306,8 +310,8 @@ fn judge_attribute(
     points: &[i64],
     cell: usize,
     k: usize,
-) -> Fine
-    requires { ⌜ Counted attribute ⌝ }
+) -> PairsJudged
+    requires { ⌜ ComponentsOfKind attribute ⌝ }
     requires { ⌜ cell + 2 * length (pairsOfType (attribute .optional) (typeOf attribute)) ≤ length (now cells) ⌝ }
     requires { ⌜ 4 * k ≤ length (now points) ⌝ }
     ensures { λ r. ⌜ ((marks : List ℕ) → fineOf r ≡ judgePairs undefined (now (text .entry))
@@ -348,14 +352,14 @@ pub(crate) fn judge_pairs(
     points: &[i64],
     cell: usize,
     k: usize,
-) -> Fine
+) -> PairsJudged
     requires { ⌜ AttributesHere (modelAt (now model)) (now model) first ⌝ }
     requires { ⌜ cell + 2 * length (pairsAt (now model) first) ≤ length (now cells) ⌝ }
     requires { ⌜ 4 * k ≤ length (now points) ⌝ }
     ensures judged { λ r. ⌜ ((marks : List ℕ) → fineOf r ≡ judgePairs undefined (now (text .entry))
         (contentIn marks (now (rows .entry)) (now (cells .entry)) (now (points .entry))) true k
         (pairsAt (now (model .entry)) first) (drop cell (now (cells .entry)))) ⌝ }
-    ensures within { λ r. ⌜ ((n : ℕ) → r ≡ Fine.At n → 4 * n ≤ length (now (points .entry))) ⌝ }
+    ensures within { λ r. ⌜ ((n : ℕ) → r ≡ PairsJudged.At n → 4 * n ≤ length (now (points .entry))) ⌝ }
 {
     let mut at = first;
     let mut here = cell;
@@ -372,16 +376,16 @@ pub(crate) fn judge_pairs(
             here,
             before,
         ) {
-            Fine::At(n) => {
+            PairsJudged::At(n) => {
                 before = n;
             }
-            Fine::No => {
-                return Fine::No;
+            PairsJudged::No => {
+                return PairsJudged::No;
             }
         }
         let counts = counts::count_of(attribute.kind);
         here += 2 * counts.pairs;
         at = model_records::next_at(model, at);
     }
-    Fine::At(before)
+    PairsJudged::At(before)
 }

@@ -19,7 +19,7 @@ use read_state::LineState;
 use read_state::Move;
 
 // A point is fine, with the line state behind it; or it is not.
-pub(crate) enum Passed {
+pub(crate) enum PointJudged {
     To(LineState),
     No,
 }
@@ -78,23 +78,23 @@ fn pass_point(
     east: i64,
     north: i64,
     height: i64,
-) -> Passed
+) -> PointJudged
     requires { ⌜ (2 ≤ components .count) × (components .count ≤ 3) × (length (components .items) ≡ 3) ⌝ }
     ensures { λ r. ⌜ ((next : meaning.LineState → Bool) → passedThen r next ≡
         pointThen forms (componentsOf components) (lineStateOf state) kind east north height next) ⌝ }
 {
     let code = code_of(kind);
     if state.forbids(code, forms) {
-        return Passed::No;
+        return PointJudged::No;
     }
     if !are_within(components, east, north, height) {
-        return Passed::No;
+        return PointJudged::No;
     }
     match state.step(code) {
-        Move::Unexpected => Passed::No,
-        Move::UndefinedLine => Passed::No,
-        Move::Ended => Passed::No,
-        Move::Point(_, next) => Passed::To(next),
+        Move::Unexpected => PointJudged::No,
+        Move::UndefinedLine => PointJudged::No,
+        Move::Ended => PointJudged::No,
+        Move::Point(_, next) => PointJudged::To(next),
     }
 }
 
@@ -105,7 +105,7 @@ fn judge_point(
     state: LineState,
     points: &[i64],
     at: usize,
-) -> Passed
+) -> PointJudged
     requires { ⌜ (2 ≤ components .count) × (components .count ≤ 3) × (length (components .items) ≡ 3) ⌝ }
     requires { ⌜ at + 4 ≤ length (now points) ⌝ }
     ensures { λ r. ⌜ ((next : meaning.LineState → Bool) → let p = now (points .entry) in
@@ -133,10 +133,10 @@ pub(crate) fn judge_points(forms: usize, components: Components, points: &[i64],
     let mut i = 0;
     while i < n {
         match judge_point(forms, components, state, points, 4 * i) {
-            Passed::To(next) => {
+            PointJudged::To(next) => {
                 state = next;
             }
-            Passed::No => {
+            PointJudged::No => {
                 return false;
             }
         }

@@ -12,13 +12,13 @@ ghost use Rattle.meaning.specs.Reading.{objectsOf, isUsed};
 ghost use Rattle.meaning.specs.Judge.{rowEnd, judgeRow, judgeRows};
 ghost use Rattle.model_records.specs.Records.{modelAt};
 ghost use Rattle.table.specs.Rows.{identificationOf, Row};
-ghost use Rattle.table_index.specs.Holds.{Known};
+ghost use Rattle.table_index.specs.Holds.{ObjectsKnown};
 ghost use Rattle.write_judge.specs.Marks.{Judging};
 ghost use Rattle.table.specs.Contents.{contentIn};
 ghost use Rattle.write_judge.specs.Rows.{AtRow, tableTests, nameTests, rowsFrom, Turned};
 use crate::cells;
 use crate::pairs;
-use crate::pairs::Fine;
+use crate::pairs::PairsJudged;
 use model_records::counts;
 use model_records::places;
 use model_records::places::Shape;
@@ -31,7 +31,7 @@ pub(crate) struct Place {
 }
 
 // A row is fine, and the next one has its place; or it is not fine.
-pub(crate) enum Judged {
+pub(crate) enum RowJudged {
     On(Place),
     No,
 }
@@ -110,13 +110,13 @@ fn add_name(
     seed: u64,
     object: usize,
 ) -> bool
-    requires { ⌜ Known seed (now text) (now rows) (now cells) (now index) object ⌝ }
+    requires { ⌜ ObjectsKnown seed (now text) (now rows) (now cells) (now index) object ⌝ }
     requires { ⌜ (object < length (now rows)) × Row (now text) (now cells) (getD (now rows) object 0) ⌝ }
     ensures unused { λ r. ⌜ r ≡ not (isUsed
         (identificationOf (now (text .entry)) (now (rows .entry)) (now (cells .entry)) object)
         (objectsOf (now (text .entry)) (now (cells .entry)) (take object (now (rows .entry))))) ⌝ }
     ensures known { λ r. ⌜ (r ≡ true →
-        Known seed (now (text .entry)) (now (rows .entry)) (now (cells .entry)) (now (index .exit)) (object + 1)) ⌝ }
+        ObjectsKnown seed (now (text .entry)) (now (rows .entry)) (now (cells .entry)) (now (index .exit)) (object + 1)) ⌝ }
 {
     let row = rows[object] as usize;
     let start = table::cells::size_at(cells, row + 1);
@@ -154,14 +154,14 @@ fn judge_row(
     place: Place,
 ) -> usize
     requires { ⌜ Judging (now model) shape (now places) (now marks) ⌝ }
-    requires { ⌜ Known seed (now text) (now rows) (now cells) (now index) object ⌝ }
+    requires { ⌜ ObjectsKnown seed (now text) (now rows) (now cells) (now index) object ⌝ }
     requires { ⌜ (object < length (now rows)) × (getD (now rows) object 0 ≡ place .at)
         × (place .at ≤ length (now cells)) ⌝ }
     ensures end { λ r. ⌜ (let m = modelAt (now (model .entry)) in
         r ≡ choose (judgeRow m (now (text .entry)) (contentIn (now (marks .entry)) [] (now (cells .entry)) [])
         (place .least) (place .at) (take object (now (rows .entry)))) (rowEnd m (now (cells .entry)) (place .at)) 0) ⌝ }
     ensures known { λ r. ⌜ (0 < r →
-        Known seed (now (text .entry)) (now (rows .entry)) (now (cells .entry)) (now (index .exit)) (object + 1)) ⌝ }
+        ObjectsKnown seed (now (text .entry)) (now (rows .entry)) (now (cells .entry)) (now (index .exit)) (object + 1)) ⌝ }
 {
     let at = place.at;
     let end = end_of_row(model, places, shape, marks, cells, at, place.least);
@@ -191,7 +191,7 @@ fn judge_object(
     seed: u64,
     object: usize,
     place: Place,
-) -> Judged
+) -> RowJudged
     requires { ⌜ Judging (now model) shape (now places) (now marks) ⌝ }
     requires { ⌜ object < length (now rows) ⌝ }
     requires { ⌜ AtRow seed (now text) (now rows) (now cells) (now points) (now index) object place ⌝ }
@@ -203,7 +203,7 @@ fn judge_object(
 {
     let at = place.at;
     if rows[object] as usize != at {
-        return Judged::No;
+        return RowJudged::No;
     }
     let end = judge_row(
         model,
@@ -219,7 +219,7 @@ fn judge_object(
         place,
     );
     if end == 0 {
-        return Judged::No;
+        return RowJudged::No;
     }
     let table = table::cells::size_at(cells, at);
     match pairs::judge_pairs(
@@ -233,12 +233,12 @@ fn judge_object(
         at + 3,
         place.points,
     ) {
-        Fine::At(k) => Judged::On(Place {
+        PairsJudged::At(k) => RowJudged::On(Place {
             least: table,
             at: end,
             points: k,
         }),
-        Fine::No => Judged::No,
+        PairsJudged::No => RowJudged::No,
     }
 }
 
@@ -282,7 +282,7 @@ pub(crate) fn judge_rows(
             object,
             place,
         );
-        let Judged::On(next) = judged else {
+        let RowJudged::On(next) = judged else {
             return false;
         };
         place = next;

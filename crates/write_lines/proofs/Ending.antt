@@ -10,7 +10,7 @@ use lib.Seq.{sets, sets-eq, take-set-le, take-at}
 use Rattle.meaning.specs.Bytes.{choose, ends, cont}
 use Rattle.meaning.specs.Width.{goesWhole, cutRest, cutLine}
 use Rattle.write_lines.specs.declared.Put.{Put}
-use Rattle.write_lines.specs.Cuts.{withCuts, lastRoom, Counted}
+use Rattle.write_lines.specs.Cuts.{withCuts, lastRoom, CutsCounted}
 use Rattle.write_lines.specs.Puts.{lastIn, Puts}
 use Rattle.write_lines.proofs.Runs.{between, between-same, sets-over, drop-run}
 use Rattle.write_lines.proofs.Puts.{then, last-append}
@@ -93,7 +93,7 @@ module _ (mark width : ℕ) (line : List ℕ) (before put : Put) (e entry : List
   ended-cut exit r h q = rw (goes-cut mark width line h) q
 
   module _ (start count last : ℕ) (r : Put) (at : before .count ≡ start) (some : 1 ≤ length line) (low : put .count < 4294967295)
-      (cuts : Counted width (put .count - start) (eqb (put .last) mark) count last)
+      (cuts : CutsCounted width (put .count - start) (eqb (put .last) mark) count last)
       (counted : r .count ≡ min 4294967295 (put .count + (7 * count + 1))) (end : r .last ≡ 0x0a) where
     behind : put .count ≡ start + length line
     behind = omega (arith, p .count)

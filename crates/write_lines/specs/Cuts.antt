@@ -24,7 +24,7 @@ lastRoom mark room l = choose (ends mark l) 0 room
 
 -- the cuts of a line of so many bytes that does not go out whole, by whether it ends in the mark: their count, and
 -- behind how many bytes the last lies
-pub record Counted (width size : ℕ) (ended : Bool) (count last : ℕ) : Type 0 where
+pub record CutsCounted (width size : ℕ) (ended : Bool) (count last : ℕ) : Type 0 where
   pub cut : (mark : ℕ) (l : List ℕ) → length l ≡ size → ends mark l ≡ ended
       → cutRest mark width (width - 1) l ≡ withCuts mark (width - 6) count last l (0x0a ∷ [])
   pub placed : last ≡ 5 + count * (width - 6)

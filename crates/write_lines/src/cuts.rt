@@ -6,7 +6,7 @@ ghost use lib.ListN.{length, take, drop};
 ghost use lib.Seq.{sets};
 ghost use Rattle.meaning.specs.Bytes.{choose};
 ghost use Rattle.meaning.specs.Width.{cutRest};
-ghost use Rattle.write_lines.specs.Cuts.{cutBytes, withCuts, Counted};
+ghost use Rattle.write_lines.specs.Cuts.{cutBytes, withCuts, CutsCounted};
 ghost use Rattle.write_lines.specs.Puts.{Puts, Ends};
 use super::Put;
 use super::fields::count_on;
@@ -30,7 +30,7 @@ fn last_room(ended: bool, room: usize) -> usize
 // other width - 6 bytes behind the one before it.
 fn count_cuts(size: usize, ended: bool, width: usize) -> Cuts
     requires { ⌜ (16 ≤ width) × (width ≤ 65535) × (size < 4294967295) ⌝ }
-    ensures { λ r. ⌜ Counted width size ended (r .count) (r .last) ⌝ }
+    ensures { λ r. ⌜ CutsCounted width size ended (r .count) (r .last) ⌝ }
 {
     let room = last_room(ended, width - 5);
     let mut count = 1;

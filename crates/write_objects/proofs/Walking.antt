@@ -16,10 +16,10 @@ use Rattle.meaning.specs.Reading.{Content, cellAt, lineAttributes}
 use Rattle.meaning.specs.Writing.{pairFields, attributeLines, spaced, linesBytes}
 use Rattle.meaning.specs.Width.{cutLines}
 use Rattle.model_records.specs.Records.{kindAt, payloadAt, nextAt, pairsAt}
-use Rattle.model_records.specs.Standing.{Standing, AttributeHere, AttributeNext, AttributesHere}
-use Rattle.model_records.proofs.Standing.{here, attribute-here, no-attribute}
+use Rattle.model_records.specs.AtRecord.{AtRecord, AttributeHere, AttributeNext, AttributesHere}
+use Rattle.model_records.proofs.AtRecord.{here, attribute-here, no-attribute}
 use Rattle.model_records.proofs.Types.{parts-room}
-use Rattle.model_records.specs.Counts.{Counted}
+use Rattle.model_records.specs.Counts.{CountsOf}
 use Rattle.model_records.proofs.Counting.{pairs-more, pairs-few}
 use Rattle.write_lines.specs.declared.Put.{Put}
 use Rattle.write_lines.specs.Puts.{Puts}
@@ -95,7 +95,7 @@ pairsHere b at = pairsOfType (attributeOf at (payloadAt b at) .optional) (attrib
 pub record Walking (m : Model) (b : List ℕ) (meant : (cell : ℕ) → List Pair → List ℕ) (most : ℕ) (whole : List ℕ) (p₀ : Put) (out₀ : List ℕ) (at cell : ℕ) (p : Put) (out : List ℕ) : Type 0 where
   pub topics : ℕ
   pub tables : ℕ
-  pub standing : Standing m b at topics tables
+  pub standing : AtRecord m b at topics tables
   pub few : cell ≤ most + at
   pub left : Left whole p₀ out₀ (meant cell (pairsAt b at)) p out
 
@@ -135,7 +135,7 @@ module _ {m : Model} {b : List ℕ} {meant : (cell : ℕ) → List Pair → List
     unfolding pairsOf
     split = ap pairsOf (attribute .attributes)
 
-    module _ (f k : ℕ) (c : Counted (byteAt b (at + 5)) f k) where
+    module _ (f k : ℕ) (c : CountsOf (byteAt b (at + 5)) f k) where
       pub walk-count : k ≤ 3
       walk-count = omega (arith, c .pairs, pairs-few (byteAt b (at + 5)))
 

@@ -13,7 +13,7 @@ ghost use Rattle.meaning.specs.Writing.{attributeLines, objectLines, spaced, li
 ghost use Rattle.meaning.specs.Width.{cutLine, cutLines};
 ghost use Rattle.model_records.specs.Components.{componentsOf};
 ghost use Rattle.model_records.specs.Records.{modelAt, payloadAt, pairsAt};
-ghost use Rattle.model_records.specs.Standing.{AttributeHere, AttributesHere};
+ghost use Rattle.model_records.specs.AtRecord.{AttributeHere, AttributesHere};
 ghost use Rattle.write_lines.specs.Puts.{Puts};
 ghost use Rattle.write_objects.specs.Given.{GoodComponents};
 ghost use Rattle.table.specs.Contents.{unmarkedIn};

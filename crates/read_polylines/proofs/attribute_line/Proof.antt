@@ -4,7 +4,7 @@ use Prim.Native.Nat.{_+_}
 use mathlib.Core.Path.{sym, _∙_}
 use Rattle.meaning.specs.Field.{fieldsOf}
 use Rattle.base.proofs.Fill.{to-end}
-use Rattle.model_records.proofs.Standing.{attribute-here}
+use Rattle.model_records.proofs.AtRecord.{attribute-here}
 use Rattle.read_polylines.proofs.Ways.{code-meant, due-line}
 use Rattle.read_polylines.proofs.attribute_line.Statement.{statement}
 use Rattle.read_polylines.proofs.attribute_line.Tie as tie

@@ -6,7 +6,7 @@ use mathlib.Core.Path.{refl, sym, _∙_}
 use lib.ListN.{length}
 use Rattle.meaning.specs.Reading.{dueLines}
 use Rattle.model_records.specs.Records.{modelAt}
-use Rattle.model_records.proofs.Standing.{here}
+use Rattle.model_records.proofs.AtRecord.{here}
 use Rattle.model_records.proofs.Counting.{pairs-room}
 use Rattle.read_state.specs.Meaning.{dueOf}
 use Rattle.read_polylines.proofs.Next.{Reached, reached-start, passed-size, passed, line-holds, none-reached, due-unstarted}

@@ -7,7 +7,7 @@ use lib.ListN.{drop, length-drop}
 use borrow.Author.Needs.{needs}
 use Rattle.meaning.specs.Model.{flagOf}
 use Rattle.base.proofs.Fill.{to-end}
-use Rattle.model_records.specs.ComponentsAre.{Held}
+use Rattle.model_records.specs.ComponentsAre.{ComponentsAre}
 use Rattle.model_check.proofs.Types.{size-coordinate, decoded-coordinate}
 use Rattle.model_check.proofs.attributes.read_coordinate.Statement.{statement}
 use Rattle.model_check.proofs.attributes.read_coordinate.Tie as tie
@@ -38,8 +38,8 @@ unfolding flagOf
 returns c = let s = c .before .before .before .before .before in
     let p = s .args .p .now in
     let h = c .before .before .read-components .ensures in
-    let g : Held (drop 2 p) (s .args .n) (c .before .before .read-components .result) = subst (λ (q : List ℕ). Held q (s .args .n) (c .before .before .read-components .result)) (to-end p 2) h in
-    let f = subst (λ (n : ℕ). Held (drop 2 p) n (c .before .before .read-components .result)) (sym (s .pre .1 .1 .0)) g in
+    let g : ComponentsAre (drop 2 p) (s .args .n) (c .before .before .read-components .result) = subst (λ (q : List ℕ). ComponentsAre q (s .args .n) (c .before .before .read-components .result)) (to-end p 2) h in
+    let f = subst (λ (n : ℕ). ComponentsAre (drop 2 p) n (c .before .before .read-components .result)) (sym (s .pre .1 .1 .0)) g in
     record { optional = refl; kind = refl; type = decoded-coordinate _ (drop 2 p) _ _ (s .pre .1 .1 .1 .0) (s .pre .1 .1 .1 .1) f; count = omega (arith, h .count); room = h .room }
 
 pub read-coordinate-spec : {M : Type 1} → statement M

@@ -9,7 +9,7 @@ use borrow.Author.Needs.{needs}
 use Rattle.meaning.specs.Model.{flagOf}
 use Rattle.meaning.specs.Bytes.{byteAt}
 use Rattle.base.proofs.Fill.{to-end}
-use Rattle.model_records.specs.ComponentsAre.{Held}
+use Rattle.model_records.specs.ComponentsAre.{ComponentsAre}
 use Rattle.model_check.proofs.Types.{size-line, dimension-bounds, decoded-line}
 use Rattle.model_check.proofs.attributes.read_line.Statement.{statement}
 use Rattle.model_check.proofs.attributes.read_line.Tie as tie
@@ -64,7 +64,7 @@ returns c = let s = c .before .before .before .before .before .before .before .b
     let h = c .before .before .before .read-components .ensures in
     let n = c .before .before .before .before .before .count-components .result in
     let e = c .before .before .before .before .before .count-components .ensures in
-    let f = subst (λ (n : ℕ). Held (drop 4 p) n r) e (subst (λ (q : List ℕ). Held q n r) (to-end p 4) h) in
+    let f = subst (λ (n : ℕ). ComponentsAre (drop 4 p) n r) e (subst (λ (q : List ℕ). ComponentsAre q n r) (to-end p 4) h) in
     let b = dimension-bounds (eqb (byteAt p 3) 3) in
     let k = s .pre .1 in
     record { optional = refl; kind = refl; type = rw k (decoded-line p _ r f); count = omega (arith, h .count, e, b .1); room = h .room }

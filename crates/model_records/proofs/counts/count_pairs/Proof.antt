@@ -4,8 +4,8 @@ use native.Mathlib.Omega.{arith}
 use mathlib.Core.Path.{_≡_, sym, _∙_}
 use lib.ListN.{length, getD}
 use Rattle.model_records.specs.Records.{modelAt, pairsAt}
-use Rattle.model_records.specs.Standing.{AttributesHere}
-use Rattle.model_records.proofs.Standing.{here}
+use Rattle.model_records.specs.AtRecord.{AttributesHere}
+use Rattle.model_records.proofs.AtRecord.{here}
 use Rattle.model_records.proofs.Counting.{pairs-none, pairs-room, pairs-next, pairs-turn, pairs-few}
 use borrow.Author.Needs.{needs}
 use Rattle.model_records.proofs.counts.count_pairs.Statement.{statement}

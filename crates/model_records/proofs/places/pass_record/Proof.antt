@@ -1,7 +1,7 @@
 -- `model_records::pass_record` meets its contract. Assumes nothing.
 use mathlib.Core.Path.{sym, _∙_}
 use native.Mathlib.Omega.{arith}
-use Rattle.model_records.proofs.Standing.{here}
+use Rattle.model_records.proofs.AtRecord.{here}
 use Rattle.model_records.proofs.Noting.{pass-topic, pass-table, pass-attribute}
 use Rattle.model_records.proofs.places.pass_record.Statement.{statement}
 use Rattle.model_records.proofs.places.pass_record.Tie as tie

@@ -3,7 +3,7 @@ use Rattle.read_frame.proofs.TopicLines.{transfer-named, transfer-motr,
 use Rattle.read_frame.proofs.Moves.{named-holds, nothing-read}
 use Rattle.read_frame.specs.Moves.{MovedHolds}
 use Rattle.model_records.proofs.Types.{payload-part}
-use Rattle.model_records.proofs.Standing.{beginning}
+use Rattle.model_records.proofs.AtRecord.{beginning}
 use Rattle.model_records.specs.Records.{modelAt}
 use Rattle.read_state.specs.declared.Moved.the-variants.{No}
 use Rattle.read_state.specs.declared.Moved.{Moved}

@@ -5,7 +5,7 @@ use mathlib.Core.Path.{_≡_, refl, sym, _∙_}
 use lib.ListN.{length}
 use Rattle.meaning.specs.Row.{hasMandatory}
 use Rattle.model_records.specs.Records.{modelAt, pairsAt}
-use Rattle.model_records.specs.Standing.{AttributesHere}
+use Rattle.model_records.specs.AtRecord.{AttributesHere}
 use Rattle.read_objects.proofs.Records.{counted, record-here, good-here, next-from, mandatory-turn, mandatory-found, mandatory-end}
 use Rattle.read_objects.proofs.rows.has_mandatory.Statement.{statement}
 use Rattle.read_objects.proofs.rows.has_mandatory.Tie as tie

@@ -9,7 +9,7 @@ use Rattle.meaning.specs.Field.{fieldsOf}
 use Rattle.meaning.specs.Row.{pairCells}
 use Rattle.model_records.specs.Records.{modelAt, pairsAt}
 use Rattle.read_fields.specs.Filled.{Steps, Fills, goingOver}
-use Rattle.model_records.specs.Standing.{AttributesHere}
+use Rattle.model_records.specs.AtRecord.{AttributesHere}
 use Rattle.read_objects.specs.Fields.{recordPairs}
 use Rattle.read_fields.proofs.Steps.{wider}
 use Rattle.read_fields.proofs.Steps as steps

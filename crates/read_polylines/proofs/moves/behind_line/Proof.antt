@@ -2,7 +2,7 @@
 use borrow.Author.Needs.{needs}
 use native.Mathlib.Omega.{arith}
 use mathlib.Core.Path.{refl}
-use Rattle.model_records.proofs.Standing.{here}
+use Rattle.model_records.proofs.AtRecord.{here}
 use Rattle.read_polylines.proofs.Ways.{next-here, next-fits}
 use Rattle.read_polylines.proofs.moves.behind_line.Statement.{statement}
 use Rattle.read_polylines.proofs.moves.behind_line.Tie as tie

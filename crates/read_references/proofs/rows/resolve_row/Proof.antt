@@ -5,7 +5,7 @@ use native.Mathlib.Omega.{arith}
 use mathlib.Core.Path.{refl, sym, _∙_}
 use lib.ListN.{length}
 use Rattle.model_records.specs.Records.{modelAt}
-use Rattle.model_records.proofs.Standing.{here}
+use Rattle.model_records.proofs.AtRecord.{here}
 use Rattle.read_references.proofs.Resolving.{told-all, told-unresolved, AttributesLeft, attributes-start, attributes-end, attribute-good, type-room, attribute-pair, attribute-room, attributes-on, attributes-stop}
 use Rattle.read_references.proofs.rows.resolve_row.Statement.{statement}
 use Rattle.read_references.proofs.rows.resolve_row.Tie as tie

@@ -3,7 +3,7 @@ use denote.Ref.{now}
 use mathlib.Core.Path.{ap}
 use Rattle.meaning.specs.Width.{cutLines}
 use Rattle.model_records.specs.Records.{modelAt}
-use Rattle.model_records.proofs.Standing.{beginning}
+use Rattle.model_records.proofs.AtRecord.{beginning}
 use Rattle.table.specs.Contents.{contentIn}
 use Rattle.write_lines.proofs.Puts.{renamed}
 use Rattle.write_file.proofs.Frames.{lines-then}

@@ -4,7 +4,7 @@ use Prim.Native.Nat.{ℕ, _-_}
 use native.Mathlib.Omega.{arith}
 use mathlib.Core.Path.{_≡_, sym, _∙_}
 use lib.ListN.{length}
-use Rattle.model_records.proofs.Standing.{here}
+use Rattle.model_records.proofs.AtRecord.{here}
 use Rattle.write_judge.proofs.Walk.{PairsLeft, pairs-start, pairs-end, good-here, counted, own-inside, count-inside, pairs-stop, pairs-on}
 use Rattle.write_judge.proofs.pairs.judge_pairs.Statement.{statement}
 use Rattle.write_judge.proofs.pairs.judge_pairs.Tie as tie

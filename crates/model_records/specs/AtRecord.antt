@@ -1,4 +1,4 @@
--- Standing at a record of a good model: what is known there, so that a reader never argues about bytes.
+-- AtRecord at a record of a good model: what is known there, so that a reader never argues about bytes.
 use Prim.Native.Nat.{ℕ, _+_, _-_, _≤_, _<_}
 use mathlib.Core.Path.{_≡_}
 use mathlib.Core.Bool.{true}
@@ -10,7 +10,7 @@ use Rattle.meaning.specs.Check.{Seen, Checked, good, isType, isName, checkRecor
 use Rattle.model_records.specs.Records.{recordsAt, kindAt, payloadAt, nextAt, attributesAt}
 
 -- at the byte `at` of the bytes b of the good model m a record begins, behind k topics and t tables
-pub record Standing (m : Model) (b : List ℕ) (at k t : ℕ) : Type 0 where
+pub record AtRecord (m : Model) (b : List ℕ) (at k t : ℕ) : Type 0 where
   pub topics : topicsOf (recordsAt b at) ≡ drop k (m .topics)
   pub tables : tablesOf k (recordsAt b at) ≡ drop t (m .tables)
   -- the check has come so far, and finds the rest good; the end record is not behind
@@ -28,7 +28,7 @@ pub record Standing (m : Model) (b : List ℕ) (at k t : ℕ) : Type 0 where
   pub counted : k + t ≤ at
 
 -- a record lies in the model
-pub record Here (b : List ℕ) (at : ℕ) : Type 0 where
+pub record RecordFits (b : List ℕ) (at : ℕ) : Type 0 where
   pub room : at + 4 ≤ length b
   pub fits : nextAt b at ≤ length b
   pub least : 3 ≤ kindAt b at
@@ -45,7 +45,7 @@ pub record TopicHere (m : Model) (b : List ℕ) (at k t : ℕ) : Type 0 where
   pub inside : k < length (m .topics)
   pub topic : getD (m .topics) k [] ≡ payloadAt b at
   pub name : isName 24 (payloadAt b at) ≡ true
-  pub next : Standing m b (nextAt b at) (k + 1) t
+  pub next : AtRecord m b (nextAt b at) (k + 1) t
 
 -- a table record: table t, of the topic before topic k
 pub record TableHere (m : Model) (b : List ℕ) (at k t : ℕ) : Type 0 where
@@ -59,19 +59,19 @@ pub record TableHere (m : Model) (b : List ℕ) (at k t : ℕ) : Type 0 where
   }
   pub flag : at + 5 ≤ nextAt b at
   pub name : isName 24 (drop 1 (payloadAt b at)) ≡ true
-  pub next : Standing m b (nextAt b at) k (t + 1)
+  pub next : AtRecord m b (nextAt b at) k (t + 1)
 
 -- an attribute record of the table before table t
 pub record AttributeNext (m : Model) (b : List ℕ) (at k t : ℕ) : Type 0 where
   pub attributes : attributesAt b at ≡ attributeOf at (payloadAt b at) ∷ attributesAt b (nextAt b at)
   pub good : AttributeHere b at
-  pub next : Standing m b (nextAt b at) k t
+  pub next : AtRecord m b (nextAt b at) k t
 
 -- attribute records of the good model m stand from this byte on, or none
 pub record AttributesHere (m : Model) (b : List ℕ) (at : ℕ) : Type 0 where
   pub topics : ℕ
   pub tables : ℕ
-  pub standing : Standing m b at topics tables
+  pub standing : AtRecord m b at topics tables
 
 -- the end record
 pub record EndHere (m : Model) (k t : ℕ) : Type 0 where
@@ -87,4 +87,4 @@ pub record Beginning (m : Model) (b : List ℕ) : Type 0 where
   pub mark : byteAt b 6 ≡ m .mark
   pub transfer : drop 3 (payloadAt b 0) ≡ m .transfer
   pub name : payloadAt b (nextAt b 0) ≡ m .name
-  pub topics : Standing m b (nextAt b (nextAt b 0)) 0 0
+  pub topics : AtRecord m b (nextAt b (nextAt b 0)) 0 0

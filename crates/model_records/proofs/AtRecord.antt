@@ -1,4 +1,4 @@
--- Standing at a record of a good model: where it begins, what stands there, and where it goes on.
+-- AtRecord at a record of a good model: where it begins, what stands there, and where it goes on.
 -- Assumes nothing.
 use Prim.Native.Nat.{ℕ, zero, suc, _+_, _-_, _≤_, _<_}
 use native.Mathlib.Omega.{arith}
@@ -15,7 +15,7 @@ use Rattle.meaning.specs.Model.{Records, finish, overrun, entry, Table, Model, 
 use Rattle.meaning.specs.Check.{good, special, isFlag, keepsTransfer, keepsTopic, keepsTable, keepsAttribute, keeps, see, nothingSeen, checkRecords, checkModel}
 use Rattle.meaning.proofs.Unfolding.Cuts.{both}
 use Rattle.model_records.specs.Records.{recordsAt, kindAt, payloadAt, nextAt, attributesAt, modelAt}
-use Rattle.model_records.specs.Standing.{Standing, Here, TopicHere, TableHere, AttributeNext, EndHere, Beginning}
+use Rattle.model_records.specs.AtRecord.{AtRecord, RecordFits, TopicHere, TableHere, AttributeNext, EndHere, Beginning}
 use Rattle.model_records.proofs.Types.{payload-room}
 use Rattle.meaning.proofs.Tests.Refuse.{holds}
 use Rattle.model_records.proofs.Checked.{begun, Turn, turn, behind-nothing, behind-transfer, in-order, at-end}
@@ -59,14 +59,14 @@ above (entry at kind p others) k n l =
 
 -- ## One record of the topics
 
-module _ (m : Model) (b : List ℕ) (at k t : ℕ) (s : Standing m b at k t) where
+module _ (m : Model) (b : List ℕ) (at k t : ℕ) (s : AtRecord m b at k t) where
   one : Turn m b at (s .before) (s .seen) (s .rest)
   one = turn m b at (s .before) (s .seen) (s .rest) (s .beforeEnd) (s .checked)
 
   ordered : (3 ≤ kindAt b at) × (kindAt b at ≤ 6) × (s .before ≡ 2 → kindAt b at ≡ 3)
   ordered = in-order (s .before) (kindAt b at) (s .behindSecond) (s .beforeEnd) (one .follows)
 
-  pub here : Here b at
+  pub here : RecordFits b at
   here = record { room = omega (arith, one .fits); fits = one .fits; least = ordered .0; most = ordered .1 }
 
   -- a record of no other kind is the end record
@@ -292,7 +292,7 @@ module _ (m : Model) (b : List ℕ) (ok : checkModel b ≡ good m) where
         };
       }
 
-  pub start : Standing m b (nextAt b (nextAt b 0)) 0 0
+  pub start : AtRecord m b (nextAt b (nextAt b 0)) 0 0
   start = beginning .topics
 
 -- the model that the check finds good is the one that the bytes say
