@@ -1,5 +1,5 @@
 -- A line of cells, cell by cell. Assumes nothing.
-use Prim.Native.Nat.{ℕ, _+_, _-_, _≤_, _<_}
+use Prim.Native.Nat.{ℕ, _+_, _-_, _≤_, _<_, min}
 use native.Mathlib.Numerals.{add-one}
 use native.Mathlib.Omega.{arith}
 use mathlib.Core.Path.{_≡_, refl, sym, ap, _∙_}
@@ -80,31 +80,34 @@ module _ (cs : List ℤ) (from to : ℕ) where
   all-behind : (k : ℕ) → length cs ≤ from + k → take k (drop from cs) ≡ drop from cs
   all-behind k h = take-all k (drop from cs) (omega (arith, length-drop from cs))
 
-  pub within : (start end : ℕ) → end ≡ choose (ltb to (length cs)) to (length cs) → start ≡ choose (ltb from end) from end → take (end - start) (drop start cs) ≡ take (to - from) (drop from cs)
-  unfolding choose
+  pub within : (start end : ℕ) → end ≡ min to (length cs) → start ≡ min from end → take (end - start) (drop start cs) ≡ take (to - from) (drop from cs)
   within start end e s = by (ltb to (length cs)) refl (ltb from end) refl
     where
       nothing : (k : ℕ) → length cs ≤ from → take k (drop from cs) ≡ []
       nothing k h = rw (drop-of-length-le cs h, take-nil k)
 
       by : (x : Bool) → ltb to (length cs) ≡ x → (y : Bool) → ltb from end ≡ y → take (end - start) (drop start cs) ≡ take (to - from) (drop from cs)
-      by true ex true ey = let p : end ≡ to = e ∙ rw ex in let q : start ≡ from = s ∙ rw ey in rw (q, p)
+      by true ex true ey =
+          let p : end ≡ to = omega (arith, ltb-true to (length cs) ex) in
+          let q : start ≡ from = omega (arith, ltb-true from end ey) in
+          rw (q, p)
       by true ex false ey =
-          let p : end ≡ to = e ∙ rw ex in
-          let q : start ≡ end = s ∙ rw ey in
+          let p : end ≡ to = omega (arith, ltb-true to (length cs) ex) in
           let h : end ≤ from = ltb-false from end ey in
+          let q : start ≡ end = omega arith in
           let z : end - start ≡ 0 = omega arith in
           let y : to - from ≡ 0 = omega arith in
           rw (z, y)
       by false ex true ey =
-          let p : end ≡ length cs = e ∙ rw ex in
-          let q : start ≡ from = s ∙ rw ey in
           let h : length cs ≤ to = ltb-false to (length cs) ex in
+          let p : end ≡ length cs = omega arith in
           let l : from < end = ltb-true from end ey in
+          let q : start ≡ from = omega arith in
           rw q (all-behind (end - from) (omega arith) ∙ sym (all-behind (to - from) (omega arith)))
       by false ex false ey =
-          let p : end ≡ length cs = e ∙ rw ex in
-          let q : start ≡ end = s ∙ rw ey in
+          let l : length cs ≤ to = ltb-false to (length cs) ex in
+          let p : end ≡ length cs = omega arith in
           let h : end ≤ from = ltb-false from end ey in
+          let q : start ≡ end = omega arith in
           let z : end - start ≡ 0 = omega arith in
           rw z (sym (nothing (to - from) (omega arith)))

@@ -1,13 +1,11 @@
 -- Whether each of some components is good, one after the other. Assumes nothing.
-use Prim.Native.Nat.{ℕ, zero, suc, _+_, _*_, _≤_, _<_}
-use native.Mathlib.Omega.{arith}
-use mathlib.Core.Path.{_≡_, refl, sym, ap, _∙_}
-use mathlib.Core.List.{List, [], _∷_}
-use mathlib.Core.Bool.{Bool, true, _&&_, and-assoc, and-true}
+use Prim.Native.Nat.{ℕ, _+_, _≤_, _<_}
+use mathlib.Core.Path.{_≡_, sym, _∙_}
+use mathlib.Core.List.{List}
+use mathlib.Core.Bool.{Bool, _&&_, and-assoc, and-true}
 use native.Mathlib.Numerals.{add-one}
-use lib.IntN.{pos}
-use lib.ListN.{length, take, drop, getD, set, length-set, drop-of-length-le}
-use lib.Seq.{drop-drop, drop-cons}
+use lib.ListN.{length, drop, getD, drop-of-length-le}
+use lib.Seq.{drop-cons}
 use Rattle.meaning.specs.Model as meaning
 use Rattle.meaning.specs.Check as meaning-check
 use Rattle.model_records.specs.Components.{componentOf, listOf}

@@ -1,14 +1,13 @@
 -- The end of the walk: the end record was the last, and the references are judged. Assumes nothing.
 use Prim.Native.Nat.{ℕ, _≤_, _<_}
-use mathlib.Core.Path.{_≡_, refl, sym, ap, _∙_}
-use mathlib.Core.Bool.{Bool, true, false, not}
+use mathlib.Core.Path.{_≡_, sym, ap, _∙_}
+use mathlib.Core.Bool.{not}
 use mathlib.Core.List.{List}
-use lib.Dec.{eqb, ltb}
 use lib.ListN.{length, take}
 use borrow.Author.Tests.{ne-eqb, eq-eqb, lt-ltb, le-ltb}
 use Rattle.meaning.specs.Bytes.{refuse}
 use Rattle.meaning.specs.Answer as meaning
-use Rattle.meaning.specs.Model.{Records, Model, Table, topicsOf, tablesOf, modelOf}
+use Rattle.meaning.specs.Model.{Table, topicsOf, tablesOf, modelOf}
 use Rattle.meaning.specs.Check as check
 use Rattle.meaning.proofs.Model.Models.{model-lists}
 use Rattle.model_check.specs.Records.{recordsAt}

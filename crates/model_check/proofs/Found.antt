@@ -17,11 +17,6 @@ found-good b topics h = go (checkModel b) refl
     go (good m) e = e ∙ ap good (sym (begun m b e .model))
     go (bad at) e = let g : accepted topics 0 0 ≡ refusal 2 at 0 = rw e at h in let z : _≡_ {A = ℕ} 0 1 = cc in absurd (omega arith)
 
--- the count of topics that the answer says is the model's
-pub found-topics : (b : List ℕ) (topics : ℕ) → accepted topics 0 0 ≡ check b → topics ≡ length (modelAt b .topics)
-unfolding check checkAnswer
-found-topics b topics h = let g : accepted topics 0 0 ≡ accepted (length (modelAt b .topics)) 0 0 = rw (found-good b topics h) at h in cc
-
 pub found-bad : (b : List ℕ) (at : ℕ) → refusal 2 at 0 ≡ check b → checkModel b ≡ bad at
 unfolding check checkAnswer
 found-bad b at h = go (checkModel b) refl

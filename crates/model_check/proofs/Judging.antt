@@ -10,7 +10,7 @@ use lib.Seq.{length-take-le, getD-take, getD-drop}
 use borrow.Author.Tests.{lt-ltb, le-ltb, ne-eqb, eqb-true, ltb-true, ltb-false}
 use Rattle.meaning.proofs.Model.Records.{entry-at, overrun-at, finish-at}
 use Rattle.meaning.specs.Bytes.{choose, refuse, byteAt, u16At}
-use Rattle.meaning.specs.Model.{Records, finish, overrun, entry, AttributeType, Table, tableAt, noTable, found, missing, targetOf, typeOf, attributeOf, attributesOf, tablesOf}
+use Rattle.meaning.specs.Model.{Records, finish, overrun, entry, AttributeType, Table, tableAt, found, missing, targetOf, typeOf, attributeOf, attributesOf, tablesOf}
 use Rattle.meaning.specs.Check.{Checked, bad, isOutside, judgeAttributes, judgeReferences}
 use Rattle.model_check.specs.References.{topicNumbers, judgedFrom, judges, judgedOn, judged}
 use Rattle.model_check.specs.Records.{recordsAt, payloadAt, nextAt}

@@ -1,11 +1,11 @@
 -- Payloads as parts of the model, and names as parts of payloads. Assumes nothing.
 use Prim.Native.Nat.{ℕ, zero, suc, _+_, _*_, _-_, _/_, _%_, _≤_, _<_}
 use native.Mathlib.Omega.{arith}
-use mathlib.Core.Path.{_≡_, refl, sym, ap, ap₂, _∙_}
+use mathlib.Core.Path.{_≡_, sym}
 use mathlib.Core.List.{List, [], _∷_}
-use lib.ListN.{length, take, drop, length-take, length-drop, drop-of-length-le}
-use lib.Seq.{take-nil, drop-nil, drop-drop, length-take-le, getD-take, getD-drop}
-use Rattle.meaning.specs.Bytes.{byteAt, u16At}
+use lib.ListN.{length, take, drop, length-take, drop-of-length-le}
+use lib.Seq.{take-nil, drop-nil, drop-drop}
+use Rattle.meaning.specs.Bytes.{u16At}
 use Rattle.model_check.specs.Names.{nameOf}
 use Rattle.model_check.specs.Records.{payloadAt, nextAt}
 

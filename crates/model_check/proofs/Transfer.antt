@@ -1,10 +1,10 @@
 -- Rules of records that are too short for their fixed part. Assumes nothing.
 use Prim.Native.Nat.{ℕ, _+_, _≤_, _<_}
 use native.Mathlib.Omega.{arith}
-use mathlib.Core.Path.{_≡_, refl, sym, ap, _∙_}
+use mathlib.Core.Path.{_≡_, refl}
 use mathlib.Core.Bool.{Bool, true, false, _&&_, and-true, and-assoc}
 use mathlib.Core.List.{List, [], _∷_}
-use lib.ListN.{length, drop, getD, List·getD-eq-default, drop-of-length-le}
+use lib.ListN.{length, drop, List·getD-eq-default, drop-of-length-le}
 use Rattle.meaning.specs.Bytes.{allOf, letter, byteAt}
 use Rattle.meaning.specs.Check.{isName, keepsTransfer, keepsAttribute, Seen}
 use Rattle.meaning.specs.Model.{parametersSize, attributeOf}

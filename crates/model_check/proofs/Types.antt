@@ -18,7 +18,7 @@ use Rattle.model_records.specs.Components.{componentOf, componentsOf, listOf}
 use Rattle.model_records.specs.declared.Component.{Component}
 use Rattle.model_records.specs.declared.Components.{Components}
 use Rattle.model_records.specs.ComponentsAre.{ComponentsAre}
-use Rattle.model_check.specs.Attributes.{typeMeant, firstOf, Sized, PlainNumber}
+use Rattle.model_check.specs.Attributes.{typeMeant, firstOf}
 
 -- ## Sizes
 

@@ -1,23 +1,23 @@
 -- The walk over a model's records: what holds at each, and how it is carried over one. Assumes nothing.
-use Prim.Native.Nat.{ℕ, zero, suc, _+_, _-_, _≤_, _<_}
+use Prim.Native.Nat.{ℕ, _+_, _-_, _≤_, _<_}
 use native.Mathlib.Omega.{arith}
 use native.Mathlib.Numerals.{add-one}
 use mathlib.Core.Path.{_≡_, refl, sym, ap, _∙_, subst}
-use mathlib.Core.Bool.{Bool, true, false, not, _&&_}
+use mathlib.Core.Bool.{Bool, true, false, _&&_}
 use mathlib.Core.List.{List, [], _∷_, _++_, append-assoc, append-nil}
-use lib.Dec.{leb, ltb, eqb}
-use lib.ListN.{length, take, drop, getD, set, replicate, length-set}
+use lib.Dec.{leb, eqb}
+use lib.ListN.{length, take, drop, set, replicate, length-set}
 use lib.Seq.{take-suc-set, take-set-le, length-take-le}
 use borrow.Author.Tests.{le-leb, lt-leb, leb-true, leb-false, ltb-true, eqb-true}
-use Rattle.meaning.specs.Bytes.{choose, refuse, allOf, u16At}
-use Rattle.meaning.specs.Model.{Records, finish, overrun, entry, attributeOf, topicsOf, tablesOf}
+use Rattle.meaning.specs.Bytes.{choose, refuse, u16At}
+use Rattle.meaning.specs.Model.{Records, entry, attributeOf, topicsOf, tablesOf}
 use Rattle.meaning.specs.Check as check
 use Rattle.meaning.proofs.Model.Marks.{holds}
 use Rattle.meaning.proofs.Model.Records.{entry-at, overrun-at, finish-at}
 use Rattle.model_check.specs.Names.{nameOf, namesOf}
 use Rattle.model_check.specs.Records.{recordsAt, payloadAt, nextAt, nameStart}
 use Rattle.model_check.specs.References.{topicNumbers}
-use Rattle.model_check.specs.Walk.{seenOf, passesAt, advancedOn, advanced, Walked}
+use Rattle.model_check.specs.Walk.{seenOf, passesAt, advancedOn, Walked}
 use Rattle.model_check.specs.declared.check.Walker.{Walker}
 use Rattle.model_check.proofs.Ranges.{both}
 use Rattle.model_check.proofs.Words.{names-kept, names-more, names-length}

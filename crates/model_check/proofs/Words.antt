@@ -1,13 +1,13 @@
 -- Names kept as numbers: the part of the model that one means, and a turn of the search through several.
 -- Assumes nothing.
-use Prim.Native.Nat.{ℕ, zero, suc, _+_, _-_, _/_, _%_, _≤_, _<_, min}
+use Prim.Native.Nat.{ℕ, suc, _+_, _-_, _/_, _%_, _≤_, _<_, min}
 use native.Mathlib.Omega.{arith}
-use mathlib.Core.Path.{_≡_, refl, sym, ap, _∙_}
+use mathlib.Core.Path.{_≡_, refl, ap, _∙_}
 use mathlib.Core.Bool.{Bool, true, false, _||_}
 use mathlib.Core.List.{List, [], _∷_, _++_}
-use lib.ListN.{length, take, drop, getD, set, length-take, length-drop, drop-of-length-le}
+use lib.ListN.{length, take, drop, getD, set, length-drop, drop-of-length-le}
 use lib.Dec.{leb}
-use lib.Seq.{take-nil, take-all, getD-take, length-take-le, take-suc-set, take-set-le}
+use lib.Seq.{take-nil, take-all, take-suc-set, take-set-le}
 use borrow.Author.Tests.{leb-true, leb-false}
 use native.Mathlib.Numerals.{add-one}
 use Rattle.meaning.specs.Bytes.{same}

@@ -1,10 +1,9 @@
 // The check of a compiled model.
 ghost use mathlib.Core.Path.{_≡_};
 ghost use Prim.Native.Nat.{_≤_};
-ghost use lib.Dec.{eqb};
 ghost use lib.ListN.{length, take};
 ghost use Rattle.meaning.specs.Answer as meaning;
-ghost use Rattle.meaning.specs.Check.{keeps, keepsTopic, keepsTable, checkRecords, nothingSeen};
+ghost use Rattle.meaning.specs.Check.{keeps, keepsTopic, keepsTable};
 ghost use Rattle.model_check.specs.Names.{namesOf};
 ghost use Rattle.model_check.specs.Records.{nextAt};
 ghost use Rattle.model_check.specs.Walk.{seenOf, passesAt, advanced, topicsSeen, tablesSeen, Walked};

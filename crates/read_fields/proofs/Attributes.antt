@@ -1,10 +1,9 @@
 -- An attribute's pairs by its type, and a step over all of them. Assumes nothing.
-use Prim.Native.Nat.{ℕ, zero, suc, _+_, _*_, _-_, _≤_, _<_}
+use Prim.Native.Nat.{ℕ, _+_, _-_, _≤_}
 use native.Mathlib.Omega.{arith}
-use mathlib.Core.Path.{_≡_, refl, sym, ap, _∙_, subst}
-use mathlib.Core.Bool.{Bool, true, false, not}
+use mathlib.Core.Path.{_≡_, refl, _∙_}
+use mathlib.Core.Bool.{Bool, true, false}
 use mathlib.Core.List.{List, [], _∷_, _++_}
-use mathlib.Core.Logic.{_⊎_, inl, inr}
 use borrow.Author.Tests.{eq-eqb, ne-eqb, eqb-false}
 use lib.Dec.{eqb}
 use lib.IntN.{ℤ, pos}
@@ -12,20 +11,20 @@ use lib.ListN.{length, take, drop, getD, length-drop}
 use lib.Seq.{sets}
 use Rattle.meaning.specs.Bytes.{choose}
 use Rattle.meaning.specs.Model as meaning
-use Rattle.meaning.specs.Model.{AttributeType, Reference, Coordinate, Number, Text, Date, Enumeration, Line}
-use Rattle.meaning.specs.Field.{Field}
-use Rattle.meaning.specs.Row.{Pair, OfAttribute, OfLine, Cells, refused, componentPairs, pairsOfType, pairCells}
+use Rattle.meaning.specs.Model.{Reference, Coordinate, Number, Text, Date, Enumeration, Line}
+use Rattle.meaning.specs.Row.{Pair, OfAttribute, OfLine, Cells, refused, componentPairs, pairsOfType}
 use Rattle.model_records.specs.declared.Component.{Component}
-use Rattle.model_records.specs.Components.{componentOf, componentsOf, listOf}
+use Rattle.model_records.specs.Components.{listOf}
 use Rattle.model_records.specs.declared.Attribute.{Attribute}
 use Rattle.model_records.specs.Attributes.{typeOf, firstOf}
-use Rattle.read_fields.specs.Filled.{prefixed, typeAsked, ownAsked, ownPairs, passed, left, going, goingOver, covering, due, Ready, Steps, Fills}
+use Rattle.read_fields.specs.Filled.{prefixed, typeAsked, ownAsked, ownPairs, passed, left, going, goingOver, covering, due, Steps, Fills}
 use Rattle.read_fields.specs.declared.filling.RowCursor.{RowCursor}
 use Rattle.read_fields.specs.declared.filling.Filled.{Filled}
 use Rattle.read_fields.specs.declared.filling.Filled.the-variants.{On, Rest, No}
 use Rattle.read_fields.proofs.Pairs.{own, of-line}
 use Rattle.read_fields.proofs.Steps.{both, wider, renamed, before, refuses}
-use Rattle.read_fields.proofs.Coordinates.{listed-next, length-listed, covered-over}
+use Rattle.read_fields.proofs.Coordinates.{length-listed, covered-over}
+use Rattle.model_records.proofs.ComponentLaws.{listed-next}
 
 -- ## Steps by their answer
 
@@ -94,21 +93,6 @@ line-filled u start rest o forms cs s entry exit w p e = record {
 }
 
 -- ## By the number of a type
-
-pub coordinate-type : (a : Attribute) → 2 ≤ a .kind → a .kind ≤ 3 → typeOf a ≡ Coordinate (componentsOf (a .components))
-unfolding typeOf choose
-coordinate-type a h g = go (eqb (a .kind) 2) refl
-  where
-    go : (two : Bool) → eqb (a .kind) 2 ≡ two → typeOf a ≡ Coordinate (componentsOf (a .components))
-    go true e = rw (ne-eqb (a .kind) 1 (λ x. omega arith), e)
-    go false e =
-        let n : a .kind ≡ 2 → ⊥ = eqb-false (a .kind) 2 e in
-        rw (ne-eqb (a .kind) 1 (λ x. omega arith), e, eq-eqb (a .kind) 3 (omega arith))
-
-pub line-type : (a : Attribute) → (a .kind ≡ 0) ⊎ (8 ≤ a .kind) → typeOf a ≡ Line (a .number) (componentsOf (a .components))
-unfolding typeOf choose
-line-type a (inl z) = rw (ne-eqb (a .kind) 1 (λ x. omega arith), ne-eqb (a .kind) 2 (λ x. omega arith), ne-eqb (a .kind) 3 (λ x. omega arith), ne-eqb (a .kind) 4 (λ x. omega arith), ne-eqb (a .kind) 5 (λ x. omega arith), ne-eqb (a .kind) 6 (λ x. omega arith), ne-eqb (a .kind) 7 (λ x. omega arith))
-line-type a (inr z) = rw (ne-eqb (a .kind) 1 (λ x. omega arith), ne-eqb (a .kind) 2 (λ x. omega arith), ne-eqb (a .kind) 3 (λ x. omega arith), ne-eqb (a .kind) 4 (λ x. omega arith), ne-eqb (a .kind) 5 (λ x. omega arith), ne-eqb (a .kind) 6 (λ x. omega arith), ne-eqb (a .kind) 7 (λ x. omega arith))
 
 -- the types between: each has one field
 own-by : (o : Bool) (n : ℕ) (c : meaning.Component) (cs : List meaning.Component) (one four five six seven : Bool) → (one ≡ false → four ≡ false → five ≡ false → six ≡ false → seven ≡ true)

@@ -1,42 +1,25 @@
 -- A coordinate's components, one after the other. Assumes nothing.
-use Prim.Native.Nat.{ℕ, zero, suc, _+_, _*_, _-_, _≤_, _<_}
+use Prim.Native.Nat.{ℕ, zero, suc, _+_, _-_, _≤_, _<_}
 use native.Mathlib.Nat.{add-assoc, suc-add}
-use native.Mathlib.Numerals.{add-one}
 use native.Mathlib.Omega.{arith}
-use mathlib.Core.Path.{_≡_, refl, sym, ap, _∙_, subst}
-use mathlib.Core.Bool.{Bool, true, false, not}
+use mathlib.Core.Path.{_≡_, refl, ap, _∙_}
 use mathlib.Core.List.{List, [], _∷_, _++_}
-use lib.IntN.{ℤ, pos}
-use lib.ListN.{length, take, drop, getD, length-drop, length-append}
-use Rattle.meaning.specs.Bytes.{choose, refuse}
+use lib.IntN.{ℤ}
+use lib.ListN.{length, take, drop, getD, length-drop}
+use Rattle.meaning.specs.Bytes.{choose}
 use Rattle.meaning.specs.Model as meaning
 use Rattle.meaning.specs.Field.{Field}
-use Rattle.meaning.specs.Row.{Pair, OfComponent, Cells, refused, componentPairs, hasMandatory, pairCells}
+use Rattle.meaning.specs.Row.{Pair, Cells, refused, componentPairs, hasMandatory}
 use Rattle.model_records.specs.declared.Component.{Component}
-use Rattle.model_records.specs.Components.{componentOf, listOf}
-use Rattle.read_fields.specs.Filled.{prefixed, coveredCells, covered, typeAsked, furtherAsked, left, going, goingOver, covering, due, Steps, Fills}
+use Rattle.model_records.specs.Components.{listOf}
+use Rattle.read_fields.specs.Filled.{prefixed, covered, typeAsked, furtherAsked, left, going, goingOver, covering, due, Steps, Fills}
 use Rattle.read_fields.specs.declared.filling.RowCursor.{RowCursor}
-use Rattle.read_fields.specs.declared.filling.Filled.{Filled}
 use Rattle.read_fields.specs.declared.filling.Filled.the-variants.{On, Rest, No}
 use Rattle.read_fields.proofs.Pairs.{further}
-use Rattle.read_fields.proofs.Steps.{both, wider, renamed, before, refuses}
+use Rattle.read_fields.proofs.Steps.{both, renamed, before, refuses}
+use Rattle.model_records.proofs.ComponentLaws.{listed-next, listed-end}
 
 -- ## The list of components
-
-pub listed-next : (l : List Component) (i n : ℕ) (d : Component) → i < n → n ≤ length l → drop i (listOf (take n l)) ≡ componentOf (getD l i d) ∷ drop (i + 1) (listOf (take n l))
-unfolding listOf
-listed-next l i zero d h g = absurd (omega arith)
-listed-next [] i (suc n) d h g = absurd (omega arith)
-listed-next (c ∷ l) zero (suc n) d h g = refl
-listed-next (c ∷ l) (suc i) (suc n) d h g = listed-next l i n d (omega arith) (omega arith) ∙ rw (suc-add i 1)
-
-pub listed-end : (l : List Component) (i n : ℕ) → n ≤ i → drop i (listOf (take n l)) ≡ []
-unfolding listOf
-listed-end l zero zero h = refl
-listed-end l (suc i) zero h = refl
-listed-end l zero (suc n) h = absurd (omega arith)
-listed-end [] (suc i) (suc n) h = refl
-listed-end (c ∷ l) (suc i) (suc n) h = listed-end l i n (omega arith)
 
 pub length-listed : (l : List Component) (n : ℕ) → n ≤ length l → length (listOf (take n l)) ≡ n
 unfolding listOf

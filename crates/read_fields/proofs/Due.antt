@@ -1,23 +1,22 @@
 -- A field that is due, as the next field of the rest of a line: what each of its cases means for the row. Assumes nothing.
-use Prim.Native.Nat.{ℕ, zero, suc, _+_, _-_, _≤_, _<_, _^_}
-use native.Mathlib.Nat.{add-assoc}
+use Prim.Native.Nat.{ℕ, _+_, _-_, _≤_, _<_, _^_}
 use native.Mathlib.Omega.{arith}
-use mathlib.Core.Path.{_≡_, refl, sym, ap, _∙_, subst}
+use mathlib.Core.Path.{_≡_, refl, sym, _∙_, subst}
 use mathlib.Core.Bool.{Bool, true, false}
-use mathlib.Core.List.{List, [], _∷_, _++_}
+use mathlib.Core.List.{List, [], _∷_}
 use lib.IntN.{ℤ, pos}
 use lib.ListN.{length, take, drop, length-drop}
 use lib.Seq.{sets, drop-drop}
-use Rattle.meaning.specs.Field.{Field, fieldsOf}
-use Rattle.meaning.specs.Value.{Value, pair, wrong, valueOf, isUndefined, isUndefinedTwice}
-use Rattle.meaning.specs.Row.{Pair, Cells, refused, pairCells}
+use Rattle.meaning.specs.Field.{fieldsOf}
+use Rattle.meaning.specs.Value.{pair, valueOf, isUndefined, isUndefinedTwice}
+use Rattle.meaning.specs.Row.{Pair, refused}
 use Rattle.model_records.specs.Components.{componentOf}
 use Rattle.base.specs.Fields.{FirstField}
 use Rattle.base.proofs.Fill.{to-end}
 use Rattle.value_read.specs.Meant.{fieldOf}
 use Rattle.read_fields.specs.Taken.{FieldTaken, TwiceTaken, Takes}
 use Rattle.read_fields.specs.declared.taking.Taken.{Taken}
-use Rattle.read_fields.specs.Filled.{prefixed, covered, dueCells, typeAsked, left, moved, filled, going, covering, due, Ready, Steps, PutsPair, Puts, Fills}
+use Rattle.read_fields.specs.Filled.{typeAsked, left, moved, filled, due, Ready, Puts, Fills}
 use Rattle.read_fields.specs.declared.filling.RowCursor.{RowCursor}
 use Rattle.read_fields.specs.declared.filling.FieldRule.{FieldRule}
 use Rattle.read_fields.specs.declared.filling.Filled.{Filled}

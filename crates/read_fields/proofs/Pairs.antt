@@ -1,8 +1,6 @@
 -- What a row's pairs mean, field by field. Assumes nothing.
-use Prim.Native.Nat.{ℕ, zero, suc, _+_, _≤_, _<_}
-use native.Mathlib.Nat.{add-assoc}
+use Prim.Native.Nat.{ℕ, _+_}
 use native.Mathlib.Numerals.{one-add}
-use native.Mathlib.Omega.{arith}
 use mathlib.Core.Path.{_≡_, refl, sym, ap, _∙_}
 use mathlib.Core.Bool.{Bool, true, false, not, _&&_, _||_}
 use mathlib.Core.List.{List, [], _∷_, _++_, append-assoc}
@@ -11,8 +9,8 @@ use lib.ListN.{length}
 use Rattle.meaning.specs.Bytes.{choose, refuse}
 use Rattle.meaning.specs.Model.{Component, AttributeType, Number}
 use Rattle.meaning.specs.Field.{Field}
-use Rattle.meaning.specs.Value.{Value, pair, wrong, valueOf, isUndefined, isUndefinedTwice}
-use Rattle.meaning.specs.Row.{Pair, OfAttribute, OfComponent, OfLine, Cells, cells, refused, putPair, definedOr, undefinedPair, undefinedCells, undefinedRest, hasMandatory, pairCells}
+use Rattle.meaning.specs.Value.{pair, wrong, valueOf, isUndefined, isUndefinedTwice}
+use Rattle.meaning.specs.Row.{Pair, OfAttribute, OfComponent, OfLine, Cells, cells, refused, putPair, definedOr, undefinedCells, undefinedRest, pairCells}
 use Rattle.read_fields.specs.Filled.{zeros, prefixed, coveredCells, covered, dueCells}
 
 -- ## Cells before others

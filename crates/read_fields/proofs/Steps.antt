@@ -1,13 +1,11 @@
 -- A row filled step by step: steps in a row are one step. Assumes nothing.
-use Prim.Native.Nat.{ℕ, zero, suc, _+_, _≤_, _<_}
-use native.Mathlib.Nat.{add-assoc, add-zero}
+use Prim.Native.Nat.{ℕ, _+_, _≤_}
+use native.Mathlib.Nat.{add-assoc}
 use native.Mathlib.Omega.{arith}
 use mathlib.Core.Path.{_≡_, refl, sym, ap, _∙_}
-use mathlib.Core.Bool.{Bool, true, false, not}
-use mathlib.Core.List.{List, [], _∷_, _++_}
-use lib.IntN.{ℤ, pos}
+use mathlib.Core.List.{List, [], _++_}
+use lib.IntN.{ℤ}
 use lib.ListN.{length, length-append}
-use lib.Seq.{sets}
 use Rattle.meaning.specs.Row.{Pair, Cells}
 use Rattle.read_fields.specs.Filled.{prefixed, Steps}
 use Rattle.read_fields.specs.declared.filling.RowCursor.{RowCursor}

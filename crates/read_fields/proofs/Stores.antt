@@ -1,12 +1,12 @@
 -- Stores that leave out what has no room: `set` and `sets` change nothing behind a list's end. Assumes nothing.
-use Prim.Native.Nat.{ℕ, zero, suc, _+_, _*_, _-_, _≤_, _<_}
+use Prim.Native.Nat.{ℕ, zero, suc, _+_, _*_, _-_, _≤_}
 use native.Mathlib.Nat.{zero-add, add-zero, add-suc, suc-add}
 use native.Mathlib.Omega.{arith}
 use native.Mathlib.Numerals.{add-one}
 use mathlib.Core.Path.{_≡_, refl, sym, ap, _∙_}
-use mathlib.Core.List.{List, [], _∷_, _++_, append-assoc, append-nil}
+use mathlib.Core.List.{List, [], _∷_, _++_}
 use lib.IntN.{ℤ, pos}
-use lib.ListN.{length, set, take, drop, length-append, length-take, replicate}
+use lib.ListN.{length, set, take, drop, length-take}
 use lib.Seq.{sets, sets-eq, length-sets}
 use Rattle.read_fields.specs.Filled.{zeros}
 

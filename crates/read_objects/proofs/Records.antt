@@ -20,8 +20,10 @@ use Rattle.model_records.specs.AtRecord.{RecordFits, AttributeHere, AttributeNe
 use Rattle.model_records.proofs.AtRecord as standing
 use Rattle.read_fields.specs.Filled.{ComponentsCounted}
 use Rattle.read_objects.specs.Fields.{recordPairs}
-use Rattle.read_fields.proofs.Coordinates.{listed-next, mandatory-components}
-use Rattle.read_fields.proofs.Attributes.{coordinate-type, line-type, own-type}
+use Rattle.read_fields.proofs.Coordinates.{mandatory-components}
+use Rattle.model_records.proofs.ComponentLaws.{listed-next}
+use Rattle.read_fields.proofs.Attributes.{own-type}
+use Rattle.model_records.proofs.Types.{coordinate-type, line-type}
 
 -- ## Mandatory, and how many
 

@@ -21,7 +21,7 @@ use Rattle.read_fields.specs.Taken.{FieldTaken, TwiceTaken}
 use Rattle.read_fields.specs.Filled.{prefixed}
 use Rattle.read_polylines.specs.PointFields.{ValueGot}
 use Rattle.read_fields.proofs.Pairs.{prefixed-none, prefixed-both}
-use Rattle.read_fields.proofs.Coordinates.{listed-next, listed-end}
+use Rattle.model_records.proofs.ComponentLaws.{listed-next, listed-end}
 
 or-true : (x : Bool) → (x || true) ≡ true
 or-true true = refl

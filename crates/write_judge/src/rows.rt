@@ -116,7 +116,8 @@ fn add_name(
         (identificationOf (now (text .entry)) (now (rows .entry)) (now (cells .entry)) object)
         (objectsOf (now (text .entry)) (now (cells .entry)) (take object (now (rows .entry))))) ⌝ }
     ensures known { λ r. ⌜ (r ≡ true →
-        ObjectsKnown seed (now (text .entry)) (now (rows .entry)) (now (cells .entry)) (now (index .exit)) (object + 1)) ⌝ }
+        ObjectsKnown seed (now (text .entry)) (now (rows .entry)) (now (cells .entry)) (now (index .exit))
+        (object + 1)) ⌝ }
 {
     let row = rows[object] as usize;
     let start = table::cells::size_at(cells, row + 1);
@@ -161,7 +162,8 @@ fn judge_row(
         r ≡ choose (judgeRow m (now (text .entry)) (contentIn (now (marks .entry)) [] (now (cells .entry)) [])
         (place .least) (place .at) (take object (now (rows .entry)))) (rowEnd m (now (cells .entry)) (place .at)) 0) ⌝ }
     ensures known { λ r. ⌜ (0 < r →
-        ObjectsKnown seed (now (text .entry)) (now (rows .entry)) (now (cells .entry)) (now (index .exit)) (object + 1)) ⌝ }
+        ObjectsKnown seed (now (text .entry)) (now (rows .entry)) (now (cells .entry)) (now (index .exit))
+        (object + 1)) ⌝ }
 {
     let at = place.at;
     let end = end_of_row(model, places, shape, marks, cells, at, place.least);

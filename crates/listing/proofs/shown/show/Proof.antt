@@ -35,13 +35,13 @@ mul-p : tie.Need-mul-p
 mul-p c = search needs
 
 slice-aggregate-show-table : tie.Need-slice-aggregate-show-table
-slice-aggregate-show-table c = sym (length-take-le _ _ (c .before .before .before .least-of .ensures .1 .1))
+slice-aggregate-show-table c = sym (length-take-le _ _ (omega (arith, c .before .before .before .least-of .ensures)))
 
 slice-aggregate-show-table-2 : tie.Need-slice-aggregate-show-table-2
-slice-aggregate-show-table-2 c = sym (length-take-le _ _ (c .before .before .before .least-of2 .ensures .1 .1))
+slice-aggregate-show-table-2 c = sym (length-take-le _ _ (omega (arith, c .before .before .before .least-of2 .ensures)))
 
 slice-aggregate-show-table-3 : tie.Need-slice-aggregate-show-table-3
-slice-aggregate-show-table-3 c = sym (length-take-le _ _ (omega (arith, c .before .before .before .least-of3 .ensures .1 .1)))
+slice-aggregate-show-table-3 c = sym (length-take-le _ _ (omega (arith, c .before .before .before .least-of3 .ensures)))
 
 show-table-requires : tie.Need-show-table-requires
 show-table-requires c κs = let h = c .before .before .before .before .before .before .before .before .before .before .before .pre in simp length-take (omega arith, omega arith)

@@ -34,7 +34,7 @@ returns : tie.Need-returns
 returns c =
     let a = c .before .before .before .before .before .before .before .before .args in
     let e = c .before .before .put-row .ensures in
-    (e .0, e .1 ∙ ap printRow (within (a .cells .now) (a .from) (a .to) _ _ (c .before .before .before .before .before .before .least-of .ensures .0) (c .before .before .before .before .before .least-of2 .ensures .0)))
+    (e .0, e .1 ∙ ap printRow (within (a .cells .now) (a .from) (a .to) _ _ (c .before .before .before .before .before .before .least-of .ensures) (c .before .before .before .before .before .least-of2 .ensures)))
 
 pub put-part-spec : {M : Type 1} → statement M
 put-part-spec =

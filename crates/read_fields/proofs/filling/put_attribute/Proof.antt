@@ -1,14 +1,15 @@
 -- `read_fields::put_attribute` meets its contract. Assumes nothing.
-use Prim.Native.Nat.{ℕ, _+_, _-_, _≤_, _<_, _^_}
+use Prim.Native.Nat.{_-_, _≤_}
 use native.Mathlib.Omega.{arith}
 use mathlib.Core.Logic.{_⊎_, inl, inr, ⊎-elim}
-use mathlib.Core.Path.{_≡_, refl, sym, ap, _∙_, subst}
-use Rattle.meaning.specs.Row.{Pair, pairsOfType}
-use Rattle.meaning.specs.Model.{AttributeType, Coordinate}
+use mathlib.Core.Path.{_≡_}
+use Rattle.meaning.specs.Row.{pairsOfType}
+use Rattle.meaning.specs.Model.{Coordinate}
 use Rattle.model_records.specs.Components.{componentsOf}
 use Rattle.model_records.specs.Attributes.{typeOf}
-use Rattle.read_fields.specs.Filled.{Ready, Fills, goingOver, ownPairs}
-use Rattle.read_fields.proofs.Attributes.{fills-as, line-filled, coordinate-type, line-type, own-type}
+use Rattle.read_fields.specs.Filled.{goingOver, ownPairs}
+use Rattle.read_fields.proofs.Attributes.{fills-as, line-filled, own-type}
+use Rattle.model_records.proofs.Types.{coordinate-type, line-type}
 use borrow.Author.Needs.{needs}
 use Rattle.read_fields.proofs.filling.put_attribute.Statement.{statement}
 use Rattle.read_fields.proofs.filling.put_attribute.Tie as tie

@@ -1,8 +1,8 @@
 -- `read_fields::put_coordinate` meets its contract. Assumes nothing.
-use Prim.Native.Nat.{ℕ, _+_, _-_, _≤_, _<_, _^_}
+use Prim.Native.Nat.{_-_}
 use native.Mathlib.Omega.{arith}
-use mathlib.Core.Path.{_≡_, refl, sym, ap, _∙_, subst}
-use Rattle.read_fields.specs.Filled.{Ready, Fills, goingOver, ownAsked, due}
+use mathlib.Core.Path.{subst}
+use Rattle.read_fields.specs.Filled.{Fills, due}
 use Rattle.read_fields.proofs.Attributes.{coordinate-on, coordinate-rest, coordinate-no}
 use borrow.Author.Needs.{needs}
 use Rattle.read_fields.proofs.filling.put_coordinate.Statement.{statement}

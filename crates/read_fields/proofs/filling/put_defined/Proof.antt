@@ -1,5 +1,5 @@
 -- `read_fields::put_defined` meets its contract. Assumes nothing.
-use mathlib.Core.Path.{_≡_, refl, sym, ap, _∙_, subst}
+use mathlib.Core.Path.{subst}
 use Rattle.meaning.specs.Value.{Value}
 use Rattle.read_fields.specs.Filled.{Puts}
 use borrow.Author.Needs.{needs}

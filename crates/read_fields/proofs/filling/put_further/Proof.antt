@@ -1,12 +1,10 @@
 -- `read_fields::put_further` meets its contract. Assumes nothing.
-use Prim.Native.Nat.{ℕ, _+_, _*_, _-_, _≤_, _<_, _^_}
+use Prim.Native.Nat.{_*_, _-_, _≤_}
 use borrow.Author.Needs.{needs}
 use native.Mathlib.Omega.{arith}
-use mathlib.Core.Path.{_≡_, refl, sym, ap, _∙_, subst}
-use mathlib.Core.List.{List}
-use lib.ListN.{length, take, drop}
-use Rattle.model_records.specs.Components.{listOf}
-use Rattle.read_fields.specs.Filled.{Ready, Steps, Fills, goingOver, due}
+use mathlib.Core.Path.{_≡_, _∙_, subst}
+use lib.ListN.{length}
+use Rattle.read_fields.specs.Filled.{Steps, Fills, due}
 use Rattle.read_fields.proofs.Steps.{none, wider}
 use Rattle.read_fields.proofs.Steps as steps
 use Rattle.read_fields.proofs.Coordinates.{fromComponent, component-on, component-rest, component-no, components-end}

@@ -1,8 +1,7 @@
 -- `read_fields::put_own` meets its contract. Assumes nothing.
-use Prim.Native.Nat.{ℕ, _+_, _-_, _≤_, _<_, _^_}
+use Prim.Native.Nat.{_-_}
 use native.Mathlib.Omega.{arith}
-use mathlib.Core.Path.{_≡_, refl, sym, ap, _∙_, subst}
-use Rattle.read_fields.specs.Filled.{Ready, Fills, goingOver, ownPairs, ownAsked, due}
+use Rattle.read_fields.specs.Filled.{goingOver, ownPairs, due}
 use Rattle.read_fields.proofs.Attributes.{fills-as, own-due}
 use borrow.Author.Needs.{needs}
 use Rattle.read_fields.proofs.filling.put_own.Statement.{statement}

@@ -1,7 +1,5 @@
 -- `read_fields::read_value` meets its contract. Assumes nothing.
-use native.Mathlib.Omega.{arith}
 use borrow.Author.Tests.{eq-eqb, ne-eqb}
-use mathlib.Core.Path.{_≡_, _∙_, sym}
 use Rattle.meaning.specs.Bytes.{choose}
 use Rattle.meaning.specs.Value.{valueOf}
 use Rattle.read_fields.specs.Filled.{typeAsked}

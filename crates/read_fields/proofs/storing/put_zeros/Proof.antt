@@ -1,11 +1,8 @@
 -- `read_fields::put_zeros` meets its contract. Assumes nothing.
-use Prim.Native.Nat.{ℕ, _≤_, _*_, _+_, _-_}
+use Prim.Native.Nat.{_≤_, _-_}
 use native.Mathlib.Omega.{arith}
-use mathlib.Core.Path.{_≡_, refl, sym, _∙_, ap}
-use mathlib.Core.List.{List}
-use lib.IntN.{ℤ}
-use lib.ListN.{length}
-use lib.Seq.{sets, length-sets}
+use mathlib.Core.Path.{_≡_, refl}
+use lib.Seq.{sets}
 use Rattle.read_fields.specs.Filled.{zeros}
 use Rattle.read_fields.proofs.Stores.{zeros-turn, same-sets}
 use Rattle.read_fields.proofs.storing.put_zeros.Statement.{statement}

@@ -1,8 +1,7 @@
 -- `read_fields::take_field` meets its contract. Assumes nothing.
-use Prim.Native.Nat.{ℕ, _+_, _-_, _≤_, _<_, _^_}
+use Prim.Native.Nat.{_-_}
 use native.Mathlib.Omega.{arith}
-use mathlib.Core.Path.{_≡_, sym, _∙_, subst}
-use mathlib.Core.List.{List}
+use mathlib.Core.Path.{sym, _∙_, subst}
 use Rattle.base.specs.Fields.{NextField}
 use Rattle.read_fields.proofs.Stores.{part-size}
 use borrow.Author.Needs.{needs}
