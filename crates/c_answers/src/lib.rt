@@ -1,8 +1,10 @@
-// The four numbers of an answer in a lent room.
+// Answers as numbers, for C: four in a lent room, and reading's.
 ghost use mathlib.Core.Path.{_≡_};
 ghost use mathlib.Core.List.{_∷_, []};
 ghost use lib.ListN.{length, set, take};
 ghost use Rattle.meaning.specs.Answer.{filled};
+
+pub mod reading;
 
 // A number in its place, where the room has it.
 fn put(room: &mut [u64], i: usize, n: u64)

@@ -9,9 +9,7 @@ ghost use Rattle.meaning.specs.Table as table;
 ghost use Rattle.unfold.specs.Answer.{answerOf, Within};
 ghost use Rattle.meaning.specs.Reading.{roomsOf};
 ghost use Rattle.meaning.specs.Answer.{numbersIn};
-
-mod numbers;
-
+use c_answers::reading;
 use model_check::check::Checked;
 use unfold::Answer;
 
@@ -116,6 +114,6 @@ pub extern "C" fn vendorfinch_read(
         now (answer .exit) ≡ numbersIn (length (now (answer .entry))) (result .answer)) ⌝ }
 {
     let read = read::read(model, file, text, marks, rows, cells, points, index, seed);
-    numbers::store(read, answer);
-    numbers::code_of_read(read)
+    reading::store(read, answer);
+    reading::code_of_read(read)
 }

@@ -10,7 +10,7 @@ use Rattle.meaning.specs.Answer as meaning
 use Rattle.meaning.specs.Model.{Table, topicsOf, tablesOf, modelOf}
 use Rattle.meaning.specs.Check as check
 use Rattle.meaning.proofs.Model.Models.{model-lists}
-use Rattle.model_check.specs.Records.{recordsAt}
+use Rattle.model_records.specs.Records.{recordsAt}
 use Rattle.model_check.specs.References.{topicNumbers, outsideMeant}
 use Rattle.model_check.specs.Walk.{Walked, checkedRecords}
 use Rattle.model_check.specs.declared.check.Walker.{Walker}

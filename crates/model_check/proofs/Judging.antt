@@ -13,7 +13,7 @@ use Rattle.meaning.specs.Bytes.{choose, refuse, byteAt, u16At}
 use Rattle.meaning.specs.Model.{Records, finish, overrun, entry, AttributeType, Table, tableAt, found, missing, targetOf, typeOf, attributeOf, attributesOf, tablesOf}
 use Rattle.meaning.specs.Check.{Checked, bad, isOutside, judgeAttributes, judgeReferences}
 use Rattle.model_check.specs.References.{topicNumbers, judgedFrom, judges, judgedOn, judged}
-use Rattle.model_check.specs.Records.{recordsAt, payloadAt, nextAt}
+use Rattle.model_records.specs.Records.{recordsAt, payloadAt, nextAt}
 use Rattle.model_check.specs.declared.references.Judge.{Judge}
 
 -- ## A table's topic

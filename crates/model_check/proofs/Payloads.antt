@@ -7,7 +7,7 @@ use lib.ListN.{length, take, drop, length-take, drop-of-length-le}
 use lib.Seq.{take-nil, drop-nil, drop-drop}
 use Rattle.meaning.specs.Bytes.{u16At}
 use Rattle.model_check.specs.Names.{nameOf}
-use Rattle.model_check.specs.Records.{payloadAt, nextAt}
+use Rattle.model_records.specs.Records.{payloadAt, nextAt}
 
 -- the part of the model from behind a record's four bytes to the next record is its payload
 pub part-payload : (b : List ℕ) (at end : ℕ) → end ≡ nextAt b at → take (end - (at + 4)) (drop (at + 4) b) ≡ payloadAt b at

@@ -15,7 +15,8 @@ use Rattle.meaning.specs.Check as check
 use Rattle.meaning.proofs.Model.Marks.{holds}
 use Rattle.meaning.proofs.Model.Records.{entry-at, overrun-at, finish-at}
 use Rattle.model_check.specs.Names.{nameOf, namesOf}
-use Rattle.model_check.specs.Records.{recordsAt, payloadAt, nextAt, nameStart}
+use Rattle.model_check.specs.Records.{nameStart}
+use Rattle.model_records.specs.Records.{recordsAt, payloadAt, nextAt}
 use Rattle.model_check.specs.References.{topicNumbers}
 use Rattle.model_check.specs.Walk.{seenOf, passesAt, advancedOn, Walked}
 use Rattle.model_check.specs.declared.check.Walker.{Walker}

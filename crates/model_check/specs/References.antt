@@ -7,7 +7,7 @@ use lib.ListN.{drop}
 use Rattle.meaning.specs.Bytes.{choose, byteAt, u16At}
 use Rattle.meaning.specs.Model.{Records, Table, attributesOf, tablesOf, typeOf, targetOf}
 use Rattle.meaning.specs.Check.{Checked, bad, judgeAttributes, judgeReferences, isOutside}
-use Rattle.model_check.specs.Records.{payloadAt, nextAt}
+use Rattle.model_records.specs.Records.{payloadAt, nextAt}
 use Rattle.model_check.specs.declared.references.Outside.{Outside}
 use Rattle.model_check.specs.declared.references.Outside.the-variants.{At, Nowhere}
 use Rattle.model_check.specs.declared.references.Judge.{Judge}

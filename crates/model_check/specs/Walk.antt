@@ -11,7 +11,7 @@ use Rattle.meaning.specs.Model.{Records, Model, topicsOf, tablesOf, modelOf}
 use Rattle.meaning.specs.Check as check
 use Rattle.meaning.specs.Check.{Seen, follows, keeps}
 use Rattle.model_check.specs.Names.{namesOf}
-use Rattle.model_check.specs.Records.{recordsAt, payloadAt, nextAt}
+use Rattle.model_records.specs.Records.{recordsAt, payloadAt, nextAt}
 use Rattle.model_check.specs.References.{topicNumbers}
 use Rattle.model_check.specs.declared.check.Checked.{Checked}
 use Rattle.model_check.specs.declared.check.Checked.the-variants.{Good, Bad}

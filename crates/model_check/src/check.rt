@@ -5,7 +5,7 @@ ghost use lib.ListN.{length, take};
 ghost use Rattle.meaning.specs.Answer as meaning;
 ghost use Rattle.meaning.specs.Check.{keeps, keepsTopic, keepsTable};
 ghost use Rattle.model_check.specs.Names.{namesOf};
-ghost use Rattle.model_check.specs.Records.{nextAt};
+ghost use Rattle.model_records.specs.Records.{nextAt};
 ghost use Rattle.model_check.specs.Walk.{seenOf, passesAt, advanced, topicsSeen, tablesSeen, Walked};
 ghost use Rattle.model_check.specs.Walk.{checkedRecords, checkedMeant};
 use crate::attributes;

@@ -6,7 +6,7 @@ ghost use lib.ListN.{length, take, drop};
 ghost use Rattle.meaning.specs.Bytes.{byteAt};
 ghost use Rattle.meaning.specs.Model.{Table, found, tablesOf, typeOf, targetOf};
 ghost use Rattle.meaning.specs.Check.{Checked, judgeReferences, isOutside};
-ghost use Rattle.model_check.specs.Records.{recordsAt, nextAt};
+ghost use Rattle.model_records.specs.Records.{recordsAt, nextAt};
 ghost use Rattle.model_check.specs.References.{topicNumbers, outsideMeant, judges, judged};
 use crate::records;
 use model_records::ATTRIBUTE;

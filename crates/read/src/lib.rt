@@ -1,18 +1,14 @@
 // Reading: a file under a model into lent buffers.
 ghost use mathlib.Core.Path.{_≡_};
 ghost use Prim.Native.Nat.{_+_, _≤_, _<_, _^_};
-ghost use lib.Dec.{ltb};
 ghost use lib.ListN.{length, replicate};
-ghost use Rattle.meaning.specs.Bytes.{refuse};
 ghost use Rattle.meaning.specs.Unfold.{unfoldFile};
 ghost use Rattle.meaning.specs.Check.{good, checkModel};
-ghost use Rattle.meaning.specs.Reading.{startOf, Rooms};
-ghost use Rattle.meaning.specs.Lines.{readLines};
+ghost use Rattle.meaning.specs.Reading.{Rooms, roomsOf};
 ghost use Rattle.meaning.specs.Table as table;
 ghost use Rattle.model_records.specs.Records.{modelAt};
 ghost use Rattle.model_records.specs.Places.{Placed};
-ghost use Rattle.read_text.specs.Text.{linesOf};
-ghost use Rattle.meaning.specs.Reading.{roomsOf};
+ghost use Rattle.read.specs.Unfolded.{unfoldedRead};
 ghost use Rattle.read_text.specs.Outcomes.{answerOf, Fits, MarksRead, ReadInto};
 use model_check::check::Checked;
 use model_records::places::Shape;
@@ -34,14 +30,11 @@ fn read_good(
 ) -> Answer
     requires { ⌜ checkModel (now model) ≡ good (modelAt (now model)) ⌝ }
     requires { ⌜ length (now file) ≤ 16777216 ⌝ }
-    ensures read { λ r. ⌜
-        (let m = modelAt (now (model .entry)) in
-        ReadInto (table.readUnfolded m
-        (roomsOf (now (text .entry)) (now (marks .entry)) (now (rows .entry)) (now (cells .entry))
-        (now (points .entry))) (unfoldFile (m .mark) (now (file .entry))))
-        (roomsOf (now (text .entry)) (now (marks .entry)) (now (rows .entry)) (now (cells .entry))
-        (now (points .entry))) (now (text .exit)) (now (marks .exit)) (now (rows .exit)) (now (cells .exit))
-        (now (points .exit)) r) ⌝ }
+    ensures read { λ r. ⌜ (let rooms = roomsOf (now (text .entry)) (now (marks .entry)) (now (rows .entry))
+        (now (cells .entry)) (now (points .entry)) in
+        let m = modelAt (now (model .entry)) in
+        ReadInto (table.readUnfolded m rooms (unfoldFile (m .mark) (now (file .entry)))) rooms
+        (now (text .exit)) (now (marks .exit)) (now (rows .exit)) (now (cells .exit)) (now (points .exit)) r) ⌝ }
     ensures fits { λ r. ⌜ Fits (now (rows .exit)) (now (cells .exit)) (now (points .exit)) r ⌝ }
 {
     let mut places: [usize; 1088] = [0; 1088];
@@ -80,14 +73,10 @@ fn read_unfolded(
 ) -> Answer
     requires { ⌜ Placed (now model) shape (now places) ⌝ }
     requires { ⌜ length (now text) < 2 ^ 62 ⌝ }
-    ensures read { λ r. ⌜
-        (let m = modelAt (now (model .entry)) in (rooms : Rooms) → rooms .marks ≡ length (now (marks .entry))
+    ensures read { λ r. ⌜ ((rooms : Rooms) → rooms .marks ≡ length (now (marks .entry))
         → rooms .rows ≡ length (now (rows .entry)) → rooms .cells ≡ length (now (cells .entry))
-        → rooms .points ≡ length (now (points .entry))
-        → MarksRead
-        (refuse (ltb (rooms .marks) (length (m .topics) + length (m .tables))) (table.refusedWith rooms 6 0 0)
-        (table.readRun m rooms (now (text .entry))
-        (readLines m rooms (now (text .entry)) (startOf m) (linesOf (now (text .entry)))))) rooms (now (text .entry))
+        → rooms .points ≡ length (now (points .entry)) → let t = now (text .entry) in
+        MarksRead (unfoldedRead (modelAt (now (model .entry))) rooms t) rooms t
         (now (marks .exit)) (now (rows .exit)) (now (cells .exit)) (now (points .exit)) r) ⌝ }
     ensures fits { λ r. ⌜ Fits (now (rows .exit)) (now (cells .exit)) (now (points .exit)) r ⌝ }
 {
@@ -122,13 +111,10 @@ fn read_into(
     index: &mut [u64],
     seed: u64,
 ) -> Answer
-    ensures read { λ r. ⌜
-        ReadInto (table.read (now (model .entry)) (now (file .entry))
-        (roomsOf (now (text .entry)) (now (marks .entry)) (now (rows .entry)) (now (cells .entry))
-        (now (points .entry))))
-        (roomsOf (now (text .entry)) (now (marks .entry)) (now (rows .entry)) (now (cells .entry))
-        (now (points .entry))) (now (text .exit)) (now (marks .exit)) (now (rows .exit)) (now (cells .exit))
-        (now (points .exit)) r ⌝ }
+    ensures read { λ r. ⌜ (let rooms = roomsOf (now (text .entry)) (now (marks .entry)) (now (rows .entry))
+        (now (cells .entry)) (now (points .entry)) in
+        ReadInto (table.read (now (model .entry)) (now (file .entry)) rooms) rooms
+        (now (text .exit)) (now (marks .exit)) (now (rows .exit)) (now (cells .exit)) (now (points .exit)) r) ⌝ }
     ensures fits { λ r. ⌜ Fits (now (rows .exit)) (now (cells .exit)) (now (points .exit)) r ⌝ }
 {
     if 16777216 < file.len() {

@@ -20,7 +20,7 @@ use Rattle.model_records.specs.Attributes.{typeOf, firstOf}
 use Rattle.read_fields.specs.Filled.{prefixed, typeAsked, ownAsked, ownPairs, passed, left, going, goingOver, covering, due, Steps, Fills}
 use Rattle.read_fields.specs.declared.filling.RowCursor.{RowCursor}
 use Rattle.read_fields.specs.declared.filling.Filled.{Filled}
-use Rattle.read_fields.specs.declared.filling.Filled.the-variants.{On, Rest, No}
+use Rattle.read_fields.specs.declared.filling.Filled.the-variants.{On, RestUndefined, No}
 use Rattle.read_fields.proofs.Pairs.{own, of-line}
 use Rattle.read_fields.proofs.Steps.{both, wider, renamed, before, refuses}
 use Rattle.read_fields.proofs.Coordinates.{length-listed, covered-over}
@@ -31,7 +31,7 @@ use Rattle.model_records.proofs.ComponentLaws.{listed-next}
 module _ (u start : ℕ) (rest : List ℕ) (m : ℕ) (whole : List Pair → Cells) (s : RowCursor) (entry exit : List ℤ) where
   pub fills-as : (whole′ : List Pair → Cells) (n : ℕ) → ((ps : List Pair) → whole′ ps ≡ whole ps) → m ≤ n → (r : Filled) → Fills u start rest m whole s entry exit r → Fills u start rest n whole′ s entry exit r
   fills-as whole′ n e h (On t) f = wider n h (renamed whole′ (going u start rest t) e (λ ps. refl) f)
-  fills-as whole′ n e h (Rest t count) f = (omega (arith, f .0), wider n h (renamed whole′ (covering start rest t count) e (λ ps. refl) (f .1)))
+  fills-as whole′ n e h (RestUndefined t count) f = (omega (arith, f .0), wider n h (renamed whole′ (covering start rest t count) e (λ ps. refl) (f .1)))
   fills-as whole′ n e h (No k g) f = λ ps. e ps ∙ f ps
 
 -- a step, and then another one
@@ -39,7 +39,7 @@ pub then : (u start : ℕ) (rest : List ℕ) {m : ℕ} (n : ℕ) {whole middle :
     → (r : Filled) → Fills u start rest n middle t between exit r → Fills u start rest (m + n) whole s entry exit r
 unfolding prefixed
 then u start rest n exit a (On v) f = both a f
-then u start rest n exit a (Rest v count) f = (omega (arith, f .0, a .used, a .few), both a (f .1))
+then u start rest n exit a (RestUndefined v count) f = (omega (arith, f .0, a .used, a .few), both a (f .1))
 then u start rest n exit a (No k g) f = refuses (refused k g) f (λ vs. refl) a
 
 -- ## A coordinate
@@ -58,8 +58,8 @@ module _ (u start : ℕ) (rest : List ℕ) (o : Bool) (count : ℕ) (items : Lis
         then u start rest 4 exit (renamed (goingOver u start rest (pairsOfType o (Coordinate (listOf (take count items)))) s) (goingOver u start rest (componentPairs (drop 1 (listOf (take count items)))) t)
         first-due (λ ps. refl) (before (λ ps. componentPairs (drop 1 (listOf (take count items))) ++ ps) a)) r b
 
-    pub coordinate-rest : (t : RowCursor) (n : ℕ) → count ≤ 3 → Fills u start rest 2 (due u start rest (ownAsked o 4 0 (getD items 0 d)) s) s entry between (Rest t n)
-        → Fills u start rest 6 (goingOver u start rest (pairsOfType o (Coordinate (listOf (take count items)))) s) s entry between (Rest t (n + (count - 1)))
+    pub coordinate-rest : (t : RowCursor) (n : ℕ) → count ≤ 3 → Fills u start rest 2 (due u start rest (ownAsked o 4 0 (getD items 0 d)) s) s entry between (RestUndefined t n)
+        → Fills u start rest 6 (goingOver u start rest (pairsOfType o (Coordinate (listOf (take count items)))) s) s entry between (RestUndefined t (n + (count - 1)))
     coordinate-rest t n k a =
         let e : length (drop 1 (listOf (take count items))) ≡ count - 1 = length-drop 1 (listOf (take count items)) ∙ rw (length-listed items count g) refl in (
           omega (arith, a .0),

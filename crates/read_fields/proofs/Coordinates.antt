@@ -14,7 +14,7 @@ use Rattle.model_records.specs.declared.Component.{Component}
 use Rattle.model_records.specs.Components.{listOf}
 use Rattle.read_fields.specs.Filled.{prefixed, covered, typeAsked, furtherAsked, left, going, goingOver, covering, due, Steps, Fills}
 use Rattle.read_fields.specs.declared.filling.RowCursor.{RowCursor}
-use Rattle.read_fields.specs.declared.filling.Filled.the-variants.{On, Rest, No}
+use Rattle.read_fields.specs.declared.filling.Filled.the-variants.{On, RestUndefined, No}
 use Rattle.read_fields.proofs.Pairs.{further}
 use Rattle.read_fields.proofs.Steps.{both, renamed, before, refuses}
 use Rattle.model_records.proofs.ComponentLaws.{listed-next, listed-end}
@@ -66,7 +66,7 @@ module _ (u start : ℕ) (rest : List ℕ) (count : ℕ) (items : List Component
         both now (renamed (fromComponent u start rest count items i t) (fromComponent u start rest count items (i + 1) v) (component-due t) (λ ps. refl)
         (before (λ ps. componentPairs (drop (i + 1) (listOf (take count items))) ++ ps) step))
 
-    pub component-rest : (v : RowCursor) (n : ℕ) → Fills u start rest 2 (due u start rest (furtherAsked (t .before) (getD items i d)) t) t cells exit (Rest v n)
+    pub component-rest : (v : RowCursor) (n : ℕ) → Fills u start rest 2 (due u start rest (furtherAsked (t .before) (getD items i d)) t) t cells exit (RestUndefined v n)
         → Steps rest (most + 2) whole (covering start rest v (n + (count - 1 - i))) s v entry exit
     component-rest v n step =
         let e : length (drop (i + 1) (listOf (take count items))) ≡ count - 1 - i = length-drop (i + 1) (listOf (take count items)) ∙ rw (length-listed items count g) (omega arith) in

@@ -20,9 +20,9 @@ use Rattle.read_fields.specs.Filled.{typeAsked, left, moved, filled, due
 use Rattle.read_fields.specs.declared.filling.RowCursor.{RowCursor}
 use Rattle.read_fields.specs.declared.filling.FieldRule.{FieldRule}
 use Rattle.read_fields.specs.declared.filling.Filled.{Filled}
-use Rattle.read_fields.specs.declared.filling.Filled.the-variants.{On, Rest, No}
+use Rattle.read_fields.specs.declared.filling.Filled.the-variants.{On, RestUndefined, No}
 use Rattle.read_fields.proofs.Stores.{part-most}
-use Rattle.read_fields.proofs.Pairs.{prefixed-none, due-missing, due-covered, due-covered-needed, due-undefined, due-undefined-needed, due-barred, due-wrong, due-defined}
+use Rattle.read_fields.proofs.Pairs.{prefixed-none, due-missing, due-covered, due-covered-needed, due-undefined, due-undefined-needed, due-forbidden, due-wrong, due-defined}
 
 -- the fields that are left begin with the field found in the rest
 pub next-left : (start at from len : ℕ) (rest : List ℕ) → FirstField (drop at rest) from len
@@ -66,23 +66,23 @@ found start rest s from len ready f =
 
 module _ (u start : ℕ) (rest : List ℕ) (asked : FieldRule) (s : RowCursor) (ready : Ready start rest 2 s) where
   pub missing : ((n : ℕ) → fieldsOf n (drop (s .at) rest) ≡ []) → (ps : List Pair) → due u start rest asked s ps ≡ refused 11 (s .place)
-  missing e ps = rw (e (start + s .at)) (due-missing u (s .place) _ ps (asked .needed) (asked .barred))
+  missing e ps = rw (e (start + s .at)) (due-missing u (s .place) _ ps (asked .needed) (asked .forbidden))
 
   module _ (from len : ℕ) where
     twice-at : TwiceTaken u (drop (s .at) rest) from len → (n : ℕ) → isUndefinedTwice u (fieldOf n (take len (drop (s .at + from) rest))) ≡ true
     twice-at f n = rw (drop-drop from (s .at) rest) at (f .twice n)
 
     pub twice-needed : asked .needed ≡ true → TwiceTaken u (drop (s .at) rest) from len → (ps : List Pair) → due u start rest asked s ps ≡ refused 12 (s .place)
-    twice-needed e f ps = rw (e, next-left start (s .at) from len rest (f .first)) (due-covered-needed u (s .place) _ ps _ _ (asked .barred) (twice-at f _))
+    twice-needed e f ps = rw (e, next-left start (s .at) from len rest (f .first)) (due-covered-needed u (s .place) _ ps _ _ (asked .forbidden) (twice-at f _))
 
     pub twice-covers : (l : List ℤ) → asked .needed ≡ false → TwiceTaken u (drop (s .at) rest) from len
-        → Fills u start rest 2 (due u start rest asked s) s l l (Rest (moved s (s .at + from + len)) 1)
+        → Fills u start rest 2 (due u start rest asked s) s l l (RestUndefined (moved s (s .at + from + len)) 1)
     twice-covers l e f =
         let w = next-within (s .at) from len rest (ready .within) (f .first) in (
           omega arith,
           record {
             values = [];
-            meant = λ ps. rw (e, next-left start (s .at) from len rest (f .first)) (due-covered u (s .place) _ ps _ _ (asked .barred) (twice-at f _) ∙ sym (prefixed-none _));
+            meant = λ ps. rw (e, next-left start (s .at) from len rest (f .first)) (due-covered u (s .place) _ ps _ _ (asked .forbidden) (twice-at f _) ∙ sym (prefixed-none _));
             used = omega arith;
             stored = refl;
             few = omega arith;
@@ -99,10 +99,10 @@ module _ (u start : ℕ) (rest : List ℕ) (asked : FieldRule) (s : RowCursor) (
       which n = rw (drop-drop from (s .at) rest) at (f .single n)
 
       pub undefined-needed : undefined ≡ true → asked .needed ≡ true → (ps : List Pair) → due u start rest asked s ps ≡ refused 12 (s .place)
-      undefined-needed d e ps = rw (e, next-left start (s .at) from len rest (f .first)) (due-undefined-needed u (s .place) _ ps _ _ (asked .barred) (once _) (which _ ∙ d))
+      undefined-needed d e ps = rw (e, next-left start (s .at) from len rest (f .first)) (due-undefined-needed u (s .place) _ ps _ _ (asked .forbidden) (once _) (which _ ∙ d))
 
-      pub defined-barred : undefined ≡ false → asked .barred ≡ true → (ps : List Pair) → due u start rest asked s ps ≡ refused 12 (s .place)
-      defined-barred d e ps = rw (e, next-left start (s .at) from len rest (f .first)) (due-barred u (s .place) _ ps _ _ (asked .needed) (once _) (which _ ∙ d))
+      pub defined-forbidden : undefined ≡ false → asked .forbidden ≡ true → (ps : List Pair) → due u start rest asked s ps ≡ refused 12 (s .place)
+      defined-forbidden d e ps = rw (e, next-left start (s .at) from len rest (f .first)) (due-forbidden u (s .place) _ ps _ _ (asked .needed) (once _) (which _ ∙ d))
 
       pub undefined-filled : undefined ≡ true → asked .needed ≡ false → (entry exit : List ℤ) → exit ≡ sets entry (s .used) (pos 0 ∷ pos 0 ∷ [])
           → Fills u start rest 2 (due u start rest asked s) s entry exit (On (filled (moved s (s .at + from + len)) false))
@@ -110,7 +110,7 @@ module _ (u start : ℕ) (rest : List ℕ) (asked : FieldRule) (s : RowCursor) (
           let w = next-within (s .at) from len rest (ready .within) (f .first) in
           record {
             values = pos 0 ∷ pos 0 ∷ [];
-            meant = λ ps. rw (e, next-left start (s .at) from len rest (f .first)) (due-undefined u (s .place) _ ps _ _ (asked .barred) (once _) (which _ ∙ d));
+            meant = λ ps. rw (e, next-left start (s .at) from len rest (f .first)) (due-undefined u (s .place) _ ps _ _ (asked .forbidden) (once _) (which _ ∙ d));
             used = refl;
             stored = x;
             few = omega arith;
@@ -118,7 +118,7 @@ module _ (u start : ℕ) (rest : List ℕ) (asked : FieldRule) (s : RowCursor) (
             placed = omega (arith, ready .placed, w .1);
           }
 
-      pub defined-filled : undefined ≡ false → asked .barred ≡ false → (entry exit : List ℤ) (r : Filled)
+      pub defined-filled : undefined ≡ false → asked .forbidden ≡ false → (entry exit : List ℤ) (r : Filled)
           → Puts (valueOf (typeAsked (asked .kind) (asked .number) (componentOf (asked .component))) (fieldOf (start + (s .at + from)) (take len (drop (s .at + from) rest)))) (moved s (s .at + from + len)) entry exit r
           → Fills u start rest 2 (due u start rest asked s) s entry exit r
       defined-filled d e entry exit (On t) p =
@@ -132,6 +132,6 @@ module _ (u start : ℕ) (rest : List ℕ) (asked : FieldRule) (s : RowCursor) (
             within = w .0;
             placed = omega (arith, ready .placed, w .1);
           })
-      defined-filled d e entry exit (Rest t n) p = absurd p
+      defined-filled d e entry exit (RestUndefined t n) p = absurd p
       defined-filled d e entry exit (No k g) p =
           λ ps. rw (p .1, e, next-left start (s .at) from len rest (f .first)) (due-wrong u (s .place) _ ps _ _ (asked .needed) k (once _) (which _ ∙ d) (p .0))

@@ -75,33 +75,33 @@ of-line u before place o forms cs ps (f ∷ fs) = put-prefixed place _ _ _
 -- ## A field that is due
 
 module _ (u : ℕ) (place : ℕ) (type : AttributeType) (ps : List Pair) where
-  pub due-missing : (needed barred : Bool) → dueCells u needed barred place type ps [] ≡ refused 11 place
+  pub due-missing : (needed forbidden : Bool) → dueCells u needed forbidden place type ps [] ≡ refused 11 place
   unfolding dueCells
-  due-missing needed barred = refl
+  due-missing needed forbidden = refl
 
   module _ (f : Field) (fs : List Field) where
-    pub due-covered : (barred : Bool) → isUndefinedTwice u f ≡ true → dueCells u false barred place type ps (f ∷ fs) ≡ covered place 1 ps fs
+    pub due-covered : (forbidden : Bool) → isUndefinedTwice u f ≡ true → dueCells u false forbidden place type ps (f ∷ fs) ≡ covered place 1 ps fs
     unfolding dueCells covered choose
-    due-covered barred e = rw e
+    due-covered forbidden e = rw e
 
-    pub due-covered-needed : (barred : Bool) → isUndefinedTwice u f ≡ true → dueCells u true barred place type ps (f ∷ fs) ≡ refused 12 place
+    pub due-covered-needed : (forbidden : Bool) → isUndefinedTwice u f ≡ true → dueCells u true forbidden place type ps (f ∷ fs) ≡ refused 12 place
     unfolding dueCells choose refuse
-    due-covered-needed barred e = rw e
+    due-covered-needed forbidden e = rw e
 
-    pub due-undefined : (barred : Bool) → isUndefinedTwice u f ≡ false → isUndefined u f ≡ true
-        → dueCells u false barred place type ps (f ∷ fs) ≡ prefixed (pos 0 ∷ pos 0 ∷ []) (pairCells u false (place + 1) ps fs)
+    pub due-undefined : (forbidden : Bool) → isUndefinedTwice u f ≡ false → isUndefined u f ≡ true
+        → dueCells u false forbidden place type ps (f ∷ fs) ≡ prefixed (pos 0 ∷ pos 0 ∷ []) (pairCells u false (place + 1) ps fs)
     unfolding dueCells choose refuse definedOr
     due-undefined true e d = rw (e, d) (put-prefixed place _ _ _)
     due-undefined false e d = rw (e, d) (put-prefixed place _ _ _)
 
-    pub due-undefined-needed : (barred : Bool) → isUndefinedTwice u f ≡ false → isUndefined u f ≡ true → dueCells u true barred place type ps (f ∷ fs) ≡ refused 12 place
+    pub due-undefined-needed : (forbidden : Bool) → isUndefinedTwice u f ≡ false → isUndefined u f ≡ true → dueCells u true forbidden place type ps (f ∷ fs) ≡ refused 12 place
     unfolding dueCells choose refuse
-    due-undefined-needed barred e d = rw (e, d)
+    due-undefined-needed forbidden e d = rw (e, d)
 
-    pub due-barred : (needed : Bool) → isUndefinedTwice u f ≡ false → isUndefined u f ≡ false → dueCells u needed true place type ps (f ∷ fs) ≡ refused 12 place
+    pub due-forbidden : (needed : Bool) → isUndefinedTwice u f ≡ false → isUndefined u f ≡ false → dueCells u needed true place type ps (f ∷ fs) ≡ refused 12 place
     unfolding dueCells choose refuse
-    due-barred true e d = rw (e, d)
-    due-barred false e d = rw (e, d)
+    due-forbidden true e d = rw (e, d)
+    due-forbidden false e d = rw (e, d)
 
     pub due-wrong : (needed : Bool) (n : ℕ) → isUndefinedTwice u f ≡ false → isUndefined u f ≡ false → valueOf type f ≡ wrong n
         → dueCells u needed false place type ps (f ∷ fs) ≡ refused n place

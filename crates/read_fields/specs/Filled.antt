@@ -21,7 +21,7 @@ use Rattle.model_records.specs.Attributes.{firstOf}
 use Rattle.read_fields.specs.declared.filling.RowCursor.{RowCursor}
 use Rattle.read_fields.specs.declared.filling.FieldRule.{FieldRule}
 use Rattle.read_fields.specs.declared.filling.Filled.{Filled}
-use Rattle.read_fields.specs.declared.filling.Filled.the-variants.{On, Rest, No}
+use Rattle.read_fields.specs.declared.filling.Filled.the-variants.{On, RestUndefined, No}
 
 -- the cells of so many undefined pairs
 unfoldable pub zeros : ℕ → List ℤ
@@ -53,14 +53,14 @@ typeAsked kind number c =
 
 -- a field that is due, and the pairs behind it: an attribute's own field must be defined where the attribute is
 -- mandatory, a further component must be defined where the first one is, and undefined where that one is
-unfoldable pub dueCells : (u : ℕ) (needed barred : Bool) (place : ℕ) → AttributeType → List Pair → List Field → Cells
-dueCells u needed barred place type ps [] = refused 11 place
-dueCells u needed barred place type ps (f ∷ fs) =
+unfoldable pub dueCells : (u : ℕ) (needed forbidden : Bool) (place : ℕ) → AttributeType → List Pair → List Field → Cells
+dueCells u needed forbidden place type ps [] = refused 11 place
+dueCells u needed forbidden place type ps (f ∷ fs) =
     let defined : Bool = not (isUndefined u f) in
     choose (isUndefinedTwice u f)
     (refuse (needed || hasMandatory ps) (refused 12 place)
     (coveredCells place (1 + length ps) fs))
-    (refuse (needed && not defined || barred && defined) (refused 12 place)
+    (refuse (needed && not defined || forbidden && defined) (refused 12 place)
     (putPair place (definedOr defined (valueOf type f)) (pairCells u defined (place + 1) ps fs)))
 
 -- the state behind a field that ends at a byte of the rest, and behind its pair
@@ -76,13 +76,13 @@ passed s = record { at = s .at; place = s .place; used = s .used + 2; before = s
 
 -- what a further component has to be
 abbrev pub furtherAsked : Bool → declared.Component → FieldRule
-furtherAsked before c = record { needed = before; barred = not before; kind = 4; number = 0; component = c }
+furtherAsked before c = record { needed = before; forbidden = not before; kind = 4; number = 0; component = c }
 
 -- what an attribute's own field has to be, and a coordinate's first component
 abbrev pub ownAsked : Bool → ℕ → ℕ → declared.Component → FieldRule
 ownAsked optional kind number c = record {
   needed = not optional;
-  barred = false;
+  forbidden = false;
   kind = kind;
   number = number;
   component = c;
@@ -143,18 +143,18 @@ pub record PutsPair (v : Value) (s t : RowCursor) (entry exit : List ℤ) : Type
 
 abbrev pub Puts : Value → RowCursor → (entry exit : List ℤ) → Filled → Type 0
 Puts v s entry exit (On t) = PutsPair v s t entry exit
-Puts v s entry exit (Rest t count) = ⊥
+Puts v s entry exit (RestUndefined t count) = ⊥
 Puts v s entry exit (No k f) = (v ≡ wrong k) × (f ≡ s .place)
 
 -- what the rest of the row means where a field is due
 abbrev pub due : (u start : ℕ) → List ℕ → FieldRule → RowCursor → List Pair → Cells
 due u start rest asked s ps =
-    dueCells u (asked .needed) (asked .barred) (s .place)
+    dueCells u (asked .needed) (asked .forbidden) (s .place)
     (typeAsked (asked .kind) (asked .number) (componentOf (asked .component))) ps (left start rest s)
 
 abbrev pub Fills : (u start : ℕ) (rest : List ℕ) (most : ℕ) (whole : List Pair → Cells) (s : RowCursor)
     (entry exit : List ℤ) → Filled → Type 0
 Fills u start rest most whole s entry exit (On t) = Steps rest most whole (going u start rest t) s t entry exit
-Fills u start rest most whole s entry exit (Rest t count) = (t .used + (count + count) ≤ s .used + most)
+Fills u start rest most whole s entry exit (RestUndefined t count) = (t .used + (count + count) ≤ s .used + most)
     × Steps rest most whole (covering start rest t count) s t entry exit
 Fills u start rest most whole s entry exit (No k f) = (ps : List Pair) → whole ps ≡ refused k f

@@ -41,7 +41,7 @@ pub struct RowCursor {
 // What a field has to be: whether it must be defined, whether it must be undefined, and the type of its attribute.
 pub struct FieldRule {
     pub needed: bool,
-    pub barred: bool,
+    pub forbidden: bool,
     pub kind: u8,
     pub number: usize,
     pub component: Component,
@@ -51,7 +51,7 @@ pub struct FieldRule {
 // its field.
 pub enum Filled {
     On(RowCursor),
-    Rest(RowCursor, usize),
+    RestUndefined(RowCursor, usize),
     No(u8, usize),
 }
 
@@ -155,7 +155,7 @@ fn put_field(
     match taking::take_field(&rest[at..], undefined) {
         Taken::Missing => Filled::No(11, s.place),
         Taken::Defined(from, len) => {
-            if asked.barred {
+            if asked.forbidden {
                 return Filled::No(12, s.place);
             }
             let a = at + from;
@@ -172,7 +172,7 @@ fn put_field(
             if asked.needed {
                 return Filled::No(12, s.place);
             }
-            Filled::Rest(behind(s, at + from + len), 1)
+            Filled::RestUndefined(behind(s, at + from + len), 1)
         }
     }
 }
@@ -198,7 +198,7 @@ fn ask_further(before: bool, component: Component) -> FieldRule
 {
     FieldRule {
         needed: before,
-        barred: !before,
+        forbidden: !before,
         kind: 4,
         number: 0,
         component,
@@ -237,8 +237,8 @@ fn put_further(
             Filled::On(v) => {
                 t = v;
             }
-            Filled::Rest(v, left) => {
-                return Filled::Rest(v, left + (count - 1 - i));
+            Filled::RestUndefined(v, left) => {
+                return Filled::RestUndefined(v, left + (count - 1 - i));
             }
             Filled::No(k, f) => {
                 return Filled::No(k, f);
@@ -255,7 +255,7 @@ fn ask_own(optional: bool, kind: u8, number: usize, component: Component) -> Fie
 {
     FieldRule {
         needed: !optional,
-        barred: false,
+        forbidden: false,
         kind,
         number,
         component,
@@ -290,7 +290,7 @@ fn put_coordinate(
         s,
     ) {
         Filled::On(t) => put_further(components, rest, start, undefined, cells, t),
-        Filled::Rest(t, left) => Filled::Rest(t, left + (count - 1)),
+        Filled::RestUndefined(t, left) => Filled::RestUndefined(t, left + (count - 1)),
         Filled::No(k, f) => Filled::No(k, f),
     }
 }

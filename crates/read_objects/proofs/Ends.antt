@@ -18,7 +18,7 @@ use Rattle.model_records.specs.AtRecord.{AttributesHere}
 use Rattle.read_fields.specs.Filled.{zeros, prefixed, coveredCells, covered, left, going, goingOver, covering, Steps, Fills}
 use Rattle.read_objects.specs.Fields.{recordPairs, Ends, EndsHere}
 use Rattle.read_fields.specs.declared.filling.RowCursor.{RowCursor}
-use Rattle.read_fields.specs.declared.filling.Filled.the-variants.{On, Rest}
+use Rattle.read_fields.specs.declared.filling.Filled.the-variants.{On, RestUndefined}
 use Rattle.read_objects.specs.declared.rows.RowOut.{RowOut}
 use Rattle.read_objects.specs.declared.rows.RowOut.the-variants.{Full, No}
 use Rattle.read_fields.proofs.Stores.{sets-append, length-zeros}
@@ -100,7 +100,7 @@ module _ (u start : ℕ) (rest b : List ℕ) (here : ℕ) {m : Model} (from : At
         → Steps rest (most + 6) (λ ps. whole) (fromRecord u start rest b (nextAt b here) t) s₀ t entry between
     row-on t f = both now (renamed (fromRecord u start rest b here s) (fromRecord u start rest b (nextAt b here) t) record-due (λ ps. refl) (before (λ ps. pairsAt b (nextAt b here)) f))
 
-    pub row-rest : (t : RowCursor) (n : ℕ) → Fills u start rest 6 (goingOver u start rest (recordPairs b here) s) s cells between (Rest t n)
+    pub row-rest : (t : RowCursor) (n : ℕ) → Fills u start rest 6 (goingOver u start rest (recordPairs b here) s) s cells between (RestUndefined t n)
         → (limit : ℕ) (exit : List ℤ) (r : RowOut) → Ends (covering start rest t n (pairsAt b (nextAt b here))) limit (t .used) between exit r → Ends whole limit (s₀ .used) entry exit r
     row-rest t n f limit exit r g =
         then-ends (both now (renamed (fromRecord u start rest b here s) (λ ps. covering start rest t n (pairsAt b (nextAt b here))) record-due (λ ps. refl) (before (λ ps. pairsAt b (nextAt b here)) (f .1)))) limit exit r g

@@ -1,14 +1,17 @@
 -- What a row that joins the table does: its values, the state behind it, and what then holds.
-use Prim.Native.Nat.{ℕ, _+_, _*_, _≤_, _<_}
+use Prim.Native.Nat.{ℕ, _+_, _*_, _-_, _≤_, _<_}
 use mathlib.Core.Path.{_≡_}
+use mathlib.Core.Bool.{true}
 use mathlib.Core.List.{List}
 use lib.IntN.{ℤ}
 use lib.ListN.{length, getD}
 use lib.Seq.{sets}
-use Rattle.meaning.specs.Row.{Cells, cells, refused}
-use Rattle.meaning.specs.Reading.{Content, Rooms, dueLines}
+use Rattle.meaning.specs.Field.{fieldsOf}
+use Rattle.meaning.specs.Row.{Cells, cells, refused, pairCells}
+use Rattle.meaning.specs.Reading.{Content, Rooms, dueLines, stretch}
 use Rattle.meaning.specs.Lines as lines
-use Rattle.model_records.specs.Records.{modelAt}
+use Rattle.model_records.specs.Records.{modelAt, pairsAt}
+use Rattle.value_read.specs.Meant.{fieldOf}
 use Rattle.read_state.specs.declared.State.{State}
 use Rattle.read_state.specs.declared.Step.{Step}
 use Rattle.read_state.specs.Meaning.{linesAt, dueOf, contentOf, stepOf}
@@ -47,3 +50,11 @@ pub record RowAdds (b text : List ℕ) (seed : ℕ) (s : State) (meant : Rooms �
       → stepOf b k r marks rows′ cells′ points ≡ meant rooms (contentOf k s marks rows cells points)
   pub holds : (marks : List ℕ) (points : List ℤ) → Holds (modelAt b) b text seed s marks rows cells points index
       → StepHolds (modelAt b) b text seed r marks rows′ cells′ points index′
+
+-- what the row means whose identification has so many bytes from `start` on, with the fields from there to the line's
+-- end
+abbrev pub rowMeant : (b text : List ℕ) (u : ℕ) → OpenTable → (start size end : ℕ) → Rooms → Content → lines.Step
+rowMeant b text u here start size end rooms c =
+    let from = start + size in
+    lines.storeRow (modelAt b) rooms text (here .table) (fieldOf start (stretch text start size)) c
+    (pairCells u true 3 (pairsAt b (here .at)) (fieldsOf from (stretch text from (end - from))))

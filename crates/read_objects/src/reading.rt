@@ -1,18 +1,15 @@
 // An OBJE line of the table whose objects are read.
 ghost use mathlib.Core.Path.{_≡_};
-ghost use mathlib.Core.Bool.{true};
 ghost use Prim.Native.Nat.{_+_, _-_, _≤_, _<_, _^_};
 ghost use lib.ListN.{length, drop};
 ghost use Rattle.meaning.specs.Bytes.{refuse};
 ghost use Rattle.meaning.specs.Field.{fieldsOf};
-ghost use Rattle.meaning.specs.Row.{pairCells};
 ghost use Rattle.meaning.specs.Reading.{stretch, objectsOf, isUsed};
-ghost use Rattle.meaning.specs.Lines.{no, storeRow, objectFields};
-ghost use Rattle.model_records.specs.Records.{modelAt, pairsAt};
-ghost use Rattle.value_read.specs.Meant.{fieldOf};
+ghost use Rattle.meaning.specs.Lines.{no, objectFields};
+ghost use Rattle.model_records.specs.Records.{modelAt};
 ghost use Rattle.table_index.specs.Holds.{IndexedTable};
 ghost use Rattle.read_objects.specs.Tables.{TableHolds};
-ghost use Rattle.read_objects.specs.Rows.{RowAdds};
+ghost use Rattle.read_objects.specs.Rows.{RowAdds, rowMeant};
 use crate::OpenTable;
 use crate::naming;
 use crate::naming::Identified;
@@ -40,12 +37,10 @@ fn add_object(
     requires { ⌜ (start + size ≤ end) × (end ≤ length (now text)) × (length (now text) < 2 ^ 62) ⌝ }
     requires { ⌜ length (now model) ≤ 65536 ⌝ }
     requires { ⌜ IndexedTable seed (now text) (s .rows) (s .cells) (now rows) (now cells) (now index) ⌝ }
-    ensures { λ r. ⌜ (let b = now (model .entry) in let t = now (text .entry) in let i = stretch t start size in
+    ensures { λ r. ⌜ (let b = now (model .entry) in let t = now (text .entry) in
         RowAdds b t seed s
-        (λ rooms c. refuse (isUsed i (objectsOf t (c .cells) (c .rows))) (no 15 2)
-        (storeRow (modelAt b) rooms t (here .table) (fieldOf start i) c
-        (pairCells undefined true 3 (pairsAt b (here .at))
-        (fieldsOf (start + size) (stretch t (start + size) (end - (start + size)))))))
+        (λ rooms c. refuse (isUsed (stretch t start size) (objectsOf t (c .cells) (c .rows))) (no 15 2)
+        (rowMeant b t undefined here start size end rooms c))
         (now (rows .entry)) (now (rows .exit)) (now (cells .entry)) (now (cells .exit))
         (now (index .entry)) (now (index .exit)) r) ⌝ }
 {

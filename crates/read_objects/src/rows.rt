@@ -144,7 +144,7 @@ pub(crate) fn row_fields(
             Filled::On(t) => {
                 s = t;
             }
-            Filled::Rest(t, left) => {
+            Filled::RestUndefined(t, left) => {
                 return undefine_rest(model, next, rest, left, cells, t);
             }
             Filled::No(k, f) => {

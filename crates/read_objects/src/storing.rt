@@ -1,23 +1,20 @@
 // A row that joins the table: its fields, its first three cells, its entry in the row list, and its link in the index.
 ghost use mathlib.Core.Path.{_≡_};
-ghost use mathlib.Core.Bool.{true, false, _||_};
+ghost use mathlib.Core.Bool.{true, _||_};
 ghost use mathlib.Core.List.{[], _∷_};
 ghost use Prim.Native.Nat.{ℕ, _+_, _*_, _-_, _≤_, _<_, _^_};
 ghost use lib.Dec.{leb, ltb};
 ghost use lib.IntN.{pos};
-ghost use lib.ListN.{length, take, set};
+ghost use lib.ListN.{length, set};
 ghost use lib.Seq.{sets};
 ghost use Rattle.meaning.specs.Field.{fieldsOf};
 ghost use Rattle.meaning.specs.Row.{pairCells};
-ghost use Rattle.meaning.specs.Reading.{stretch, objectsOf, isUsed};
-ghost use Rattle.meaning.specs.Lines.{storeRow};
 ghost use Rattle.model_records.specs.Records.{modelAt, pairsAt};
 ghost use Rattle.model_records.specs.AtRecord.{AttributesHere};
-ghost use Rattle.value_read.specs.Meant.{fieldOf};
-ghost use Rattle.table_index.specs.Index.{hashOf, insertOf};
-ghost use Rattle.table_index.specs.Holds.{IndexedTable};
+ghost use Rattle.table_index.specs.Index.{insertOf};
 ghost use Rattle.read_objects.specs.Tables.{TableHolds};
-ghost use Rattle.read_objects.specs.Rows.{Fills, BehindRow, RowAdds};
+ghost use Rattle.read_objects.specs.Names.{NewName};
+ghost use Rattle.read_objects.specs.Rows.{Fills, BehindRow, RowAdds, rowMeant};
 use crate::OpenTable;
 use crate::rows::RowOut;
 use base::numbers;
@@ -130,13 +127,8 @@ pub(crate) fn store_row(
     requires { ⌜ (name .start + name .size ≤ end) × (end ≤ length (now text)) × (length (now text) < 2 ^ 62) ⌝ }
     requires { ⌜ (length (now model) ≤ 65536) × (s .cells ≤ length (now cells)) × (name .hash < 4294967296) ⌝ }
     ensures { λ r. ⌜ ((seed : ℕ) → let b = now (model .entry) in let t = now (text .entry) in
-        let i = stretch t (name .start) (name .size) in let from = name .start + name .size in
-        IndexedTable seed t (s .rows) (s .cells) (now (rows .entry)) (now (cells .entry)) (now (index .entry))
-        → isUsed i (objectsOf t (take (s .cells) (now (cells .entry))) (take (s .rows) (now (rows .entry)))) ≡ false
-        → name .hash ≡ hashOf seed i
-        → RowAdds b t seed s
-        (λ rooms c. storeRow (modelAt b) rooms t (here .table) (fieldOf (name .start) i) c
-        (pairCells undefined true 3 (pairsAt b (here .at)) (fieldsOf from (stretch t from (end - from)))))
+        NewName t seed name s (now (rows .entry)) (now (cells .entry)) (now (index .entry))
+        → RowAdds b t seed s (rowMeant b t undefined here (name .start) (name .size) end)
         (now (rows .entry)) (now (rows .exit)) (now (cells .entry)) (now (cells .exit))
         (now (index .entry)) (now (index .exit)) r) ⌝ }
 {

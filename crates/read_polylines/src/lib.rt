@@ -79,9 +79,8 @@ fn move_line(
     ensures { λ r. ⌜ ((rooms : Rooms) (text : List ℕ) (fs : List Field) (start : ℕ) → let b = now (model .entry) in
         rooms .points ≡ length (now (points .entry)) → drop 1 fs ≡ fieldsOf start (now (rest .entry))
         → meaning.lineCodeOf fs ≡ lineCodeOf code
-        → LineDoes b u s
-        (λ c. attributeLine (modelAt b) rooms text (wayOf b a u) fs c
-        (move (lineStateOf (u .state)) (meaning.lineCodeOf fs)))
+        → let moved = move (lineStateOf (u .state)) (meaning.lineCodeOf fs) in
+        LineDoes b u s (λ c. attributeLine (modelAt b) rooms text (wayOf b a u) fs c moved)
         (now (cells .entry)) (now (points .entry)) (now (cells .exit)) (now (points .exit)) r) ⌝ }
 {
     let state = u.state;

@@ -44,7 +44,7 @@ fn store_point(
     if points.len() - at < 4 {
         return Step::No(16, 0);
     }
-    crate::point_fields::put_point(points, at, kind, values, count);
+    table::points::put_point(points, at, kind, values, count);
     Step::Go(State {
         due: Due::Line(u),
         rows: s.rows,

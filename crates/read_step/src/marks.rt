@@ -36,7 +36,7 @@ fn mark_topic(marks: &mut [u8], due: FrameDue)
 }
 
 // "Marks: one byte per topic, then per table": the line that led here began a topic, a table, or none.
-pub fn mark_due(marks: &mut [u8], topics: usize, due: Due)
+pub(crate) fn mark_due(marks: &mut [u8], topics: usize, due: Due)
     ensures { λ _. ⌜ now (marks .exit) ≡ marksBy topics due (now (marks .entry)) ⌝ }
 {
     match due {

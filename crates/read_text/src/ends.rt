@@ -5,7 +5,7 @@ ghost use lib.ListN.{length, drop};
 ghost use Rattle.read_text.specs.Text.{lineEnd};
 
 // Where the line that begins at `at` ends.
-pub fn end_of_line(text: &[u8], at: usize) -> usize
+pub(crate) fn end_of_line(text: &[u8], at: usize) -> usize
     requires { ⌜ at ≤ length (now text) ⌝ }
     ensures end { λ r. ⌜ r ≡ at + lineEnd (drop at (now (text .entry))) ⌝ }
     ensures within { λ r. ⌜ r ≤ length (now (text .entry)) ⌝ }

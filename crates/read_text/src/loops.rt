@@ -56,7 +56,7 @@ fn at_end(s: State, line: usize) -> LinesRun
 }
 
 // Every line, from the first on, into buffers whose marks and index are zeros.
-pub fn read_lines(
+pub(crate) fn read_lines(
     model: &[u8],
     places: &[usize],
     shape: Shape,

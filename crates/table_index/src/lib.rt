@@ -30,8 +30,9 @@ fn is_named(text: &[u8], rows: &[u64], cells: &[i64], object: usize, identificat
         (now (identification .entry)) object ⌝ }
 {
     let row = rows[object] as usize;
-    let start = table::cells::size_at(cells, row + 1);
-    let end = start + table::cells::size_at(cells, row + 2);
+    let name = table::rows::identification_at(cells, row);
+    let start = name.start;
+    let end = start + name.len;
     value_read::stretches::same_identification(&text[start..end], identification)
 }
 

@@ -98,13 +98,11 @@ fn put_used(
         Fitting (modelAt (now model))
         (lentOf (now text) (now marks) (now rows) (now cells) (now points) (used .objects) (used .cells)
         (used .points)) ⌝ }
-    ensures { λ r. ⌜
-        (let m = modelAt (now (model .entry)) in
-        Limited (cutLines (m .mark) width
-        (linesOf m (now (text .entry))
-        (contentOf m
-        (lentOf (now (text .entry)) (now (marks .entry)) (now (rows .entry)) (now (cells .entry)) (now (points .entry))
-        (used .objects) (used .cells) (used .points))))) (now (out .entry)) (now (out .exit)) r) ⌝ }
+    ensures { λ r. ⌜ (let m = modelAt (now (model .entry)) in
+        let table = lentOf (now (text .entry)) (now (marks .entry)) (now (rows .entry)) (now (cells .entry))
+        (now (points .entry)) (used .objects) (used .cells) (used .points) in
+        let lines = linesOf m (now (text .entry)) (contentOf m table) in
+        Limited (cutLines (m .mark) width lines) (now (out .entry)) (now (out .exit)) r) ⌝ }
 {
     let style = LineStyle {
         undefined: shape.undefined,

@@ -120,8 +120,9 @@ fn add_name(
         (object + 1)) ⌝ }
 {
     let row = rows[object] as usize;
-    let start = table::cells::size_at(cells, row + 1);
-    let end = start + table::cells::size_at(cells, row + 2);
+    let name = table::rows::identification_at(cells, row);
+    let start = name.start;
+    let end = start + name.len;
     let hash = table_index::hash(&text[start..end], seed);
     let used = table_index::is_used(
         text,

@@ -1,7 +1,7 @@
 -- Fields by the number of their attribute's type. Assumes nothing.
 use Prim.Native.Nat.{ℕ, zero, suc, _+_, _-_, _≤_, _<_}
 use native.Mathlib.Omega.{arith}
-use mathlib.Core.Path.{_≡_, refl, sym, ap, _∙_}
+use mathlib.Core.Path.{_≡_, refl, sym, ap}
 use mathlib.Core.Bool.{Bool, true, false}
 use mathlib.Core.List.{List, [], _∷_, append-nil}
 use mathlib.Core.Logic.{_⊎_, inl, inr}
@@ -28,11 +28,6 @@ use Rattle.model_records.proofs.Types.{coordinate-type, line-type}
 use Rattle.table.specs.Stretches.{Cut}
 use Rattle.write_objects.specs.Given.{componentFields, GoodComponents, GoodAttribute}
 use Rattle.table.specs.Contents.{unmarkedIn}
-
--- ## Cells outside the list
-
-pub outside : (cs : List ℤ) (at by : ℕ) → length cs ≤ at + by → pos 0 ≡ getD (drop at cs) by (pos 0)
-outside cs at by h = sym (getD-drop at cs by (pos 0) ∙ List·getD-eq-default cs (pos 0) h)
 
 pub no-row : (rows : List ℕ) (o : ℕ) → length rows ≤ o → 0 ≡ getD rows o 0
 no-row rows o h = sym (List·getD-eq-default rows 0 h)

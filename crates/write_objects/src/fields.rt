@@ -16,6 +16,7 @@ ghost use Rattle.table.specs.Contents.{unmarkedIn};
 use base::numbers::magnitude;
 use model_records::Attribute;
 use model_records::Components;
+use table::cells;
 use table::stretches::cut_stretch;
 use write_lines::Put;
 use write_lines::fields::put_byte;
@@ -23,29 +24,6 @@ use write_lines::fields::put_bytes;
 use write_lines::fields::put_field;
 use write_lines::fields::put_nothing;
 use write_lines::values;
-
-// The cell so many cells behind another.
-pub(crate) fn cell_behind(cells: &[i64], at: usize, by: usize) -> i64
-    requires { ⌜ by ≤ 3 ⌝ }
-    ensures { λ r. ⌜ r ≡ getD (drop at (now (cells .entry))) by (pos 0) ⌝ }
-{
-    if cells.len() <= at {
-        return 0;
-    }
-    let i = at + by;
-    if cells.len() <= i {
-        return 0;
-    }
-    cells[i]
-}
-
-// Its size.
-pub(crate) fn size_behind(cells: &[i64], at: usize, by: usize) -> usize
-    requires { ⌜ by ≤ 3 ⌝ }
-    ensures { λ r. ⌜ r ≡ natAbs (getD (drop at (now (cells .entry))) by (pos 0)) ⌝ }
-{
-    magnitude(cell_behind(cells, at, by)) as usize
-}
 
 // The row of an object.
 fn row_of(rows: &[u64], o: usize) -> usize
@@ -78,8 +56,8 @@ pub(crate) fn put_identification(
     ensures { λ r. ⌜ (let bytes = identificationBytes (now (text .entry)) (now (cells .entry)) row in
         Puts bytes put (now (out .entry)) (now (out .exit)) r) ⌝ }
 {
-    let start = cell_behind(cells, row, 1);
-    let size = size_behind(cells, row, 2);
+    let start = cells::cell_behind(cells, row, 1);
+    let size = cells::size_behind(cells, row, 2);
     put_stretch(text, start, size, out, put)
 }
 
@@ -191,11 +169,11 @@ fn put_pair(
         let field = fieldBytes undefined a (typeBytes (now (text .entry)) c (typeOf attribute) a b) in
         Puts (0x20 ∷ field) put (now (out .entry)) (now (out .exit)) r) ⌝ }
 {
-    let a = cell_behind(cells, cell, 0);
+    let a = cells::cell_behind(cells, cell, 0);
     if magnitude(a) == 0 {
         return put_undefined(undefined, out, put);
     }
-    let b = cell_behind(cells, cell, 1);
+    let b = cells::cell_behind(cells, cell, 1);
     put_value_field(text, rows, cells, attribute, a, b, out, put)
 }
 
@@ -214,10 +192,10 @@ fn put_component(
         let field = fieldBytes undefined a (numberBytes decimals b) in
         Puts (0x20 ∷ field) put (now (out .entry)) (now (out .exit)) r) ⌝ }
 {
-    if size_behind(cells, cell, 0) == 0 {
+    if cells::size_behind(cells, cell, 0) == 0 {
         return put_undefined(undefined, out, put);
     }
-    let b = cell_behind(cells, cell, 1);
+    let b = cells::cell_behind(cells, cell, 1);
     put_number_field(decimals, b, out, put)
 }
 

@@ -23,6 +23,7 @@ use base::numbers::magnitude;
 use model_records::ATTRIBUTE;
 use model_records::Components;
 use model_records::counts::count_of;
+use table::cells;
 use write_lines::Put;
 use write_lines::cuts::end_line;
 use write_lines::fields::put_bytes;
@@ -166,7 +167,7 @@ fn put_point_fields(
     let mut all = put_nothing(put);
     while i < count {
         let component = items[i];
-        let v = fields::cell_behind(points, at, i + 1);
+        let v = cells::cell_behind(points, at, i + 1);
         all = fields::put_number_field(component.decimals, v, out, all);
         i += 1;
     }
@@ -186,7 +187,7 @@ fn put_point_bytes(
         let fields = pointFields (componentsOf components) (drop 1 (drop at (now (points .entry)))) in
         Puts (lineBytes (code ∷ fields)) put (now (out .entry)) (now (out .exit)) r) ⌝ }
 {
-    let kind = fields::cell_behind(points, at, 0);
+    let kind = cells::cell_behind(points, at, 0);
     let code = put_code(kind, out, put);
     put_point_fields(points, components, at, out, code)
 }
@@ -253,7 +254,7 @@ fn put_elin(mark: u8, width: usize, out: &mut [u8], put: Put) -> Put
 fn count_points(cells: &[i64], size: usize, cell: usize) -> usize
     ensures { λ r. ⌜ r ≡ min (cellAt (now (cells .entry)) cell - 1) (size / 4) ⌝ }
 {
-    let a = fields::size_behind(cells, cell, 0);
+    let a = cells::size_behind(cells, cell, 0);
     if a == 0 {
         return 0;
     }
@@ -279,7 +280,7 @@ fn put_line(
         Puts (cutLines mark width (linesBytes lines)) put (now (out .entry)) (now (out .exit)) r) ⌝ }
 {
     let count = count_points(cells, points.len(), cell);
-    let first = fields::size_behind(cells, cell, 1);
+    let first = cells::size_behind(cells, cell, 1);
     let drawn = put_points(points, components, first, count, mark, width, out, put);
     put_elin(mark, width, out, drawn)
 }

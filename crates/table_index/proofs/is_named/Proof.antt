@@ -14,17 +14,8 @@ mul-row c = search needs
 shared-slice-read-row : tie.Need-shared-slice-read-row
 shared-slice-read-row c = search needs
 
-add-size-at : tie.Need-add-size-at
-add-size-at c = search needs
-
-size-at-requires : tie.Need-size-at-requires
-size-at-requires c κs = search needs
-
-add-size-at-2 : tie.Need-add-size-at-2
-add-size-at-2 c = search needs
-
-size-at-requires-2 : tie.Need-size-at-requires-2
-size-at-requires-2 c κs = search needs
+identification-at-requires : tie.Need-identification-at-requires
+identification-at-requires c κs = search needs
 
 add-end : tie.Need-add-end
 add-end c = search needs
@@ -44,7 +35,7 @@ same-identification-requires c κs = search needs
 returns : tie.Need-returns
 returns c =
     let a = c .before .before .before .before .before .before .before .before .args in
-    c .same-identification .ensures ∙ ap (λ (s : List ℕ). sameIdentification s (a .identification .now)) (part-named (a .text .now) (a .rows .now) (a .cells .now) (a .object) _ _ (c .before .before .before .size-at .ensures) (c .before .before .size-at2 .ensures))
+    c .same-identification .ensures ∙ ap (λ (s : List ℕ). sameIdentification s (a .identification .now)) (part-named (a .text .now) (a .rows .now) (a .cells .now) (a .object) _ _ (c .before .before .before .identification-at .ensures .0) (c .before .before .before .identification-at .ensures .1))
 
 pub is-named-spec : {M : Type 1} → statement M
 is-named-spec =
@@ -52,10 +43,7 @@ is-named-spec =
     (tie.spec
     mul-row
     shared-slice-read-row
-    add-size-at
-    size-at-requires
-    add-size-at-2
-    size-at-requires-2
+    identification-at-requires
     add-end
     sub-same-identification
     part-same-identification-start

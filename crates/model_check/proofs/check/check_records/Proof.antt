@@ -5,7 +5,7 @@ use mathlib.Core.Path.{sym, ap, _∙_}
 use lib.ListN.{length}
 use Rattle.meaning.specs.Answer.{checkAnswer}
 use Rattle.model_check.specs.Walk.{checkedMeant}
-use Rattle.model_check.specs.Records.{nextAt}
+use Rattle.model_records.specs.Records.{nextAt}
 use Rattle.model_check.proofs.Walking.{Walking, start, step, stopped, walked, fitting, advanced-at}
 use Rattle.model_check.proofs.check.check_records.Statement.{statement}
 use Rattle.model_check.proofs.check.check_records.Tie as tie

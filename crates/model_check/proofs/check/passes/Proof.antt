@@ -5,7 +5,7 @@ use mathlib.Core.Path.{sym, _∙_}
 use lib.ListN.{length}
 use borrow.Author.Tests.{leb-true}
 use borrow.Author.Needs.{needs}
-use Rattle.model_check.specs.Records.{nextAt}
+use Rattle.model_records.specs.Records.{nextAt}
 use Rattle.model_check.proofs.Payloads.{part-payload}
 use Rattle.model_check.proofs.check.passes.Statement.{statement}
 use Rattle.model_check.proofs.check.passes.Tie as tie

@@ -5,7 +5,7 @@ use mathlib.Core.Path.{sym}
 use lib.ListN.{length}
 use borrow.Author.Tests.{lt-leb}
 use borrow.Author.Needs.{needs}
-use Rattle.model_check.specs.Records.{nextAt}
+use Rattle.model_records.specs.Records.{nextAt}
 use Rattle.model_check.proofs.Walking.{leb-same}
 use Rattle.model_check.proofs.records.fits_at.Statement.{statement}
 use Rattle.model_check.proofs.records.fits_at.Tie as tie

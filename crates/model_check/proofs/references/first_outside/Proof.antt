@@ -8,7 +8,7 @@ use borrow.Author.Tests.{leb-true, leb-false}
 use Rattle.meaning.specs.Check.{Checked, judgeReferences}
 use Rattle.meaning.specs.Model.{Table, tablesOf}
 use Rattle.model_check.specs.References.{topicNumbers, judgedFrom, outsideMeant}
-use Rattle.model_check.specs.Records.{recordsAt, nextAt}
+use Rattle.model_records.specs.Records.{recordsAt, nextAt}
 use Rattle.model_check.proofs.Judging.{judgedAt, judged-bad, judged-on, judged-end, judged-topics, judged-falls}
 use Rattle.model_check.proofs.references.first_outside.Statement.{statement}
 use Rattle.model_check.proofs.references.first_outside.Tie as tie

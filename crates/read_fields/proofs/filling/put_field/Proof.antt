@@ -7,7 +7,7 @@ use lib.ListN.{drop}
 use Rattle.meaning.specs.Field.{fieldsOf}
 use Rattle.read_fields.specs.Taken.{FieldTaken, TwiceTaken}
 use Rattle.read_fields.proofs.Stores.{part-size}
-use Rattle.read_fields.proofs.Due.{Found, found, taken, missing, twice-needed, twice-covers, undefined-needed, undefined-filled, defined-barred, defined-filled}
+use Rattle.read_fields.proofs.Due.{Found, found, taken, missing, twice-needed, twice-covers, undefined-needed, undefined-filled, defined-forbidden, defined-filled}
 use borrow.Author.Needs.{needs}
 use Rattle.read_fields.proofs.filling.put_field.Statement.{statement}
 use Rattle.read_fields.proofs.filling.put_field.Tie as tie
@@ -54,7 +54,7 @@ enum-known-from : tie.Need-enum-known-from
 enum-known-from c = search needs
 
 returns : tie.Need-returns
-returns c = defined-barred (c .before .before .before .before .before .before .before .args .undefined) (c .before .before .before .before .before .before .before .args .start) (c .before .before .before .before .before .before .before .args .rest .now) (c .before .before .before .before .before .before .before .args .asked) (c .before .before .before .before .before .before .before .args .s) (c .before .before .before .before .before .before .before .pre) (c .before .before .from .given .0 .0) (c .before .before .from .given .0 .1 .0) false (defined (c .before .before)) refl (c .if1 .taken)
+returns c = defined-forbidden (c .before .before .before .before .before .before .before .args .undefined) (c .before .before .before .before .before .before .before .args .start) (c .before .before .before .before .before .before .before .args .rest .now) (c .before .before .before .before .before .before .before .args .asked) (c .before .before .before .before .before .before .before .args .s) (c .before .before .before .before .before .before .before .pre) (c .before .before .from .given .0 .0) (c .before .before .from .given .0 .1 .0) false (defined (c .before .before)) refl (c .if1 .taken)
 
 add-a : tie.Need-add-a
 add-a c = record { fits = defined-room (c .before .before) .begins }

@@ -66,7 +66,7 @@ returns c =
     let g = c .before .before .before .before .n .given in
     let f = full-row (fieldCells (a .model .now) (a .text .now) (a .undefined) (a .here .at) (a .name .start + a .name .size) (a .end)) (2 * length (a .model .now)) (a .s .cells + 3) (a .cells .now) (r .last .1 .1 .1 .1 .1 .0) (r .result) (g .0 .0) (g .1) (r .ensures) in
     let q : length (r .last .1 .1 .1 .1 .1 .0) ≡ length (a .cells .now) = c .before .before .before .before .before .before .cells .given in
-    λ seed held unused hashed. lacks (a .model .now) (a .text .now) seed (a .here) (a .s) (a .name .start) (a .name .size) (a .undefined) (fieldsOf (a .name .start + a .name .size) (stretch (a .text .now) (a .name .start + a .name .size) (a .end - (a .name .start + a .name .size)))) (a .rows .now) (a .cells .now) (a .index .now) held _ _ _ f _ _ _ (length (r .last .1 .1 .1 .1 .1 .0)) q (sym (c .before .lacks-room .ensures) ∙ c .if1 .taken)
+    λ seed new. lacks (a .model .now) (a .text .now) seed (a .here) (a .s) (a .name .start) (a .name .size) (a .undefined) (fieldsOf (a .name .start + a .name .size) (stretch (a .text .now) (a .name .start + a .name .size) (a .end - (a .name .start + a .name .size)))) (a .rows .now) (a .cells .now) (a .index .now) (new .held) _ _ _ f _ _ _ (length (r .last .1 .1 .1 .1 .1 .0)) q (sym (c .before .lacks-room .ensures) ∙ c .if1 .taken)
 
 add-row-requires : tie.Need-add-row-requires
 add-row-requires c κs =
@@ -107,7 +107,7 @@ returns-2 c =
     let r = c .before .before .before .before .fill-row in
     let g = c .before .k .given in
     let e = refused-row (fieldCells (a .model .now) (a .text .now) (a .undefined) (a .here .at) (a .name .start + a .name .size) (a .end)) (2 * length (a .model .now)) (a .s .cells + 3) (a .cells .now) (r .last .1 .1 .1 .1 .1 .0) (r .result) (g .0 .0) (g .0 .1 .0) (g .1) (r .ensures) in
-    λ seed held unused hashed. fields-refused (a .model .now) (a .text .now) seed (a .here) (a .s) (a .name .start) (a .name .size) (a .undefined) (fieldsOf (a .name .start + a .name .size) (stretch (a .text .now) (a .name .start + a .name .size) (a .end - (a .name .start + a .name .size)))) (a .rows .now) (a .cells .now) (a .index .now) held _ _ _ _ _ e
+    λ seed new. fields-refused (a .model .now) (a .text .now) seed (a .here) (a .s) (a .name .start) (a .name .size) (a .undefined) (fieldsOf (a .name .start + a .name .size) (stretch (a .text .now) (a .name .start + a .name .size) (a .end - (a .name .start + a .name .size)))) (a .rows .now) (a .cells .now) (a .index .now) (new .held) _ _ _ _ _ e
 
 same-length-3 : tie.Need-same-length-3
 same-length-3 c = search needs
@@ -128,7 +128,7 @@ returns-3 c =
     let q : length (r .last .1 .1 .1 .1 .1 .0) ≡ length (a .cells .now) = c .before .before .before .before .before .before .before .before .before .before .before .before .before .before .before .before .cells .given in
     let e = sym (c .before .before .before .before .before .before .before .before .before .before .before .lacks-room .ensures) ∙ c .before .before .before .before .before .before .before .before .before .before .if1 .left in
     let w = c .before .before .before .before .before .before .add-row .ensures in
-    λ seed held unused hashed. joins (a .model .now) (a .text .now) seed (a .here) (a .s) (a .name .start) (a .name .size) (a .undefined) (fieldsOf (a .name .start + a .name .size) (stretch (a .text .now) (a .name .start + a .name .size) (a .end - (a .name .start + a .name .size)))) (a .rows .now) (a .cells .now) (a .index .now) held _ _ _ f _ _ _ (a .name .hash) _ (p .0) (room-rows (length (a .rows .now)) (a .s .rows) (length (r .last .1 .1 .1 .1 .1 .0)) (a .s .cells + (3 + g .0 .0)) e) (omega (arith, q, room-cells (length (a .rows .now)) (a .s .rows) (length (r .last .1 .1 .1 .1 .1 .0)) (a .s .cells + (3 + g .0 .0)) e)) (omega (arith, p .1 .0)) (w .0) (w .1 .0) (w .1 .1) (c .state-behind .ensures) unused hashed
+    λ seed new. joins (a .model .now) (a .text .now) seed (a .here) (a .s) (a .name .start) (a .name .size) (a .undefined) (fieldsOf (a .name .start + a .name .size) (stretch (a .text .now) (a .name .start + a .name .size) (a .end - (a .name .start + a .name .size)))) (a .rows .now) (a .cells .now) (a .index .now) (new .held) _ _ _ f _ _ _ (a .name .hash) _ (p .0) (room-rows (length (a .rows .now)) (a .s .rows) (length (r .last .1 .1 .1 .1 .1 .0)) (a .s .cells + (3 + g .0 .0)) e) (omega (arith, q, room-cells (length (a .rows .now)) (a .s .rows) (length (r .last .1 .1 .1 .1 .1 .0)) (a .s .cells + (3 + g .0 .0)) e)) (omega (arith, p .1 .0)) (w .0) (w .1 .0) (w .1 .1) (c .state-behind .ensures) (new .unused) (new .hashed)
 
 pub store-row-spec : {M : Type 1} → statement M
 store-row-spec =

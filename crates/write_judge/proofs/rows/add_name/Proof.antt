@@ -12,17 +12,8 @@ mul-row c = search needs
 shared-slice-read-row : tie.Need-shared-slice-read-row
 shared-slice-read-row c = search needs
 
-add-size-at : tie.Need-add-size-at
-add-size-at c = search needs
-
-size-at-requires : tie.Need-size-at-requires
-size-at-requires c κs = search needs
-
-add-size-at-2 : tie.Need-add-size-at-2
-add-size-at-2 c = search needs
-
-size-at-requires-2 : tie.Need-size-at-requires-2
-size-at-requires-2 c κs = search needs
+identification-at-requires : tie.Need-identification-at-requires
+identification-at-requires c κs = search needs
 
 add-end : tie.Need-add-end
 add-end c = search needs
@@ -57,7 +48,8 @@ same-length c = search needs
 returns : tie.Need-returns
 returns c = let s = c .before .before .before .before .before .before .before .before .before .before .before .before in
     let a = s .args in
-    let e = part-named (a .text .now) (a .rows .now) (a .cells .now) (a .object) (c .before .before .before .before .before .before .before .size-at .result) (c .before .before .before .before .before .before .size-at2 .result) (c .before .before .before .before .before .before .before .size-at .ensures) (c .before .before .before .before .before .before .size-at2 .ensures) in
+    let n = c .before .before .before .before .before .before .before .identification-at in
+    let e = part-named (a .text .now) (a .rows .now) (a .cells .now) (a .object) (n .result .start) (n .result .len) (n .ensures .0) (n .ensures .1) in
     (add-used (a .seed) (a .text .now) (a .rows .now) (a .cells .now) (a .object) _ e (c .before .is-used .result) (c .before .is-used .ensures) (c .if1 .taken), λ q. absurd (false≢true q))
 
 insert-requires : tie.Need-insert-requires
@@ -69,7 +61,8 @@ same-length-2 c = search needs
 returns-2 : tie.Need-returns-2
 returns-2 c = let s = c .before .before .before .before .before .before .before .before .before .before .before .before .before .before .before .before in
     let a = s .args in
-    let e = part-named (a .text .now) (a .rows .now) (a .cells .now) (a .object) (c .before .before .before .before .before .before .before .before .before .before .before .size-at .result) (c .before .before .before .before .before .before .before .before .before .before .size-at2 .result) (c .before .before .before .before .before .before .before .before .before .before .before .size-at .ensures) (c .before .before .before .before .before .before .before .before .before .before .size-at2 .ensures) in (
+    let n = c .before .before .before .before .before .before .before .before .before .before .before .identification-at in
+    let e = part-named (a .text .now) (a .rows .now) (a .cells .now) (a .object) (n .result .start) (n .result .len) (n .ensures .0) (n .ensures .1) in (
       add-unused (a .seed) (a .text .now) (a .rows .now) (a .cells .now) (a .object) _ e (c .before .before .before .before .before .is-used .result) (c .before .before .before .before .before .is-used .ensures) (c .before .before .before .before .if1 .left),
       λ q. add-known (a .seed) (a .text .now) (a .rows .now) (a .cells .now) (a .object) _ e (c .before .before .before .before .before .is-used .result) (c .before .before .before .before .before .is-used .ensures) (a .index .now) (s .pre .0) (s .pre .1 .0) (s .pre .1 .1) (c .before .before .before .before .if1 .left) _ (c .before .before .before .before .before .before .before .before .hash .ensures .0) _ (c .before .before .insert .ensures),
     )
@@ -80,10 +73,7 @@ add-name-spec =
     (tie.spec
     mul-row
     shared-slice-read-row
-    add-size-at
-    size-at-requires
-    add-size-at-2
-    size-at-requires-2
+    identification-at-requires
     add-end
     sub-hash
     part-hash-start

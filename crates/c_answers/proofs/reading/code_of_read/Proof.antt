@@ -1,4 +1,4 @@
--- `c_read::numbers::code_of_read` meets its contract. Assumes nothing.
+-- `c_answers::reading::code_of_read` meets its contract. Assumes nothing.
 use Prim.Native.Nat.{_≤_}
 use native.Mathlib.Omega.{arith}
 use mathlib.Core.Path.{subst}
@@ -8,10 +8,10 @@ use Rattle.read_text.specs.declared.Answer.{Answer}
 use Rattle.read_text.specs.declared.Answer.the-variants.{Accepted}
 use Rattle.meaning.specs.Answer.{firstOf}
 use borrow.Author.Needs.{needs}
-use Rattle.c_read.proofs.numbers.code_of_read.Statement.{statement}
-use Rattle.c_read.proofs.numbers.code_of_read.Tie as tie
-use Rattle.c_read.proofs.numbers.code_of_read.Reads as reads
-use Rattle.c_read.proofs.numbers.code_of_read.Lts as lts
+use Rattle.c_answers.proofs.reading.code_of_read.Statement.{statement}
+use Rattle.c_answers.proofs.reading.code_of_read.Tie as tie
+use Rattle.c_answers.proofs.reading.code_of_read.Reads as reads
+use Rattle.c_answers.proofs.reading.code_of_read.Lts as lts
 
 enum-known-answer : tie.Need-enum-known-answer
 enum-known-answer c = search needs

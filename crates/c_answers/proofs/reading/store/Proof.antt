@@ -1,4 +1,4 @@
--- `c_read::numbers::store` meets its contract. Assumes nothing.
+-- `c_answers::reading::store` meets its contract. Assumes nothing.
 use mathlib.Core.Path.{sym, ap, _∙_}
 use lib.ListN.{length}
 use Rattle.read_text.specs.Outcomes.{answerOf}
@@ -6,8 +6,8 @@ use Rattle.read_text.specs.declared.Answer.{Answer}
 use Rattle.meaning.specs.Answer.{numbersOf}
 use Rattle.meaning.specs.Answer.{numbersIn}
 use borrow.Author.Needs.{needs}
-use Rattle.c_read.proofs.numbers.store.Statement.{statement}
-use Rattle.c_read.proofs.numbers.store.Tie as tie
+use Rattle.c_answers.proofs.reading.store.Statement.{statement}
+use Rattle.c_answers.proofs.reading.store.Tie as tie
 
 enum-known-answer : tie.Need-enum-known-answer
 enum-known-answer c = search needs

@@ -4,11 +4,11 @@ ghost use Prim.Native.Nat.{_≤_};
 ghost use lib.ListN.{length};
 ghost use Rattle.meaning.specs.Answer.{codeForC, numbersIn, firstOf};
 ghost use Rattle.read_text.specs.Outcomes.{answerOf};
-use c_answers::put_four;
+use crate::put_four;
 use read_text::Answer;
 
 // "0, objects, cells, points; or a refusal, two place numbers, 0"
-pub(crate) fn store(answer: Answer, room: &mut [u64])
+pub fn store(answer: Answer, room: &mut [u64])
     ensures { λ _. ⌜ now (room .exit) ≡ numbersIn (length (now (room .entry))) (answerOf answer) ⌝ }
 {
     match answer {
@@ -30,7 +30,7 @@ pub(crate) fn store(answer: Answer, room: &mut [u64])
 }
 
 // Its one number.
-pub(crate) fn code_of_read(answer: Answer) -> u64
+pub fn code_of_read(answer: Answer) -> u64
     requires { ⌜ firstOf (answerOf answer) ≤ 16777217 ⌝ }
     ensures { λ r. ⌜ r ≡ codeForC (answerOf answer) ⌝ }
 {

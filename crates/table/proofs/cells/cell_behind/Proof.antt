@@ -1,4 +1,4 @@
--- `write_objects::fields::cell_behind` meets its contract. Assumes nothing.
+-- `table::cell_behind` meets its contract. Assumes nothing.
 use Prim.Native.Nat.{_+_}
 use native.Mathlib.Omega.{arith}
 use mathlib.Core.Path.{sym, _∙_}
@@ -7,10 +7,10 @@ use mir.ValLaws.{toZ-ofZ}
 use lib.IntN.{pos}
 use lib.ListN.{getD}
 use lib.Seq.{getD-drop}
-use Rattle.write_objects.proofs.Typed.{outside}
+use Rattle.table.proofs.Behind.{outside}
 use borrow.Author.Needs.{needs}
-use Rattle.write_objects.proofs.fields.cell_behind.Statement.{statement}
-use Rattle.write_objects.proofs.fields.cell_behind.Tie as tie
+use Rattle.table.proofs.cells.cell_behind.Statement.{statement}
+use Rattle.table.proofs.cells.cell_behind.Tie as tie
 
 returns : tie.Need-returns
 returns c = let a = c .before .args in outside (a .cells .now) (a .at) (a .by) (omega arith)

@@ -1,14 +1,14 @@
--- `read_polylines::put_point` meets its contract. Assumes nothing.
+-- `table::put_point` meets its contract. Assumes nothing.
 use Prim.Native.Nat.{_<_, _^_}
 use native.Mathlib.Omega.{arith}
 use lib.IntN.{pos}
 use lib.ListN.{getD, length-set}
 use mir.Syntax.{w64}
 use mir.ValLaws.{toZ-pos, toZ-ofZ}
-use Rattle.read_polylines.proofs.PointFields.{two-cells, three-cells, four-stored}
+use Rattle.table.proofs.FourCells.{two-cells, three-cells, four-stored}
 use borrow.Author.Needs.{needs}
-use Rattle.read_polylines.proofs.point_fields.put_point.Statement.{statement}
-use Rattle.read_polylines.proofs.point_fields.put_point.Tie as tie
+use Rattle.table.proofs.points.put_point.Statement.{statement}
+use Rattle.table.proofs.points.put_point.Tie as tie
 
 cast-points : tie.Need-cast-points
 cast-points c = search needs
