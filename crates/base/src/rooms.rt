@@ -1,9 +1,10 @@
-// Lent rooms: clearing them, and putting bytes into them.
+// Lent rooms: clearing them, and putting bytes and numbers into them.
 ghost use mathlib.Core.Path.{_≡_};
-ghost use mathlib.Core.List.{_++_};
+ghost use mathlib.Core.List.{[], _∷_, _++_};
 ghost use Prim.Native.Nat.{_+_, _≤_};
 ghost use lib.IntN.{pos};
-ghost use lib.ListN.{length, take, drop, replicate};
+ghost use lib.ListN.{length, take, drop, set, replicate};
+ghost use Rattle.meaning.specs.Answer.{filled};
 
 pub fn clear(room: &mut [u8])
     ensures { λ _. ⌜ now (room .exit) ≡ replicate (length (now (room .entry))) 0 ⌝ }
@@ -44,4 +45,25 @@ pub fn append(part: &[u8], room: &mut [u8], used: usize) -> usize
 {
     let n = bytes::copy(part, &mut room[used..]);
     used + n
+}
+
+// A number in its place, where the room has it.
+fn put(room: &mut [u64], i: usize, n: u64)
+    ensures { λ _. ⌜ now (room .exit) ≡ set (now (room .entry)) i n ⌝ }
+{
+    if i < room.len() {
+        room[i] = n;
+    }
+}
+
+// Four numbers, or as many as the room has, and zeros behind.
+pub fn put_four(room: &mut [u64], a: u64, b: u64, c: u64, d: u64)
+    ensures { λ _. ⌜ now (room .exit)
+        ≡ take (length (now (room .entry))) (filled 0 (length (now (room .entry))) (a ∷ b ∷ c ∷ d ∷ [])) ⌝ }
+{
+    clear_numbers(room);
+    put(room, 0, a);
+    put(room, 1, b);
+    put(room, 2, c);
+    put(room, 3, d);
 }

@@ -4,7 +4,7 @@ ghost use Prim.Native.Nat.{_≤_};
 ghost use lib.ListN.{length};
 ghost use Rattle.meaning.specs.Answer.{codeForC, numbersIn, firstOf};
 ghost use Rattle.write.specs.Answers.{answerOf};
-use c_answers::put_four;
+use base::rooms::put_four;
 use write::Answer;
 
 // "success gives 0, bytes written, 0, 0"; or a refusal and its place

@@ -1,5 +1,5 @@
 // Lines, and their parts.
-ghost use Prim.Native.Nat.{_≤_, _<_};
+ghost use Prim.Native.Nat.{_<_};
 ghost use lib.ListN.{length};
 use crate::show;
 

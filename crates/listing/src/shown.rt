@@ -1,6 +1,5 @@
 // What is printed: "the answer, then a line of cells per object, then a line per point; after a refusal the answer
 // alone".
-ghost use mathlib.Core.Path.{_≡_};
 ghost use Prim.Native.Nat.{_*_, _<_};
 ghost use lib.ListN.{length};
 use crate::rooms;

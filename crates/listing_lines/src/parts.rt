@@ -4,7 +4,7 @@ ghost use Prim.Native.Nat.{_≤_};
 ghost use lib.ListN.{length};
 ghost use Rattle.meaning.specs.Model.{recordsFrom};
 ghost use Rattle.meaning.specs.Listing.{modelSize};
-use model_check::records;
+use model_records::END;
 
 // "The model goes, record by record, up to its first of kind 6; if there is none, or a record overruns, all is model"
 pub fn model_size(input: &[u8]) -> usize
@@ -12,10 +12,10 @@ pub fn model_size(input: &[u8]) -> usize
     ensures within { λ r. ⌜ r ≤ length (now (input .entry)) ⌝ }
 {
     let mut at = 0;
-    while records::fits_at(input, at) {
-        let kind = records::kind_at(input, at);
-        at = records::next_at(input, at);
-        if kind == 6 {
+    while model_records::fits_at(input, at) {
+        let kind = model_records::kind_at(input, at);
+        at = model_records::next_at(input, at);
+        if kind == END {
             return at;
         }
     }

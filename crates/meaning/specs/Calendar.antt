@@ -8,7 +8,7 @@ use lib.Dec.{leb}
 use lib.IntN.{ℤ, pos, negsuc}
 use lib.ListN.{getD}
 use Rattle.meaning.specs.Bytes.{bytesOf, choose}
-use Rattle.meaning.specs.Answer.{Answer, accepted, refusal}
+use Rattle.meaning.specs.Answer.{accepted, refusal}
 use Rattle.meaning.specs.Value.{isLeapYear, daysOfMonth, isDay}
 use Rattle.meaning.specs.Writing.{Lent}
 use Rattle.meaning.specs.Width.{Written}

@@ -2,13 +2,13 @@
 -- Short names: m the model, c the table so far, s the state, l a line, fs its fields, p a topic's number, t a table's,
 -- i an identification's field.
 use Prim.Native.Nat.{ℕ, _+_, _-_}
-use mathlib.Core.Bool.{Bool, true, false, not, _&&_, _||_}
-use mathlib.Core.List.{List, [], _∷_, _++_}
+use mathlib.Core.Bool.{true, not, _||_}
+use mathlib.Core.List.{List, [], _∷_}
 use lib.Dec.{leb, ltb}
 use lib.IntN.{ℤ, pos}
 use lib.ListN.{length, drop}
 use Rattle.meaning.specs.Bytes.{choose, refuse, same, prefix}
-use Rattle.meaning.specs.Model.{Found, found, missing, Attribute, Model, tableAt}
+use Rattle.meaning.specs.Model.{Found, found, missing, Model, tableAt}
 use Rattle.meaning.specs.Field.{Field, fieldsOf, fieldAt, moreThan, hasCode, SCNT, slashes, MTID, MOTR, MODL}
 use Rattle.meaning.specs.Field.{TOPI, TABL, OBJE, ETAB, ETOP, EMOD, ENDE}
 use Rattle.meaning.specs.Value.{isIdentification, isUndefined, isUndefinedTwice}

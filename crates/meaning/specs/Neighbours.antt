@@ -5,9 +5,8 @@ use Prim.Native.String.{String}
 use mathlib.Core.Path.{_≡_, refl}
 use mathlib.Core.List.{List, [], _∷_, _++_}
 use lib.IntN.{ℤ, pos}
-use lib.ListN.{take}
 use Rattle.meaning.specs.Bytes.{bytesOf}
-use Rattle.meaning.specs.Answer.{Answer, accepted, refusal}
+use Rattle.meaning.specs.Answer.{accepted, refusal}
 use Rattle.meaning.specs.Reading.{Rooms}
 use Rattle.meaning.specs.Table.{Result}
 use Rattle.meaning.specs.Writing.{Lent}

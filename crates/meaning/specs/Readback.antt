@@ -12,7 +12,7 @@ use Rattle.meaning.specs.Unfold.{unfoldedText}
 use Rattle.meaning.specs.Model.{AttributeType, Reference, Coordinate, Number, Text, Date, Enumeration, Line}
 use Rattle.meaning.specs.Model.{Model, tableAt}
 use Rattle.meaning.specs.Row.{Pair, OfAttribute, OfComponent, OfLine, pairsOf}
-use Rattle.meaning.specs.Reading.{Content, State, startOf, Rooms, cellAt}
+use Rattle.meaning.specs.Reading.{Content, startOf, Rooms, cellAt}
 use Rattle.meaning.specs.Lines.{Run, ran, stopped, readLines}
 use Rattle.meaning.specs.Table.{Resolved, resolved, unresolved, resolve}
 use Rattle.meaning.specs.Writing.{Lent, countsFit, contentOf, stretchBytes, identificationBytes, linesOf}

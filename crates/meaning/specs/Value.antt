@@ -1,9 +1,9 @@
 -- Values (01, "Lines and fields" and "The table"): what a defined field means, or why it is refused.
 use Prim.Native.Nat.{ℕ, zero, suc, _+_, _*_, _-_, _%_}
-use mathlib.Core.Bool.{Bool, true, false, not, _&&_, _||_}
+use mathlib.Core.Bool.{Bool, not, _&&_, _||_}
 use mathlib.Core.List.{List, [], _∷_, _++_}
 use lib.Dec.{leb, ltb, eqb}
-use lib.IntN.{ℤ, pos, negsuc, negℤ}
+use lib.IntN.{ℤ, pos, negℤ}
 use lib.Signed.{ltZ}
 use lib.ListN.{length, take, drop}
 use Rattle.meaning.specs.Bytes.{choose, refuse, digit, textByte, every, same, begins, byteAt}

@@ -12,12 +12,12 @@ use Rattle.meaning.specs.Check as check
 use Rattle.meaning.proofs.Model.Models.{model-lists}
 use Rattle.model_records.specs.Records.{recordsAt}
 use Rattle.model_check.specs.References.{topicNumbers, outsideMeant}
-use Rattle.model_check.specs.Walk.{Walked, checkedRecords}
+use Rattle.model_check.specs.Walk.{WalkerHolds, checkedRecords}
 use Rattle.model_check.specs.declared.check.Walker.{Walker}
 use Rattle.model_check.specs.declared.references.Outside.{Outside}
 use Rattle.model_check.specs.declared.references.Outside.the-variants.{At, Nowhere}
 
-module _ (b : List ℕ) (w : Walker) (ps : List ℕ) (k : Walked b w ps) where
+module _ (b : List ℕ) (w : Walker) (ps : List ℕ) (k : WalkerHolds b w ps) where
   ended : (w .before ≡ 6 → ⊥) → (rest : check.Checked) → check.checkRecords 0 check.nothingSeen (recordsAt b 0) rest ≡ check.bad (w .at)
   unfolding refuse
   ended n rest = k .checked rest ∙ rw (ne-eqb (w .before) 6 n)

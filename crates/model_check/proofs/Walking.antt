@@ -8,7 +8,7 @@ use mathlib.Core.List.{List, [], _∷_, _++_, append-assoc, append-nil}
 use lib.Dec.{leb, eqb}
 use lib.ListN.{length, take, drop, set, replicate, length-set}
 use lib.Seq.{take-suc-set, take-set-le, length-take-le}
-use borrow.Author.Tests.{le-leb, lt-leb, leb-true, leb-false, ltb-true, eqb-true}
+use borrow.Author.Tests.{leb-true, leb-false, ltb-true, eqb-true}
 use Rattle.meaning.specs.Bytes.{choose, refuse, u16At}
 use Rattle.meaning.specs.Model.{Records, entry, attributeOf, topicsOf, tablesOf}
 use Rattle.meaning.specs.Check as check
@@ -18,18 +18,10 @@ use Rattle.model_check.specs.Names.{nameOf, namesOf}
 use Rattle.model_check.specs.Records.{nameStart}
 use Rattle.model_records.specs.Records.{recordsAt, payloadAt, nextAt}
 use Rattle.model_check.specs.References.{topicNumbers}
-use Rattle.model_check.specs.Walk.{seenOf, passesAt, advancedOn, Walked}
+use Rattle.model_check.specs.Walk.{seenOf, passesAt, advancedOn, WalkerHolds}
 use Rattle.model_check.specs.declared.check.Walker.{Walker}
 use Rattle.model_check.proofs.Ranges.{both}
 use Rattle.model_check.proofs.Words.{names-kept, names-more, names-length}
-
--- two tests that hold together
-pub leb-same : (a b x y : ℕ) → (a ≤ b → x ≤ y) → (b < a → y < x) → leb a b ≡ leb x y
-leb-same a b x y f g = go (leb a b) refl
-  where
-    go : (t : Bool) → leb a b ≡ t → leb a b ≡ leb x y
-    go true e = e ∙ sym (le-leb x y (f (leb-true a b e)))
-    go false e = e ∙ sym (lt-leb x y (g (leb-false a b e)))
 
 -- ## What holds at each record
 
@@ -214,7 +206,7 @@ module _ (b : List ℕ) (w : Walker) (ts bs cs ps : List ℕ) (i : Walking b w t
   pub stopped : w .at < length b → passesAt b w ts bs cs ≡ false → (rest : check.Checked) → check.checkRecords 0 check.nothingSeen (recordsAt b 0) rest ≡ check.bad (w .at)
   stopped l h rest = sym (i .same rest) ∙ refused (w .before) (w .at) (seenOf b w ts bs cs) rest l h
 
-  pub walked : length b ≤ w .at → Walked b w ps
+  pub walked : length b ≤ w .at → WalkerHolds b w ps
   unfolding check.checkRecords topicsOf tablesOf topicNumbers
   walked l =
       let f = finish-at b (w .at) l in

@@ -92,7 +92,7 @@ checkedRecords model =
     check.checkRecords 0 check.nothingSeen rs (check.judgeReferences (m .tables) (m .tables) (check.good m))
 
 -- a walk to the model's end: all is judged but the end itself and the references
-pub record Walked (model : List ℕ) (w : Walker) (places : List ℕ) : Type 0 where
+pub record WalkerHolds (model : List ℕ) (w : Walker) (places : List ℕ) : Type 0 where
   pub room : w .count ≤ length places
   pub checked : (rest : check.Checked)
       → check.checkRecords 0 check.nothingSeen (recordsAt model 0) rest

@@ -6,7 +6,7 @@ ghost use Rattle.meaning.specs.Answer as meaning;
 ghost use Rattle.meaning.specs.Check.{keeps, keepsTopic, keepsTable};
 ghost use Rattle.model_check.specs.Names.{namesOf};
 ghost use Rattle.model_records.specs.Records.{nextAt};
-ghost use Rattle.model_check.specs.Walk.{seenOf, passesAt, advanced, topicsSeen, tablesSeen, Walked};
+ghost use Rattle.model_check.specs.Walk.{seenOf, passesAt, advanced, topicsSeen, tablesSeen, WalkerHolds};
 ghost use Rattle.model_check.specs.Walk.{checkedRecords, checkedMeant};
 use crate::attributes;
 use crate::names;
@@ -41,111 +41,117 @@ pub struct Walker {
 }
 
 // "3 topic: name, 1 to 24 bytes", "At most 64 topics"
-fn keeps_topic(model: &[u8], p: &[u8], seen: &[usize], count: usize) -> bool
+fn keeps_topic(model: &[u8], payload: &[u8], seen: &[usize], count: usize) -> bool
     requires { ⌜ count ≤ length (now seen) ⌝ }
     ensures { λ r. ⌜ r
-        ≡ keepsTopic (now (p .entry)) (topicsSeen (namesOf (now (model .entry)) (take count (now (seen .entry))))) ⌝ }
+        ≡ keepsTopic (now (payload .entry)) (topicsSeen (namesOf (now (model .entry)) (take count (now (seen .entry))))) ⌝ }
 {
-    names::is_free(model, p, seen, count, count, 64)
+    names::is_free(model, payload, seen, count, count, 64)
 }
 
 // "4 table: optional (0 or 1), name of 1 to 24 bytes", "512 tables"
-fn keeps_table(model: &[u8], p: &[u8], seen: &[usize], count: usize, all: usize) -> bool
+fn keeps_table(model: &[u8], payload: &[u8], seen: &[usize], count: usize, all: usize) -> bool
     requires { ⌜ count ≤ length (now seen) ⌝ }
     ensures { λ r. ⌜ r
-        ≡ keepsTable (now (p .entry))
+        ≡ keepsTable (now (payload .entry))
         (tablesSeen (namesOf (now (model .entry)) (take count (now (seen .entry)))) all) ⌝ }
 {
-    if p.len() == 0 {
+    if payload.len() == 0 {
         return false;
     }
-    let free = names::is_free(model, &p[1..], seen, count, all, 512);
-    bools::both(rules::is_flag(p), free)
+    let free = names::is_free(model, &payload[1..], seen, count, all, 512);
+    bools::both(rules::is_flag(payload), free)
 }
 
 // Does a record of this kind keep the rules, behind what is seen?
 fn keeps_rules(
     model: &[u8],
-    p: &[u8],
+    payload: &[u8],
     kind: u16,
-    w: Walker,
+    walker: Walker,
     topics: &[usize],
     tables: &[usize],
     attributes: &[usize],
 ) -> bool
-    requires { ⌜ w .topics ≤ length (now topics) ⌝ }
-    requires { ⌜ w .tables ≤ length (now tables) ⌝ }
-    requires { ⌜ w .attributes ≤ length (now attributes) ⌝ }
+    requires { ⌜ walker .topics ≤ length (now topics) ⌝ }
+    requires { ⌜ walker .tables ≤ length (now tables) ⌝ }
+    requires { ⌜ walker .attributes ≤ length (now attributes) ⌝ }
     ensures { λ r. ⌜ r
-        ≡ keeps kind (now (p .entry))
-        (seenOf (now (model .entry)) w (now (topics .entry)) (now (tables .entry)) (now (attributes .entry))) ⌝ }
+        ≡ keeps kind (now (payload .entry))
+        (seenOf (now (model .entry)) walker (now (topics .entry)) (now (tables .entry)) (now (attributes .entry))) ⌝ }
 {
     match kind {
-        TRANSFER => rules::keeps_transfer(p),
-        MODEL => rules::is_name(p, 63),
-        TOPIC => keeps_topic(model, p, topics, w.topics),
-        TABLE => keeps_table(model, p, tables, w.tables, w.count),
-        ATTRIBUTE => attributes::keeps_attribute(model, p, attributes, w.attributes),
-        _ => p.len() == 0,
+        TRANSFER => rules::keeps_transfer(payload),
+        MODEL => rules::is_name(payload, 63),
+        TOPIC => keeps_topic(model, payload, topics, walker.topics),
+        TABLE => keeps_table(model, payload, tables, walker.tables, walker.count),
+        ATTRIBUTE => attributes::keeps_attribute(model, payload, attributes, walker.attributes),
+        _ => payload.len() == 0,
     }
 }
 
 // Whether the record at the walker's byte fits, may stand there and keeps the rules.
-fn passes(model: &[u8], w: Walker, topics: &[usize], tables: &[usize], attributes: &[usize]) -> bool
-    requires { ⌜ w .topics ≤ length (now topics) ⌝ }
-    requires { ⌜ w .tables ≤ length (now tables) ⌝ }
-    requires { ⌜ w .attributes ≤ length (now attributes) ⌝ }
+fn passes(
+    model: &[u8],
+    walker: Walker,
+    topics: &[usize],
+    tables: &[usize],
+    attributes: &[usize],
+) -> bool
+    requires { ⌜ walker .topics ≤ length (now topics) ⌝ }
+    requires { ⌜ walker .tables ≤ length (now tables) ⌝ }
+    requires { ⌜ walker .attributes ≤ length (now attributes) ⌝ }
     ensures { λ r. ⌜ r
-        ≡ passesAt (now (model .entry)) w (now (topics .entry)) (now (tables .entry)) (now (attributes .entry)) ⌝ }
+        ≡ passesAt (now (model .entry)) walker (now (topics .entry)) (now (tables .entry)) (now (attributes .entry)) ⌝ }
 {
-    let at = w.at;
-    if records::fits_at(model, at) {
-        let kind = records::kind_at(model, at);
+    let at = walker.at;
+    if model_records::fits_at(model, at) {
+        let kind = model_records::kind_at(model, at);
         let start = at + 4;
-        let end = records::next_at(model, at);
+        let end = model_records::next_at(model, at);
         let kept = keeps_rules(
             model,
             &model[start..end],
             kind,
-            w,
+            walker,
             topics,
             tables,
             attributes,
         );
-        bools::both(rules::may_follow(w.before, kind), kept)
+        bools::both(rules::may_follow(walker.before, kind), kept)
     } else {
         false
     }
 }
 
 // The walker behind the record at its byte.
-fn advance(model: &[u8], w: Walker) -> Walker
-    requires { ⌜ nextAt (now model) (w .at) ≤ length (now model) ⌝ }
-    requires { ⌜ w .topics ≤ 64 ⌝ }
-    requires { ⌜ w .tables ≤ 512 ⌝ }
-    requires { ⌜ w .attributes ≤ 64 ⌝ }
-    requires { ⌜ w .count ≤ 512 ⌝ }
-    ensures { λ r. ⌜ r ≡ advanced (now (model .entry)) w ⌝ }
+fn advance(model: &[u8], walker: Walker) -> Walker
+    requires { ⌜ nextAt (now model) (walker .at) ≤ length (now model) ⌝ }
+    requires { ⌜ walker .topics ≤ 64 ⌝ }
+    requires { ⌜ walker .tables ≤ 512 ⌝ }
+    requires { ⌜ walker .attributes ≤ 64 ⌝ }
+    requires { ⌜ walker .count ≤ 512 ⌝ }
+    ensures { λ r. ⌜ r ≡ advanced (now (model .entry)) walker ⌝ }
 {
-    let mut next = w;
-    let kind = records::kind_at(model, w.at);
-    next.at = records::next_at(model, w.at);
+    let mut next = walker;
+    let kind = model_records::kind_at(model, walker.at);
+    next.at = model_records::next_at(model, walker.at);
     next.before = kind;
     match kind {
         TOPIC => {
-            next.topics = w.topics + 1;
+            next.topics = walker.topics + 1;
             next.tables = 0;
             next.attributes = 0;
             next
         }
         TABLE => {
-            next.tables = w.tables + 1;
+            next.tables = walker.tables + 1;
             next.attributes = 0;
-            next.count = w.count + 1;
+            next.count = walker.count + 1;
             next
         }
         ATTRIBUTE => {
-            next.attributes = w.attributes + 1;
+            next.attributes = walker.attributes + 1;
             next
         }
         _ => next,
@@ -153,16 +159,16 @@ fn advance(model: &[u8], w: Walker) -> Walker
 }
 
 // What the walk's end says: the end record was the last, and no reference lies outside.
-fn finish(model: &[u8], w: Walker, places: &[usize]) -> Checked
-    requires { ⌜ Walked (now model) w (now places) ⌝ }
+fn finish(model: &[u8], walker: Walker, places: &[usize]) -> Checked
+    requires { ⌜ WalkerHolds (now model) walker (now places) ⌝ }
     ensures { λ r. ⌜ checkedMeant r ≡ meaning.checkAnswer (checkedRecords (now (model .entry))) ⌝ }
 {
-    if w.before != END {
-        return Checked::Bad(w.at);
+    if walker.before != END {
+        return Checked::Bad(walker.at);
     }
-    match references::first_outside(model, places, w.count) {
+    match references::first_outside(model, places, walker.count) {
         Outside::At(at) => Checked::Bad(at),
-        Outside::Nowhere => Checked::Good(w.topics),
+        Outside::Nowhere => Checked::Good(walker.topics),
     }
 }
 

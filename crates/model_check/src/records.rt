@@ -1,7 +1,6 @@
 // Records by their byte in the model.
 ghost use mathlib.Core.Path.{_≡_};
 ghost use Prim.Native.Nat.{_+_, _≤_};
-ghost use lib.Dec.{leb};
 ghost use lib.ListN.{length, drop};
 ghost use Rattle.meaning.specs.Bytes.{u16At};
 ghost use Rattle.model_check.specs.Records.{nameStart};
@@ -12,45 +11,14 @@ use model_records::TABLE;
 use model_records::TOPIC;
 use model_records::numbers;
 
-// Whether a record fits the model: its four bytes, and its payload.
-pub fn fits_at(model: &[u8], at: usize) -> bool
-    ensures { λ r. ⌜ r ≡ leb (nextAt (now (model .entry)) at) (length (now (model .entry))) ⌝ }
-{
-    let n = model.len();
-    if n < 4 {
-        return false;
-    }
-    let last = n - 4;
-    if last < at {
-        return false;
-    }
-    numbers::u16_at(model, at) as usize <= last - at
-}
-
-// The kind of a record.
-pub fn kind_at(model: &[u8], at: usize) -> u16
-    requires { ⌜ nextAt (now model) at ≤ length (now model) ⌝ }
-    ensures { λ r. ⌜ r ≡ u16At (now (model .entry)) (at + 2) ⌝ }
-{
-    numbers::u16_at(model, at + 2)
-}
-
-// The byte of the next record.
-pub fn next_at(model: &[u8], at: usize) -> usize
-    requires { ⌜ nextAt (now model) at ≤ length (now model) ⌝ }
-    ensures { λ r. ⌜ r ≡ nextAt (now (model .entry)) at ⌝ }
-{
-    at + 4 + numbers::u16_at(model, at) as usize
-}
-
 // Where the name begins in the payload of a topic, a table or an attribute.
-fn name_start(p: &[u8], kind: u16) -> usize
-    ensures { λ r. ⌜ r ≡ nameStart kind (now (p .entry)) ⌝ }
+fn name_start(payload: &[u8], kind: u16) -> usize
+    ensures { λ r. ⌜ r ≡ nameStart kind (now (payload .entry)) ⌝ }
 {
     match kind {
         TOPIC => 0,
         TABLE => 1,
-        _ => attributes::parameters_end(p),
+        _ => attributes::parameters_end(payload),
     }
 }
 
@@ -62,9 +30,9 @@ pub(crate) fn name_at(model: &[u8], at: usize) -> usize
         ≡ drop (nameStart (u16At (now (model .entry)) (at + 2)) (payloadAt (now (model .entry)) at))
         (payloadAt (now (model .entry)) at) ⌝ }
 {
-    let kind = kind_at(model, at);
+    let kind = model_records::kind_at(model, at);
     let start = at + 4;
-    let end = next_at(model, at);
+    let end = model_records::next_at(model, at);
     let from = name_start(&model[start..end], kind);
     let size = end - start;
     if size <= from {

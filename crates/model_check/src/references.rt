@@ -8,7 +8,6 @@ ghost use Rattle.meaning.specs.Model.{Table, found, tablesOf, typeOf, targetOf}
 ghost use Rattle.meaning.specs.Check.{Checked, judgeReferences, isOutside};
 ghost use Rattle.model_records.specs.Records.{recordsAt, nextAt};
 ghost use Rattle.model_check.specs.References.{topicNumbers, outsideMeant, judges, judged};
-use crate::records;
 use model_records::ATTRIBUTE;
 use model_records::REFERENCE;
 use model_records::TABLE;
@@ -37,65 +36,65 @@ pub(crate) fn less_one(n: usize) -> usize
 }
 
 // Whether a table is not there, or not in this topic.
-fn is_foreign(places: &[usize], tables: usize, t: usize, topic: usize) -> bool
+fn is_foreign(places: &[usize], tables: usize, table: usize, topic: usize) -> bool
     requires { ⌜ tables ≤ length (now places) ⌝ }
     ensures { λ r. ⌜
-        ((ts : List Table) → topicNumbers ts ≡ take tables (now (places .entry)) → r ≡ isOutside ts topic (found t)) ⌝ }
+        ((ts : List Table) → topicNumbers ts ≡ take tables (now (places .entry)) → r ≡ isOutside ts topic (found table)) ⌝ }
 {
-    if tables <= t {
+    if tables <= table {
         return true;
     }
-    places[t] != topic
+    places[table] != topic
 }
 
 // Whether a payload is that of a reference outside.
-fn refers_outside(p: &[u8], places: &[usize], tables: usize, topic: usize) -> bool
+fn refers_outside(payload: &[u8], places: &[usize], tables: usize, topic: usize) -> bool
     requires { ⌜ tables ≤ length (now places) ⌝ }
     ensures { λ r. ⌜
         ((ts : List Table) → topicNumbers ts ≡ take tables (now (places .entry))
-        → r ≡ isOutside ts topic (targetOf (typeOf (byteAt (now (p .entry)) 1) (drop 2 (now (p .entry)))))) ⌝ }
+        → r ≡ isOutside ts topic (targetOf (typeOf (byteAt (now (payload .entry)) 1) (drop 2 (now (payload .entry)))))) ⌝ }
 {
-    if numbers::byte_at(p, 1) != REFERENCE {
+    if numbers::byte_at(payload, 1) != REFERENCE {
         return false;
     }
-    let low = numbers::byte_at(p, 2) as usize;
-    let high = numbers::byte_at(p, 3) as usize;
+    let low = numbers::byte_at(payload, 2) as usize;
+    let high = numbers::byte_at(payload, 3) as usize;
     is_foreign(places, tables, low + 256 * high, topic)
 }
 
 // Whether the record where the judging stands is an attribute that refers outside.
-fn is_bad(model: &[u8], j: Judge, places: &[usize], tables: usize) -> bool
+fn is_bad(model: &[u8], judge: Judge, places: &[usize], tables: usize) -> bool
     requires { ⌜ tables ≤ length (now places) ⌝ }
-    requires { ⌜ nextAt (now model) (j .at) ≤ length (now model) ⌝ }
+    requires { ⌜ nextAt (now model) (judge .at) ≤ length (now model) ⌝ }
     ensures { λ r. ⌜
         ((ts : List Table) → topicNumbers ts ≡ take tables (now (places .entry))
-        → r ≡ judges ts (now (model .entry)) j) ⌝ }
+        → r ≡ judges ts (now (model .entry)) judge) ⌝ }
 {
-    let at = j.at;
-    if records::kind_at(model, at) != ATTRIBUTE {
+    let at = judge.at;
+    if model_records::kind_at(model, at) != ATTRIBUTE {
         return false;
     }
-    if j.inside {
+    if judge.inside {
         let start = at + 4;
-        let end = records::next_at(model, at);
-        refers_outside(&model[start..end], places, tables, less_one(j.topics))
+        let end = model_records::next_at(model, at);
+        refers_outside(&model[start..end], places, tables, less_one(judge.topics))
     } else {
         false
     }
 }
 
 // The judging behind the record where it stands.
-fn go_on(model: &[u8], j: Judge) -> Judge
-    requires { ⌜ nextAt (now model) (j .at) ≤ length (now model) ⌝ }
-    requires { ⌜ j .topics ≤ j .at ⌝ }
-    ensures { λ r. ⌜ r ≡ judged (now (model .entry)) j ⌝ }
+fn go_on(model: &[u8], judge: Judge) -> Judge
+    requires { ⌜ nextAt (now model) (judge .at) ≤ length (now model) ⌝ }
+    requires { ⌜ judge .topics ≤ judge .at ⌝ }
+    ensures { λ r. ⌜ r ≡ judged (now (model .entry)) judge ⌝ }
 {
-    let mut next = j;
-    let kind = records::kind_at(model, j.at);
-    next.at = records::next_at(model, j.at);
+    let mut next = judge;
+    let kind = model_records::kind_at(model, judge.at);
+    next.at = model_records::next_at(model, judge.at);
     match kind {
         TOPIC => {
-            next.topics = j.topics + 1;
+            next.topics = judge.topics + 1;
             next.inside = false;
             next
         }
@@ -123,7 +122,7 @@ pub(crate) fn first_outside(model: &[u8], places: &[usize], tables: usize) -> Ou
         topics: 0,
         inside: false,
     };
-    while records::fits_at(model, j.at) {
+    while model_records::fits_at(model, j.at) {
         if is_bad(model, j, places, tables) {
             return Outside::At(j.at);
         }

@@ -67,10 +67,14 @@ pub(crate) fn is_name(n: &[u8], longest: usize) -> bool
 }
 
 // "optional (0 or 1)"
-pub(crate) fn is_flag(p: &[u8]) -> bool
-    ensures { λ r. ⌜ r ≡ isFlag (now (p .entry)) ⌝ }
+pub(crate) fn is_flag(payload: &[u8]) -> bool
+    ensures { λ r. ⌜ r ≡ isFlag (now (payload .entry)) ⌝ }
 {
-    if p.len() == 0 { false } else { p[0] <= 1 }
+    if payload.len() == 0 {
+        false
+    } else {
+        payload[0] <= 1
+    }
 }
 
 // "Bounds lie strictly between -10^18 and 10^18"
@@ -91,23 +95,23 @@ fn is_ordered(least: i64, greatest: i64) -> bool
     if greatest < least { false } else { true }
 }
 
-pub(crate) fn is_component(c: Component) -> bool
-    ensures { λ r. ⌜ r ≡ goodComponent (componentOf c) ⌝ }
+pub(crate) fn is_component(component: Component) -> bool
+    ensures { λ r. ⌜ r ≡ goodComponent (componentOf component) ⌝ }
 {
-    let shown = c.decimals <= 9;
-    let ordered = is_ordered(c.least, c.greatest);
-    let inside = bools::both(is_bound(c.greatest), ordered);
-    bools::both(shown, bools::both(is_bound(c.least), inside))
+    let shown = component.decimals <= 9;
+    let ordered = is_ordered(component.least, component.greatest);
+    let inside = bools::both(is_bound(component.greatest), ordered);
+    bools::both(shown, bools::both(is_bound(component.least), inside))
 }
 
 // Whether each of the components is good.
-pub(crate) fn are_components(c: Components) -> bool
-    requires { ⌜ c .count ≤ 3 ⌝ }
-    requires { ⌜ length (c .items) ≡ 3 ⌝ }
-    ensures { λ r. ⌜ r ≡ goodComponents (componentsOf c) ⌝ }
+pub(crate) fn are_components(components: Components) -> bool
+    requires { ⌜ components .count ≤ 3 ⌝ }
+    requires { ⌜ length (components .items) ≡ 3 ⌝ }
+    ensures { λ r. ⌜ r ≡ goodComponents (componentsOf components) ⌝ }
 {
-    let items = c.items;
-    let count = c.count;
+    let items = components.items;
+    let count = components.count;
     let mut all = true;
     let mut i = 0;
     while i < count {
@@ -126,15 +130,15 @@ fn are_different(a: u8, b: u8, c: u8) -> bool
 }
 
 // "1 transfer: blank, undefined and continuation byte, then a name of 1 to 63 bytes"
-pub(crate) fn keeps_transfer(p: &[u8]) -> bool
-    ensures { λ r. ⌜ r ≡ keepsTransfer (now (p .entry)) ⌝ }
+pub(crate) fn keeps_transfer(payload: &[u8]) -> bool
+    ensures { λ r. ⌜ r ≡ keepsTransfer (now (payload .entry)) ⌝ }
 {
-    if p.len() < 4 {
+    if payload.len() < 4 {
         return false;
     }
-    let name = is_name(&p[3..], 63);
-    let rest = bools::both(are_different(p[0], p[1], p[2]), name);
-    are_special(p[0], p[1], p[2], rest)
+    let name = is_name(&payload[3..], 63);
+    let rest = bools::both(are_different(payload[0], payload[1], payload[2]), name);
+    are_special(payload[0], payload[1], payload[2], rest)
 }
 
 // Three special bytes, and one more test.

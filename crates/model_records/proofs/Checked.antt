@@ -10,7 +10,7 @@ use lib.ListN.{length}
 use borrow.Author.Tests.{eqb-true, leb-true, leb-false, not-false, ne-eqb}
 use Rattle.meaning.specs.Bytes.{refuse}
 use Rattle.meaning.specs.Model.{Records, finish, overrun, entry, Model, tablesOf, topicsOf, modelOf}
-use Rattle.meaning.specs.Check.{Seen, Checked, good, bad, nothingSeen, keeps, see, follows, followsTransfer, checkRecords, checkModel}
+use Rattle.meaning.specs.Check.{Seen, Checked, good, nothingSeen, keeps, see, follows, followsTransfer, checkRecords, checkModel}
 use Rattle.meaning.proofs.Unfolding.Cuts.{both}
 use Rattle.meaning.proofs.Model.Marks.{bad-good, passed, references-good, rest-good}
 use Rattle.meaning.proofs.Model.Records.{entry-at, overrun-at, finish-at}

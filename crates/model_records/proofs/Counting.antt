@@ -12,7 +12,7 @@ use Rattle.meaning.specs.Row.{Pair, componentPairs, pairsOfType, pairsOf}
 use Rattle.model_records.specs.Records.{kindAt, payloadAt, nextAt, pairsAt}
 use Rattle.model_records.specs.AtRecord.{AtRecord, AttributeHere, AttributeNext, AttributesHere}
 use Rattle.model_records.specs.Attributes as means
-use Rattle.model_records.specs.Attributes.{Sized, Decoded}
+use Rattle.model_records.specs.Attributes.{ParametersFit, RecordAttribute}
 use Rattle.model_records.specs.declared.Attribute.{Attribute}
 use Rattle.model_records.specs.Counts.{fieldsOf, pairCount, CountsOf}
 use Rattle.model_records.proofs.AtRecord.{attribute-here, no-attribute}
@@ -21,7 +21,7 @@ use Rattle.model_records.proofs.Types.{sized, type-at, parts-room}
 -- ## By the number of its type
 
 -- no more fields than pairs, and a pair at least
-few : (t : ℕ) (q : List ℕ) → Sized t q → (fieldsOf t ≤ pairCount t) × (1 ≤ pairCount t)
+few : (t : ℕ) (q : List ℕ) → ParametersFit t q → (fieldsOf t ≤ pairCount t) × (1 ≤ pairCount t)
 unfolding fieldsOf pairCount choose
 few zero q s = (omega arith, omega arith)
 few (suc zero) q s = (omega arith, omega arith)
@@ -35,7 +35,7 @@ few (suc (suc (suc (suc (suc (suc (suc (suc zero)))))))) q s = (omega arith, ome
 few (suc (suc (suc (suc (suc (suc (suc (suc (suc t))))))))) q s = absurd (omega (arith, s .most))
 
 module _ (o : Bool) (q : List ℕ) (ps : List Pair) where
-  count-type : (t : ℕ) → Sized t q → length (pairsOfType o (typeOf t q) ++ ps) ≡ pairCount t + length ps
+  count-type : (t : ℕ) → ParametersFit t q → length (pairsOfType o (typeOf t q) ++ ps) ≡ pairCount t + length ps
   unfolding pairsOfType componentPairs typeOf componentsOf pairCount choose
   count-type zero s = absurd (omega (arith, s .least))
   count-type (suc zero) s = omega arith
@@ -65,7 +65,7 @@ module _ (m : Model) (b : List ℕ) (at k t : ℕ) (a : AttributeNext m b at k t
 
 -- ## The attribute that is decoded
 
-module _ (b : List ℕ) (at : ℕ) (a : Attribute) (h : AttributeHere b at) (d : Decoded b at a) where
+module _ (b : List ℕ) (at : ℕ) (a : Attribute) (h : AttributeHere b at) (d : RecordAttribute b at a) where
   pub own-count : length (pairsOfType (a .optional) (means.typeOf a)) ≡ pairCount (a .kind)
   unfolding attributeOf
   own-count =

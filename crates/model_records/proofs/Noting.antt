@@ -5,16 +5,16 @@ use mathlib.Core.Path.{_≡_, refl, sym, ap, _∙_}
 use mathlib.Core.Bool.{Bool, true, false}
 use mathlib.Core.List.{List}
 use lib.Dec.{eqb}
-use lib.ListN.{length, getD, set, length-set}
+use lib.ListN.{length, set, length-set}
 use lib.Seq.{getD-set-same, getD-set-other}
-use borrow.Author.Tests.{eqb-true, eqb-false, ne-eqb}
+use borrow.Author.Tests.{eqb-true, eqb-false}
 use Rattle.meaning.specs.Bytes.{choose}
 use Rattle.meaning.specs.Model.{Model, Table, tableAt}
 use Rattle.model_records.specs.Records.{kindAt, nextAt}
 use Rattle.model_records.specs.AtRecord.{AtRecord, RecordFits}
-use Rattle.model_records.specs.Places.{topicPlace, tablePlace, topicOf, notedBy, RecordPassed, TopicRecord, TableRecord, Noted}
+use Rattle.model_records.specs.Places.{topicPlace, tablePlace, topicOf, notedBy, RecordPassed, TopicRecord, TableRecord, RecordsNoted}
 use Rattle.model_records.specs.declared.places.RecordCursor.{RecordCursor}
-use Rattle.model_records.proofs.AtRecord.{here, topic-here, table-here, attribute-here, not-others}
+use Rattle.model_records.proofs.AtRecord.{here, topic-here, table-here, attribute-here}
 
 -- ## One record
 
@@ -39,8 +39,8 @@ module _ (m : Model) (b : List ℕ) (s : RecordCursor) (h : AtRecord m b (s .at)
 
 -- ## Noting
 
-module _ (m : Model) (b places : List ℕ) (k n : ℕ) (old : Noted m b places k n) where
-  pub noted-topic : (at : ℕ) → k < 64 → TopicRecord m b k at → Noted m b (set places k at) (k + 1) n
+module _ (m : Model) (b places : List ℕ) (k n : ℕ) (old : RecordsNoted m b places k n) where
+  pub noted-topic : (at : ℕ) → k < 64 → TopicRecord m b k at → RecordsNoted m b (set places k at) (k + 1) n
   noted-topic at l q = record {
     room = length-set places k at ∙ old .room;
     topic = λ p a. topic p a (eqb p k) refl;
@@ -53,7 +53,7 @@ module _ (m : Model) (b places : List ℕ) (k n : ℕ) (old : Noted m b places k
       topic p a false e = let other : p ≡ k → ⊥ = eqb-false p k e in rw (getD-set-other places k p at 0 other) (old .topic p (omega (arith, other)))
 
   pub noted-table : (at owner : ℕ) → k ≤ 64 → n < 512 → TableRecord m b n at → owner ≡ tableAt (m .tables) n .topic
-      → Noted m b (set (set places (64 + n) at) (576 + n) owner) k (n + 1)
+      → RecordsNoted m b (set (set places (64 + n) at) (576 + n) owner) k (n + 1)
   noted-table at owner l f q o = record {
     room = length-set (set places (64 + n) at) (576 + n) owner ∙ length-set places (64 + n) at ∙ old .room;
     topic = λ p a. rw (getD-set-other (set places (64 + n) at) (576 + n) p owner 0 (λ w. absurd (omega arith)), getD-set-other places (64 + n) p at 0 (λ w. absurd (omega arith))) (old .topic p a);
@@ -106,11 +106,11 @@ module _ (m : Model) (b : List ℕ) (s : RecordCursor) (h : AtRecord m b (s .at)
   pub table-room : kindAt b (s .at) ≡ 4 → (s .tables < 512) × (1 ≤ s .topics)
   table-room e = let t = table-here m b _ _ _ h e in (omega (arith, t .inside), t .begun)
 
-  pub noted-on : (places : List ℕ) (r : RecordCursor) → Noted m b places (s .topics) (s .tables) → RecordPassed m b s r → Noted m b (notedBy (kindAt b (s .at)) s places) (r .topics) (r .tables)
+  pub noted-on : (places : List ℕ) (r : RecordCursor) → RecordsNoted m b places (s .topics) (s .tables) → RecordPassed m b s r → RecordsNoted m b (notedBy (kindAt b (s .at)) s places) (r .topics) (r .tables)
   unfolding notedBy choose
   noted-on places r old p = go (eqb (kindAt b (s .at)) 3) refl (eqb (kindAt b (s .at)) 4) refl
     where
-      go : (x : Bool) → eqb (kindAt b (s .at)) 3 ≡ x → (y : Bool) → eqb (kindAt b (s .at)) 4 ≡ y → Noted m b (notedBy (kindAt b (s .at)) s places) (r .topics) (r .tables)
+      go : (x : Bool) → eqb (kindAt b (s .at)) 3 ≡ x → (y : Bool) → eqb (kindAt b (s .at)) 4 ≡ y → RecordsNoted m b (notedBy (kindAt b (s .at)) s places) (r .topics) (r .tables)
       go true e y f =
           let k = eqb-true (kindAt b (s .at)) 3 e in
           let u : r .topics ≡ s .topics + 1 = rw k at (p .topics) in

@@ -17,7 +17,7 @@ use Rattle.model_records.specs.Components.{componentOf, componentsOf, li
 use Rattle.model_records.specs.declared.Attribute.{Attribute}
 use Rattle.model_records.specs.ComponentsAre.{ComponentsAre}
 use Rattle.model_records.specs.Records.{payloadAt, nextAt}
-use Rattle.model_records.specs.Attributes.{typeOf, numberOf, countOf, startOf, Sized, Decoded}
+use Rattle.model_records.specs.Attributes.{typeOf, numberOf, countOf, startOf, ParametersFit, PayloadAttribute, RecordAttribute}
 use Rattle.model_records.specs.AtRecord.{AttributeHere}
 use Rattle.meaning.proofs.Tests.Refuse.{holds}
 
@@ -55,7 +55,7 @@ named longest [] h = absurd (false≢true h)
 named longest (b ∷ n) h = omega arith
 
 -- the type of a good attribute record is one of 1 to 8, and its parameters are all there
-pub sized : (b : List ℕ) (at : ℕ) → AttributeHere b at → Sized (byteAt (payloadAt b at) 1) (drop 2 (payloadAt b at))
+pub sized : (b : List ℕ) (at : ℕ) → AttributeHere b at → ParametersFit (byteAt (payloadAt b at) 1) (drop 2 (payloadAt b at))
 unfolding meaning.attributeOf isType
 sized b at h =
     let p : List ℕ = payloadAt b at in
@@ -67,23 +67,22 @@ sized b at h =
 
 -- where its parts lie among the model's bytes
 module _ (b : List ℕ) (at : ℕ) (h : AttributeHere b at) where
-  pub parts-room : at + 6 ≤ nextAt b at
+  pub payload-least : 2 ≤ length (payloadAt b at)
   unfolding meaning.attributeOf
-  parts-room =
+  payload-least =
       let p : List ℕ = payloadAt b at in
       let l = named 24 _ (h .name) in
       let d = length-drop (2 + meaning.parametersSize (byteAt p 1) (drop 2 p)) p in
-      omega (arith, payload-room b at 2 (omega arith))
+      omega arith
 
-  pub flag-at : eqb (byteAt b (at + 4)) 1 ≡ meaning.flagOf (payloadAt b at)
-  unfolding meaning.flagOf
-  flag-at = let e : at + 4 + 0 ≡ at + 4 = omega arith in sym (rw e at (ap (λ (x : ℕ). eqb x 1) (payload-byte b at 0 (omega (arith, parts-room)))))
+  pub parts-room : at + 6 ≤ nextAt b at
+  parts-room = omega (arith, payload-room b at 2 payload-least)
 
   pub type-at : byteAt b (at + 5) ≡ byteAt (payloadAt b at) 1
   type-at = let e : at + 4 + 1 ≡ at + 5 = omega arith in sym (rw e at (payload-byte b at 1 (omega (arith, parts-room))))
 
-  pub parameters-at : (next : ℕ) → next ≡ nextAt b at → take (next - (at + 6)) (drop (at + 6) b) ≡ drop 2 (payloadAt b at)
-  parameters-at next e = rw e (payload-part b at 2 (at + 6) (omega arith))
+  pub payload-at : (next : ℕ) → next ≡ nextAt b at → take (next - (at + 4)) (drop (at + 4) b) ≡ payloadAt b at
+  payload-at next e = rw e (payload-part b at 0 (at + 4) (omega arith))
 
 dimension-is : (x : Bool) → isDimension (choose x 3 2) ≡ true
 unfolding isDimension choose
@@ -97,16 +96,16 @@ dimension-most false = omega arith
 
 module _ (q : List ℕ) where
   -- a number or a word is there
-  pub word-size : (t : ℕ) → (t ≡ 1) ⊎ ((t ≡ 5) ⊎ (t ≡ 7)) → Sized t q → 2 ≤ length q
+  pub word-size : (t : ℕ) → (t ≡ 1) ⊎ ((t ≡ 5) ⊎ (t ≡ 7)) → ParametersFit t q → 2 ≤ length q
   unfolding meaning.parametersSize choose
   word-size t e s = ⊎-elim (λ o. rw o at (s .room)) (λ f. ⊎-elim (λ o. rw o at (s .room)) (λ o. rw o at (s .room)) f) e
 
-  pub line-size : (t : ℕ) → t ≡ 8 → Sized t q → 2 + 17 * meaning.dimensionOf q ≤ length q
+  pub line-size : (t : ℕ) → t ≡ 8 → ParametersFit t q → 2 + 17 * meaning.dimensionOf q ≤ length q
   unfolding meaning.parametersSize choose
   line-size t e s = rw e at (s .room)
 
   -- the components are there
-  pub components-fit : (t : ℕ) → Sized t q → (startOf t + 17 * countOf t q ≤ length q) × (countOf t q ≤ 3)
+  pub components-fit : (t : ℕ) → ParametersFit t q → (startOf t + 17 * countOf t q ≤ length q) × (countOf t q ≤ 3)
   unfolding meaning.parametersSize meaning.dimensionOf countOf startOf choose
   components-fit zero s = absurd (omega (arith, s .least))
   components-fit (suc zero) s = (omega arith, omega arith)
@@ -126,7 +125,7 @@ first-is [] d c e = absurd (nil-cons c [] e)
 first-is (x ∷ cs) d c e = cc
 
 -- what is decoded means the type
-pub meant : (q : List ℕ) (t : ℕ) (a : Attribute) → a .kind ≡ t → a .number ≡ numberOf t q → ComponentsAre (drop (startOf t) q) (countOf t q) (a .components) → Sized t q
+pub meant : (q : List ℕ) (t : ℕ) (a : Attribute) → a .kind ≡ t → a .number ≡ numberOf t q → ComponentsAre (drop (startOf t) q) (countOf t q) (a .components) → ParametersFit t q
     → typeOf a ≡ meaning.typeOf t q
 unfolding typeOf meaning.typeOf meaning.componentsOf numberOf countOf startOf choose
 meant q zero a k n h s = absurd (omega (arith, s .least))
@@ -140,30 +139,34 @@ meant q (suc (suc (suc (suc (suc (suc (suc zero))))))) a k n h s = rw (k, n)
 meant q (suc (suc (suc (suc (suc (suc (suc (suc zero)))))))) a k n h s = rw (k, n, h .meant)
 meant q (suc (suc (suc (suc (suc (suc (suc (suc (suc n'))))))))) a k n h s = absurd (omega (arith, s .most))
 
--- the attribute of a record, from what is read of it
-pub decoded : (b : List ℕ) (at : ℕ) (a : Attribute) → AttributeHere b at → a .optional ≡ meaning.flagOf (payloadAt b at) → a .kind ≡ byteAt (payloadAt b at) 1
-    → a .number ≡ numberOf (byteAt (payloadAt b at) 1) (drop 2 (payloadAt b at))
-    → ComponentsAre (drop (startOf (byteAt (payloadAt b at) 1)) (drop 2 (payloadAt b at))) (countOf (byteAt (payloadAt b at) 1) (drop 2 (payloadAt b at))) (a .components)
-    → Decoded b at a
+-- the attribute of a payload, from what is read of it
+pub payload-attribute : (p : List ℕ) (a : Attribute) → ParametersFit (byteAt p 1) (drop 2 p) → a .optional ≡ meaning.flagOf p → a .kind ≡ byteAt p 1
+    → a .number ≡ numberOf (byteAt p 1) (drop 2 p) → ComponentsAre (drop (startOf (byteAt p 1)) (drop 2 p)) (countOf (byteAt p 1) (drop 2 p)) (a .components)
+    → PayloadAttribute p a
+payload-attribute p a s o k n c =
+    record { type = meant (drop 2 p) (byteAt p 1) a k n c s; optional = o; kind = k; room = c .room; count = c .count }
+
+-- the attribute of a record, from that of its payload
+pub decoded : (b : List ℕ) (at : ℕ) (a : Attribute) → AttributeHere b at → PayloadAttribute (payloadAt b at) a → RecordAttribute b at a
 unfolding meaning.attributeOf isType countOf meaning.dimensionOf choose
-decoded b at a h o k n c =
+decoded b at a h r =
     let q : List ℕ = drop 2 (payloadAt b at) in
     let t : ℕ = byteAt (payloadAt b at) 1 in
     let s = sized b at h in
-    let e : typeOf a ≡ meaning.typeOf t q = meant q t a k n c s in
+    let k = r .kind in
     record {
-      type = e;
-      optional = o;
+      type = r .type;
+      optional = r .optional;
       kind = k;
       least = omega (arith, s .least);
       most = omega (arith, s .most);
-      good = rw e (holds _ 3 (h .type));
-      room = c .room;
-      two = λ f. rw (sym k ∙ f) at (c .count);
-      three = λ f. rw (sym k ∙ f) at (c .count);
-      single = λ f. rw (sym k ∙ f) at (c .count);
-      line = λ f. rw (rw (sym k ∙ f) at (c .count)) (dimension-is (eqb (byteAt q 1) 3));
-      count = omega (arith, c .count, components-fit q t s .1);
+      good = rw (r .type) (holds _ 3 (h .type));
+      room = r .room;
+      two = λ f. rw (sym k ∙ f) at (r .count);
+      three = λ f. rw (sym k ∙ f) at (r .count);
+      single = λ f. rw (sym k ∙ f) at (r .count);
+      line = λ f. rw (rw (sym k ∙ f) at (r .count)) (dimension-is (eqb (byteAt q 1) 3));
+      count = omega (arith, r .count, components-fit q t s .1);
     }
 
 -- ## A type by its number

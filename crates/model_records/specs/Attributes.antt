@@ -5,10 +5,11 @@ use mathlib.Core.Bool.{true, _||_}
 use mathlib.Core.List.{List}
 use lib.Dec.{eqb}
 use lib.IntN.{pos}
-use lib.ListN.{length, getD}
+use lib.ListN.{length, getD, drop}
 use Rattle.meaning.specs.Bytes.{choose, byteAt, u16At}
 use Rattle.meaning.specs.Model.{AttributeType, Reference, Coordinate, Number, Text, Date, Enumeration, Line}
-use Rattle.meaning.specs.Model.{attributeOf, dimensionOf, parametersSize}
+use Rattle.meaning.specs.Model.{attributeOf, dimensionOf, flagOf, parametersSize}
+use Rattle.meaning.specs.Model as meaning
 use Rattle.meaning.specs.Check.{goodType, isDimension}
 use Rattle.model_records.specs.declared.Component.{Component}
 use Rattle.model_records.specs.Components.{componentOf, componentsOf}
@@ -54,15 +55,23 @@ unfoldable pub startOf : (t : ℕ) → ℕ
 startOf t = choose (eqb t 8) 2 0
 
 -- the type is one of 1 to 8, and its parameters are all there
-pub record Sized (t : ℕ) (q : List ℕ) : Type 0 where
+pub record ParametersFit (t : ℕ) (q : List ℕ) : Type 0 where
   pub least : 1 ≤ t
   pub most : t ≤ 8
   pub room : parametersSize t q ≤ length q
 
 -- ## What is decoded
 
+-- a is the attribute of the payload p
+pub record PayloadAttribute (p : List ℕ) (a : Attribute) : Type 0 where
+  pub type : typeOf a ≡ meaning.typeOf (byteAt p 1) (drop 2 p)
+  pub optional : a .optional ≡ flagOf p
+  pub kind : a .kind ≡ byteAt p 1
+  pub room : length (a .components .items) ≡ 3
+  pub count : a .components .count ≡ countOf (byteAt p 1) (drop 2 p)
+
 -- a is the attribute of the record at a byte; a count of components belongs to its kind
-pub record Decoded (b : List ℕ) (at : ℕ) (a : Attribute) : Type 0 where
+pub record RecordAttribute (b : List ℕ) (at : ℕ) (a : Attribute) : Type 0 where
   pub type : typeOf a ≡ attributeOf at (payloadAt b at) .type
   pub optional : a .optional ≡ attributeOf at (payloadAt b at) .optional
   pub kind : a .kind ≡ byteAt (payloadAt b at) 1

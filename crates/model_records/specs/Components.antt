@@ -1,5 +1,4 @@
 -- What the structs of this crate mean: a component, and the list of an attribute's components.
-use Prim.Native.Nat.{ℕ}
 use mathlib.Core.List.{List, [], _∷_}
 use lib.ListN.{take}
 use Rattle.meaning.specs.Model as meaning

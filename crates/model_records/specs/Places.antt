@@ -61,14 +61,14 @@ pub record TableRecord (m : Model) (b : List ℕ) (t at : ℕ) : Type 0 where
   pub standing : AtRecord m b (nextAt b at) (tableAt (m .tables) t .topic + 1) (t + 1)
 
 -- of the first k topics and the first n tables
-pub record Noted (m : Model) (b places : List ℕ) (k n : ℕ) : Type 0 where
+pub record RecordsNoted (m : Model) (b places : List ℕ) (k n : ℕ) : Type 0 where
   pub room : length places ≡ 1088
   pub topic : (p : ℕ) → p < k → TopicRecord m b p (topicPlace places p)
   pub table : (t : ℕ) → t < n → TableRecord m b t (tablePlace places t)
   pub owner : (t : ℕ) → t < n → topicOf places t ≡ tableAt (m .tables) t .topic
 
 -- a good model's bytes, with its shape and its places
-pub record Placed (b : List ℕ) (s : Shape) (places : List ℕ) : Type 0 where
+pub record RecordsPlaced (b : List ℕ) (s : Shape) (places : List ℕ) : Type 0 where
   pub good : checkModel b ≡ good (modelAt b)
   pub topics : s .topics ≡ length (modelAt b .topics)
   pub tables : s .tables ≡ length (modelAt b .tables)
@@ -76,4 +76,4 @@ pub record Placed (b : List ℕ) (s : Shape) (places : List ℕ) : Type 0 where
   pub tableLimit : s .tables ≤ 512
   pub undefined : s .undefined ≡ modelAt b .undefined
   pub mark : s .mark ≡ modelAt b .mark
-  pub noted : Noted (modelAt b) b places (s .topics) (s .tables)
+  pub noted : RecordsNoted (modelAt b) b places (s .topics) (s .tables)

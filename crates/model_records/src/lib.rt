@@ -2,13 +2,13 @@
 ghost use mathlib.Core.Path.{_≡_};
 ghost use Prim.Native.Nat.{_+_, _≤_};
 ghost use lib.ListN.{length, drop};
-ghost use Rattle.meaning.specs.Bytes.{choose};
-ghost use lib.Dec.{eqb};
+ghost use Rattle.meaning.specs.Bytes.{choose, byteAt};
+ghost use lib.Dec.{eqb, leb};
 ghost use Rattle.meaning.specs.Model.{flagOf};
 ghost use Rattle.meaning.specs.Check.{good, checkModel};
 ghost use Rattle.model_records.specs.Records.{kindAt, payloadAt, nextAt, modelAt};
 ghost use Rattle.model_records.specs.ComponentsAre.{ComponentsAre};
-ghost use Rattle.model_records.specs.Attributes.{numberOf, countOf, startOf, Sized, Decoded};
+ghost use Rattle.model_records.specs.Attributes.{numberOf, countOf, startOf, ParametersFit, PayloadAttribute, RecordAttribute};
 ghost use Rattle.model_records.specs.AtRecord.{AttributeHere};
 
 pub mod counts;
@@ -66,6 +66,21 @@ pub struct Attribute {
     pub components: Components,
 }
 
+// Whether a record at a byte fits the model: its four bytes, and its payload.
+pub fn fits_at(model: &[u8], at: usize) -> bool
+    ensures { λ r. ⌜ r ≡ leb (nextAt (now (model .entry)) at) (length (now (model .entry))) ⌝ }
+{
+    let n = model.len();
+    if n < 4 {
+        return false;
+    }
+    let last = n - 4;
+    if last < at {
+        return false;
+    }
+    numbers::u16_at(model, at) as usize <= last - at
+}
+
 // The kind of the record at a byte.
 pub fn kind_at(model: &[u8], at: usize) -> u16
     requires { ⌜ at + 4 ≤ length (now model) ⌝ }
@@ -118,66 +133,75 @@ pub(crate) fn optional_at(model: &[u8], at: usize) -> bool
 }
 
 // A line's count of components, 2 or 3.
-fn read_dimension(b: u8) -> usize
+pub fn read_dimension(b: u8) -> usize
     ensures { λ r. ⌜ r ≡ choose (eqb b 3) 3 2 ⌝ }
 {
     if b == 3 { 3 } else { 2 }
 }
 
 // The number among the parameters q of a type of number t.
-fn read_number(q: &[u8], t: u8) -> usize
-    requires { ⌜ Sized t (now q) ⌝ }
-    ensures { λ r. ⌜ r ≡ numberOf t (now (q .entry)) ⌝ }
+fn read_number(parameters: &[u8], kind: u8) -> usize
+    requires { ⌜ ParametersFit kind (now parameters) ⌝ }
+    ensures { λ r. ⌜ r ≡ numberOf kind (now (parameters .entry)) ⌝ }
 {
-    match t {
-        REFERENCE | TEXT | ENUMERATION => numbers::u16_at(q, 0) as usize,
-        LINE => q[0] as usize,
+    match kind {
+        REFERENCE | TEXT | ENUMERATION => numbers::u16_at(parameters, 0) as usize,
+        LINE => parameters[0] as usize,
         _ => 0,
     }
 }
 
-fn count_components(q: &[u8], t: u8) -> usize
-    requires { ⌜ Sized t (now q) ⌝ }
-    ensures { λ r. ⌜ r ≡ countOf t (now (q .entry)) ⌝ }
+fn count_components(parameters: &[u8], kind: u8) -> usize
+    requires { ⌜ ParametersFit kind (now parameters) ⌝ }
+    ensures { λ r. ⌜ r ≡ countOf kind (now (parameters .entry)) ⌝ }
 {
-    match t {
+    match kind {
         COORDINATE_2 => 2,
         COORDINATE_3 => 3,
         NUMBER => 1,
-        LINE => read_dimension(q[1]),
+        LINE => read_dimension(parameters[1]),
         _ => 0,
     }
 }
 
-fn skip_forms(t: u8) -> usize
-    ensures { λ r. ⌜ r ≡ startOf t ⌝ }
+fn skip_forms(kind: u8) -> usize
+    ensures { λ r. ⌜ r ≡ startOf kind ⌝ }
 {
-    if t == LINE { 2 } else { 0 }
+    if kind == LINE { 2 } else { 0 }
 }
 
 // The components among the parameters.
-fn read_dimensions(q: &[u8], t: u8) -> Components
-    requires { ⌜ Sized t (now q) ⌝ }
-    ensures { λ r. ⌜ ComponentsAre (drop (startOf t) (now (q .entry))) (countOf t (now (q .entry))) r ⌝ }
+fn read_dimensions(parameters: &[u8], kind: u8) -> Components
+    requires { ⌜ ParametersFit kind (now parameters) ⌝ }
+    ensures { λ r. ⌜ ComponentsAre (drop (startOf kind) (now (parameters .entry))) (countOf kind (now (parameters .entry))) r ⌝ }
 {
-    let count = count_components(q, t);
-    let start = skip_forms(t);
-    numbers::read_components(&q[start..], count)
+    let count = count_components(parameters, kind);
+    let start = skip_forms(kind);
+    numbers::read_components(&parameters[start..], count)
+}
+
+// The attribute of a payload whose type is one of 1 to 8 and whose parameters are all there.
+pub fn attribute_of(payload: &[u8]) -> Attribute
+    requires { ⌜ 2 ≤ length (now payload) ⌝ }
+    requires { ⌜ ParametersFit (byteAt (now payload) 1) (drop 2 (now payload)) ⌝ }
+    ensures { λ r. ⌜ PayloadAttribute (now (payload .entry)) r ⌝ }
+{
+    let kind = payload[1];
+    let number = read_number(&payload[2..], kind);
+    let components = read_dimensions(&payload[2..], kind);
+    Attribute {
+        optional: payload[0] == 1,
+        kind,
+        number,
+        components,
+    }
 }
 
 // The attribute of the record at a byte.
 pub fn attribute_at(model: &[u8], at: usize) -> Attribute
     requires { ⌜ AttributeHere (now model) at ⌝ }
-    ensures { λ r. ⌜ Decoded (now (model .entry)) at r ⌝ }
+    ensures { λ r. ⌜ RecordAttribute (now (model .entry)) at r ⌝ }
 {
     let next = next_at(model, at);
-    let kind = model[at + 5];
-    let number = read_number(&model[at + 6..next], kind);
-    let components = read_dimensions(&model[at + 6..next], kind);
-    Attribute {
-        optional: model[at + 4] == 1,
-        kind,
-        number,
-        components,
-    }
+    attribute_of(&model[at + 4..next])
 }

@@ -60,22 +60,22 @@ fn i64_at(s: &[u8], at: usize) -> i64
 }
 
 // "A component is decimals (u8, 0 to 9), least and greatest value (i64 each)": the one that p begins with.
-fn read_component(p: &[u8]) -> Component
-    requires { ⌜ 17 ≤ length (now p) ⌝ }
-    ensures { λ r. ⌜ r ≡ declaredOf (componentOf (now (p .entry))) ⌝ }
+fn read_component(parameters: &[u8]) -> Component
+    requires { ⌜ 17 ≤ length (now parameters) ⌝ }
+    ensures { λ r. ⌜ r ≡ declaredOf (componentOf (now (parameters .entry))) ⌝ }
 {
     Component {
-        decimals: p[0],
-        least: i64_at(p, 1),
-        greatest: i64_at(p, 9),
+        decimals: parameters[0],
+        least: i64_at(parameters, 1),
+        greatest: i64_at(parameters, 9),
     }
 }
 
 // The first n components of p as a small array by value; those past the count are zero.
-pub fn read_components(p: &[u8], n: usize) -> Components
+pub fn read_components(parameters: &[u8], n: usize) -> Components
     requires { ⌜ n ≤ 3 ⌝ }
-    requires { ⌜ 17 * n ≤ length (now p) ⌝ }
-    ensures { λ r. ⌜ ComponentsAre (now (p .entry)) n r ⌝ }
+    requires { ⌜ 17 * n ≤ length (now parameters) ⌝ }
+    ensures { λ r. ⌜ ComponentsAre (now (parameters .entry)) n r ⌝ }
 {
     let none = Component {
         decimals: 0,
@@ -85,7 +85,7 @@ pub fn read_components(p: &[u8], n: usize) -> Components
     let mut items = [none; 3];
     let mut i = 0;
     while i < n {
-        items[i] = read_component(&p[17 * i..]);
+        items[i] = read_component(&parameters[17 * i..]);
         i += 1;
     }
     Components { count: n, items }

@@ -4,10 +4,10 @@ ghost use Prim.Native.Nat.{_+_, _≤_, _<_};
 ghost use lib.ListN.{length};
 ghost use Rattle.meaning.specs.Check.{good, checkModel};
 ghost use Rattle.meaning.specs.Model.{tableAt};
-ghost use Rattle.model_records.specs.Records.{kindAt, nextAt, modelAt};
+ghost use Rattle.model_records.specs.Records.{kindAt, modelAt};
 ghost use Rattle.model_records.specs.AtRecord.{AtRecord};
 ghost use Rattle.model_records.specs.Places.{topicPlace, tablePlace, topicOf, attributesPlace};
-ghost use Rattle.model_records.specs.Places.{notedBy, RecordPassed, Placed};
+ghost use Rattle.model_records.specs.Places.{notedBy, RecordPassed, RecordsPlaced};
 use crate::END;
 use crate::TABLE;
 use crate::TOPIC;
@@ -82,7 +82,7 @@ fn note_record(places: &mut [usize], kind: u16, here: RecordCursor)
 pub fn place_records(model: &[u8], places: &mut [usize]) -> Shape
     requires { ⌜ checkModel (now model) ≡ good (modelAt (now model)) ⌝ }
     requires { ⌜ length (now places) ≡ 1088 ⌝ }
-    ensures { λ r. ⌜ Placed (now (model .entry)) r (now (places .exit)) ⌝ }
+    ensures { λ r. ⌜ RecordsPlaced (now (model .entry)) r (now (places .exit)) ⌝ }
 {
     let mut here = RecordCursor {
         topics: 0,
@@ -105,43 +105,43 @@ pub fn place_records(model: &[u8], places: &mut [usize]) -> Shape
 }
 
 // The byte of topic p's record.
-pub fn topic_at(places: &[usize], p: usize) -> usize
-    requires { ⌜ (length (now places) ≡ 1088) × (p < 64) ⌝ }
-    ensures { λ r. ⌜ r ≡ topicPlace (now (places .entry)) p ⌝ }
+pub fn topic_at(places: &[usize], topic: usize) -> usize
+    requires { ⌜ (length (now places) ≡ 1088) × (topic < 64) ⌝ }
+    ensures { λ r. ⌜ r ≡ topicPlace (now (places .entry)) topic ⌝ }
 {
-    places[p]
+    places[topic]
 }
 
 // The byte of table t's record.
-pub fn table_at(places: &[usize], t: usize) -> usize
-    requires { ⌜ (length (now places) ≡ 1088) × (t < 512) ⌝ }
-    ensures { λ r. ⌜ r ≡ tablePlace (now (places .entry)) t ⌝ }
+pub fn table_at(places: &[usize], table: usize) -> usize
+    requires { ⌜ (length (now places) ≡ 1088) × (table < 512) ⌝ }
+    ensures { λ r. ⌜ r ≡ tablePlace (now (places .entry)) table ⌝ }
 {
-    places[64 + t]
+    places[64 + table]
 }
 
 // The topic of table t.
-pub fn topic_of(places: &[usize], t: usize) -> usize
-    requires { ⌜ (length (now places) ≡ 1088) × (t < 512) ⌝ }
-    ensures { λ r. ⌜ r ≡ topicOf (now (places .entry)) t ⌝ }
+pub fn topic_of(places: &[usize], table: usize) -> usize
+    requires { ⌜ (length (now places) ≡ 1088) × (table < 512) ⌝ }
+    ensures { λ r. ⌜ r ≡ topicOf (now (places .entry)) table ⌝ }
 {
-    places[576 + t]
+    places[576 + table]
 }
 
 // The byte of table t's first attribute record, or of what follows the table where it has none.
-pub fn attributes_at(model: &[u8], places: &[usize], shape: Shape, t: usize) -> usize
-    requires { ⌜ Placed (now model) shape (now places) ⌝ }
-    requires { ⌜ t < shape .tables ⌝ }
-    ensures { λ r. ⌜ r ≡ attributesPlace (now (model .entry)) (now (places .entry)) t ⌝ }
+pub fn attributes_at(model: &[u8], places: &[usize], shape: Shape, table: usize) -> usize
+    requires { ⌜ RecordsPlaced (now model) shape (now places) ⌝ }
+    requires { ⌜ table < shape .tables ⌝ }
+    ensures { λ r. ⌜ r ≡ attributesPlace (now (model .entry)) (now (places .entry)) table ⌝ }
 {
-    crate::next_at(model, table_at(places, t))
+    crate::next_at(model, table_at(places, table))
 }
 
 // Whether table t may be left out.
-pub fn is_optional(model: &[u8], places: &[usize], shape: Shape, t: usize) -> bool
-    requires { ⌜ Placed (now model) shape (now places) ⌝ }
-    requires { ⌜ t < shape .tables ⌝ }
-    ensures { λ r. ⌜ r ≡ tableAt (modelAt (now (model .entry)) .tables) t .optional ⌝ }
+pub fn is_optional(model: &[u8], places: &[usize], shape: Shape, table: usize) -> bool
+    requires { ⌜ RecordsPlaced (now model) shape (now places) ⌝ }
+    requires { ⌜ table < shape .tables ⌝ }
+    ensures { λ r. ⌜ r ≡ tableAt (modelAt (now (model .entry)) .tables) table .optional ⌝ }
 {
-    crate::optional_at(model, table_at(places, t))
+    crate::optional_at(model, table_at(places, table))
 }

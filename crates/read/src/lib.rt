@@ -7,7 +7,7 @@ ghost use Rattle.meaning.specs.Check.{good, checkModel};
 ghost use Rattle.meaning.specs.Reading.{Rooms, roomsOf};
 ghost use Rattle.meaning.specs.Table as table;
 ghost use Rattle.model_records.specs.Records.{modelAt};
-ghost use Rattle.model_records.specs.Places.{Placed};
+ghost use Rattle.model_records.specs.Places.{RecordsPlaced};
 ghost use Rattle.read.specs.Unfolded.{unfoldedRead};
 ghost use Rattle.read_text.specs.Outcomes.{answerOf, Fits, MarksRead, ReadInto};
 use model_check::check::Checked;
@@ -71,7 +71,7 @@ fn read_unfolded(
     index: &mut [u64],
     seed: u64,
 ) -> Answer
-    requires { ⌜ Placed (now model) shape (now places) ⌝ }
+    requires { ⌜ RecordsPlaced (now model) shape (now places) ⌝ }
     requires { ⌜ length (now text) < 2 ^ 62 ⌝ }
     ensures read { λ r. ⌜ ((rooms : Rooms) → rooms .marks ≡ length (now (marks .entry))
         → rooms .rows ≡ length (now (rows .entry)) → rooms .cells ≡ length (now (cells .entry))

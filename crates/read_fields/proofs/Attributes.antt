@@ -17,26 +17,26 @@ use Rattle.model_records.specs.declared.Component.{Component}
 use Rattle.model_records.specs.Components.{listOf}
 use Rattle.model_records.specs.declared.Attribute.{Attribute}
 use Rattle.model_records.specs.Attributes.{typeOf, firstOf}
-use Rattle.read_fields.specs.Filled.{prefixed, typeAsked, ownAsked, ownPairs, passed, left, going, goingOver, covering, due, Steps, Fills}
+use Rattle.read_fields.specs.RowProgress.{prefixed, typeAsked, ownAsked, ownPairs, passed, left, going, goingOver, covering, due, RowFilled, Fills}
 use Rattle.read_fields.specs.declared.filling.RowCursor.{RowCursor}
-use Rattle.read_fields.specs.declared.filling.Filled.{Filled}
-use Rattle.read_fields.specs.declared.filling.Filled.the-variants.{On, RestUndefined, No}
+use Rattle.read_fields.specs.declared.filling.RowProgress.{RowProgress}
+use Rattle.read_fields.specs.declared.filling.RowProgress.the-variants.{On, RestUndefined, No}
 use Rattle.read_fields.proofs.Pairs.{own, of-line}
-use Rattle.read_fields.proofs.Steps.{both, wider, renamed, before, refuses}
+use Rattle.read_fields.proofs.RowFilled.{both, wider, renamed, before, refuses}
 use Rattle.read_fields.proofs.Coordinates.{length-listed, covered-over}
 use Rattle.model_records.proofs.ComponentLaws.{listed-next}
 
--- ## Steps by their answer
+-- ## RowFilled by their answer
 
 module _ (u start : ℕ) (rest : List ℕ) (m : ℕ) (whole : List Pair → Cells) (s : RowCursor) (entry exit : List ℤ) where
-  pub fills-as : (whole′ : List Pair → Cells) (n : ℕ) → ((ps : List Pair) → whole′ ps ≡ whole ps) → m ≤ n → (r : Filled) → Fills u start rest m whole s entry exit r → Fills u start rest n whole′ s entry exit r
+  pub fills-as : (whole′ : List Pair → Cells) (n : ℕ) → ((ps : List Pair) → whole′ ps ≡ whole ps) → m ≤ n → (r : RowProgress) → Fills u start rest m whole s entry exit r → Fills u start rest n whole′ s entry exit r
   fills-as whole′ n e h (On t) f = wider n h (renamed whole′ (going u start rest t) e (λ ps. refl) f)
   fills-as whole′ n e h (RestUndefined t count) f = (omega (arith, f .0), wider n h (renamed whole′ (covering start rest t count) e (λ ps. refl) (f .1)))
   fills-as whole′ n e h (No k g) f = λ ps. e ps ∙ f ps
 
 -- a step, and then another one
-pub then : (u start : ℕ) (rest : List ℕ) {m : ℕ} (n : ℕ) {whole middle : List Pair → Cells} {s t : RowCursor} {entry between : List ℤ} (exit : List ℤ) → Steps rest m whole middle s t entry between
-    → (r : Filled) → Fills u start rest n middle t between exit r → Fills u start rest (m + n) whole s entry exit r
+pub then : (u start : ℕ) (rest : List ℕ) {m : ℕ} (n : ℕ) {whole middle : List Pair → Cells} {s t : RowCursor} {entry between : List ℤ} (exit : List ℤ) → RowFilled rest m whole middle s t entry between
+    → (r : RowProgress) → Fills u start rest n middle t between exit r → Fills u start rest (m + n) whole s entry exit r
 unfolding prefixed
 then u start rest n exit a (On v) f = both a f
 then u start rest n exit a (RestUndefined v count) f = (omega (arith, f .0, a .used, a .few), both a (f .1))
@@ -52,7 +52,7 @@ module _ (u start : ℕ) (rest : List ℕ) (o : Bool) (count : ℕ) (items : Lis
 
   module _ (entry between : List ℤ) where
     pub coordinate-on : (t : RowCursor) → Fills u start rest 2 (due u start rest (ownAsked o 4 0 (getD items 0 d)) s) s entry between (On t)
-        → (exit : List ℤ) (r : Filled) → Fills u start rest 4 (goingOver u start rest (componentPairs (drop 1 (listOf (take count items)))) t) t between exit r
+        → (exit : List ℤ) (r : RowProgress) → Fills u start rest 4 (goingOver u start rest (componentPairs (drop 1 (listOf (take count items)))) t) t between exit r
         → Fills u start rest 6 (goingOver u start rest (pairsOfType o (Coordinate (listOf (take count items)))) s) s entry exit r
     coordinate-on t a exit r b =
         then u start rest 4 exit (renamed (goingOver u start rest (pairsOfType o (Coordinate (listOf (take count items)))) s) (goingOver u start rest (componentPairs (drop 1 (listOf (take count items)))) t)
@@ -81,7 +81,7 @@ own-due u start rest a s ps = own u (s .before) (s .place) (a .optional) _ _ _
 -- ## A line
 
 pub line-filled : (u start : ℕ) (rest : List ℕ) (o : Bool) (forms : ℕ) (cs : List meaning.Component) (s : RowCursor) (entry exit : List ℤ) → s .at ≤ length rest → s .place ≤ s .at + 3
-    → exit ≡ sets entry (s .used) (pos 0 ∷ pos 0 ∷ []) → Steps rest 6 (goingOver u start rest (OfLine o forms cs ∷ []) s) (going u start rest (passed s)) s (passed s) entry exit
+    → exit ≡ sets entry (s .used) (pos 0 ∷ pos 0 ∷ []) → RowFilled rest 6 (goingOver u start rest (OfLine o forms cs ∷ []) s) (going u start rest (passed s)) s (passed s) entry exit
 line-filled u start rest o forms cs s entry exit w p e = record {
   values = pos 0 ∷ pos 0 ∷ [];
   meant = λ ps. of-line u (s .before) (s .place) o forms cs ps (left start rest s);

@@ -12,11 +12,11 @@ use Rattle.meaning.specs.Field.{Field}
 use Rattle.meaning.specs.Row.{Pair, Cells, refused, componentPairs, hasMandatory}
 use Rattle.model_records.specs.declared.Component.{Component}
 use Rattle.model_records.specs.Components.{listOf}
-use Rattle.read_fields.specs.Filled.{prefixed, covered, typeAsked, furtherAsked, left, going, goingOver, covering, due, Steps, Fills}
+use Rattle.read_fields.specs.RowProgress.{prefixed, covered, typeAsked, furtherAsked, left, going, goingOver, covering, due, RowFilled, Fills}
 use Rattle.read_fields.specs.declared.filling.RowCursor.{RowCursor}
-use Rattle.read_fields.specs.declared.filling.Filled.the-variants.{On, RestUndefined, No}
+use Rattle.read_fields.specs.declared.filling.RowProgress.the-variants.{On, RestUndefined, No}
 use Rattle.read_fields.proofs.Pairs.{further}
-use Rattle.read_fields.proofs.Steps.{both, renamed, before, refuses}
+use Rattle.read_fields.proofs.RowFilled.{both, renamed, before, refuses}
 use Rattle.model_records.proofs.ComponentLaws.{listed-next, listed-end}
 
 -- ## The list of components
@@ -59,15 +59,15 @@ module _ (u start : ℕ) (rest : List ℕ) (count : ℕ) (items : List Component
   unfolding componentPairs typeAsked choose
   component-due t ps = rw (listed-next items i count d h g) (further u (t .before) (t .place) _ _ _)
 
-  module _ {most : ℕ} {whole : List Pair → Cells} {s t : RowCursor} {entry cells : List ℤ} (now : Steps rest most whole (fromComponent u start rest count items i t) s t entry cells) (exit : List ℤ) where
+  module _ {most : ℕ} {whole : List Pair → Cells} {s t : RowCursor} {entry cells : List ℤ} (now : RowFilled rest most whole (fromComponent u start rest count items i t) s t entry cells) (exit : List ℤ) where
     pub component-on : (v : RowCursor) → Fills u start rest 2 (due u start rest (furtherAsked (t .before) (getD items i d)) t) t cells exit (On v)
-        → Steps rest (most + 2) whole (fromComponent u start rest count items (i + 1) v) s v entry exit
+        → RowFilled rest (most + 2) whole (fromComponent u start rest count items (i + 1) v) s v entry exit
     component-on v step =
         both now (renamed (fromComponent u start rest count items i t) (fromComponent u start rest count items (i + 1) v) (component-due t) (λ ps. refl)
         (before (λ ps. componentPairs (drop (i + 1) (listOf (take count items))) ++ ps) step))
 
     pub component-rest : (v : RowCursor) (n : ℕ) → Fills u start rest 2 (due u start rest (furtherAsked (t .before) (getD items i d)) t) t cells exit (RestUndefined v n)
-        → Steps rest (most + 2) whole (covering start rest v (n + (count - 1 - i))) s v entry exit
+        → RowFilled rest (most + 2) whole (covering start rest v (n + (count - 1 - i))) s v entry exit
     component-rest v n step =
         let e : length (drop (i + 1) (listOf (take count items))) ≡ count - 1 - i = length-drop (i + 1) (listOf (take count items)) ∙ rw (length-listed items count g) (omega arith) in
         both now (renamed (fromComponent u start rest count items i t) (covering start rest v (n + (count - 1 - i))) (component-due t)
@@ -80,6 +80,6 @@ module _ (u start : ℕ) (rest : List ℕ) (count : ℕ) (items : List Component
 
 -- behind the last component
 pub components-end : (u start : ℕ) (rest : List ℕ) (count : ℕ) (items : List Component) (i most : ℕ) {whole : List Pair → Cells} {s t : RowCursor} {entry exit : List ℤ} → count ≤ i
-    → Steps rest most whole (fromComponent u start rest count items i t) s t entry exit → Steps rest most whole (going u start rest t) s t entry exit
+    → RowFilled rest most whole (fromComponent u start rest count items i t) s t entry exit → RowFilled rest most whole (going u start rest t) s t entry exit
 unfolding componentPairs
 components-end u start rest count items i most {whole} {s} {t} h now = renamed whole (going u start rest t) (λ ps. refl) (λ ps. rw (listed-end items i count h)) now

@@ -14,13 +14,13 @@ use Rattle.model_records.specs.Components.{componentOf}
 use Rattle.base.specs.Fields.{FirstField}
 use Rattle.base.proofs.Fill.{to-end}
 use Rattle.value_read.specs.Meant.{fieldOf}
-use Rattle.read_fields.specs.Taken.{FieldTaken, TwiceTaken, Takes}
-use Rattle.read_fields.specs.declared.taking.Taken.{Taken}
-use Rattle.read_fields.specs.Filled.{typeAsked, left, moved, filled, due, Ready, Puts, Fills}
+use Rattle.read_fields.specs.FieldForm.{FieldTaken, TwiceTaken, Takes}
+use Rattle.read_fields.specs.declared.taking.FieldForm.{FieldForm}
+use Rattle.read_fields.specs.RowProgress.{typeAsked, left, moved, filled, due, CursorReady, Puts, Fills}
 use Rattle.read_fields.specs.declared.filling.RowCursor.{RowCursor}
 use Rattle.read_fields.specs.declared.filling.FieldRule.{FieldRule}
-use Rattle.read_fields.specs.declared.filling.Filled.{Filled}
-use Rattle.read_fields.specs.declared.filling.Filled.the-variants.{On, RestUndefined, No}
+use Rattle.read_fields.specs.declared.filling.RowProgress.{RowProgress}
+use Rattle.read_fields.specs.declared.filling.RowProgress.the-variants.{On, RestUndefined, No}
 use Rattle.read_fields.proofs.Stores.{part-most}
 use Rattle.read_fields.proofs.Pairs.{prefixed-none, due-missing, due-covered, due-covered-needed, due-undefined, due-undefined-needed, due-forbidden, due-wrong, due-defined}
 
@@ -37,7 +37,7 @@ pub next-within : (at from len : ℕ) (rest : List ℕ) → at ≤ length rest �
 next-within at from len rest h f = (omega (arith, f .within, length-drop at rest), omega (arith, f .some))
 
 -- what was taken from the bytes behind a place, in its case
-pub taken : (u : ℕ) (rest : List ℕ) (at : ℕ) {r t : Taken} → r ≡ t → Takes u (take (length rest - at) (drop at rest)) r → Takes u (drop at rest) t
+pub taken : (u : ℕ) (rest : List ℕ) (at : ℕ) {r t : FieldForm} → r ≡ t → Takes u (take (length rest - at) (drop at rest)) r → Takes u (drop at rest) t
 taken u rest at {r = r} e f = subst (Takes u (drop at rest)) e (subst (λ (l : List ℕ). Takes u l r) (to-end rest at) f)
 
 -- the field found behind a place lies in the rest, and there is room for its numbers
@@ -50,7 +50,7 @@ pub record Found (start : ℕ) (rest : List ℕ) (s : RowCursor) (from len : ℕ
   pub next : s .place + 1 < 2 ^ 64
   pub pair : s .used + 2 < 2 ^ 64
 
-pub found : (start : ℕ) (rest : List ℕ) (s : RowCursor) (from len : ℕ) → Ready start rest 2 s → FirstField (drop (s .at) rest) from len → Found start rest s from len
+pub found : (start : ℕ) (rest : List ℕ) (s : RowCursor) (from len : ℕ) → CursorReady start rest 2 s → FirstField (drop (s .at) rest) from len → Found start rest s from len
 found start rest s from len ready f =
     let w = next-within (s .at) from len rest (ready .within) f in
     let n = part-most (s .at + from) len (drop (s .at + from) rest) in
@@ -64,7 +64,7 @@ found start rest s from len ready f =
       pair = ready .room;
     }
 
-module _ (u start : ℕ) (rest : List ℕ) (asked : FieldRule) (s : RowCursor) (ready : Ready start rest 2 s) where
+module _ (u start : ℕ) (rest : List ℕ) (asked : FieldRule) (s : RowCursor) (ready : CursorReady start rest 2 s) where
   pub missing : ((n : ℕ) → fieldsOf n (drop (s .at) rest) ≡ []) → (ps : List Pair) → due u start rest asked s ps ≡ refused 11 (s .place)
   missing e ps = rw (e (start + s .at)) (due-missing u (s .place) _ ps (asked .needed) (asked .forbidden))
 
@@ -118,7 +118,7 @@ module _ (u start : ℕ) (rest : List ℕ) (asked : FieldRule) (s : RowCursor) (
             placed = omega (arith, ready .placed, w .1);
           }
 
-      pub defined-filled : undefined ≡ false → asked .forbidden ≡ false → (entry exit : List ℤ) (r : Filled)
+      pub defined-filled : undefined ≡ false → asked .forbidden ≡ false → (entry exit : List ℤ) (r : RowProgress)
           → Puts (valueOf (typeAsked (asked .kind) (asked .number) (componentOf (asked .component))) (fieldOf (start + (s .at + from)) (take len (drop (s .at + from) rest)))) (moved s (s .at + from + len)) entry exit r
           → Fills u start rest 2 (due u start rest asked s) s entry exit r
       defined-filled d e entry exit (On t) p =

@@ -1,6 +1,6 @@
 pub mod Stores
 pub mod Pairs
-pub mod Steps
+pub mod RowFilled
 pub mod Due
 pub mod Coordinates
 pub mod Attributes

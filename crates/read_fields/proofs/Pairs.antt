@@ -11,7 +11,7 @@ use Rattle.meaning.specs.Model.{Component, AttributeType, Number}
 use Rattle.meaning.specs.Field.{Field}
 use Rattle.meaning.specs.Value.{pair, wrong, valueOf, isUndefined, isUndefinedTwice}
 use Rattle.meaning.specs.Row.{Pair, OfAttribute, OfComponent, OfLine, Cells, cells, refused, putPair, definedOr, undefinedCells, undefinedRest, pairCells}
-use Rattle.read_fields.specs.Filled.{zeros, prefixed, coveredCells, covered, dueCells}
+use Rattle.read_fields.specs.RowProgress.{zeros, prefixed, coveredCells, covered, dueCells}
 
 -- ## Cells before others
 

@@ -8,7 +8,7 @@ use mathlib.Core.List.{List, [], _∷_, _++_}
 use lib.IntN.{ℤ, pos}
 use lib.ListN.{length, set, take, drop, length-take}
 use lib.Seq.{sets, sets-eq, length-sets}
-use Rattle.read_fields.specs.Filled.{zeros}
+use Rattle.read_fields.specs.RowProgress.{zeros}
 
 -- a store behind the end
 pub set-behind : {A : Type 0} (l : List A) (i : ℕ) (v : A) → length l ≤ i → l ≡ set l i v

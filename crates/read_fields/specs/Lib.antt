@@ -1,2 +1,2 @@
-pub mod Taken
-pub mod Filled
+pub mod FieldForm
+pub mod RowProgress

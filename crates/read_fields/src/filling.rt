@@ -12,11 +12,11 @@ ghost use Rattle.meaning.specs.Row.{componentPairs, pairsOfType};
 ghost use Rattle.model_records.specs.Attributes.{typeOf};
 ghost use Rattle.model_records.specs.Components.{componentOf, componentsOf};
 ghost use Rattle.value_read.specs.Meant.{valueMeant, fieldOf};
-ghost use Rattle.read_fields.specs.Filled.{typeAsked, due, moved, filled, passed, furtherAsked, ownAsked};
-ghost use Rattle.read_fields.specs.Filled.{ownPairs, goingOver, ComponentsCounted, Ready, Puts, Fills};
+ghost use Rattle.read_fields.specs.RowProgress.{typeAsked, due, moved, filled, passed, furtherAsked, ownAsked};
+ghost use Rattle.read_fields.specs.RowProgress.{ownPairs, goingOver, ComponentsCounted, CursorReady, Puts, Fills};
 use crate::storing;
 use crate::taking;
-use crate::taking::Taken;
+use crate::taking::FieldForm;
 use model_records::Attribute;
 use model_records::COORDINATE_2;
 use model_records::COORDINATE_3;
@@ -49,7 +49,7 @@ pub struct FieldRule {
 
 // The row goes on; two undefined bytes stood at the place, with so many pairs of the attribute left; or a refusal and
 // its field.
-pub enum Filled {
+pub enum RowProgress {
     On(RowCursor),
     RestUndefined(RowCursor, usize),
     No(u8, usize),
@@ -73,48 +73,48 @@ fn read_value(kind: u8, number: usize, component: Component, field: &[u8], start
 }
 
 // The state behind a field, before its pair.
-fn behind(s: RowCursor, at: usize) -> RowCursor
-    ensures { λ r. ⌜ r ≡ moved s at ⌝ }
+fn behind(cursor: RowCursor, at: usize) -> RowCursor
+    ensures { λ r. ⌜ r ≡ moved cursor at ⌝ }
 {
     RowCursor {
         at,
-        place: s.place,
-        used: s.used,
+        place: cursor.place,
+        used: cursor.used,
         before: false,
     }
 }
 
 // An undefined field's pair, at a state behind it: "Undefined is 0 0".
-fn put_undefined(cells: &mut [i64], s: RowCursor) -> Filled
-    requires { ⌜ (s .place + 1 < 2 ^ 64) × (s .used + 2 < 2 ^ 64) ⌝ }
-    ensures answer { λ r. ⌜ r ≡ Filled.On (filled s false) ⌝ }
-    ensures stored { λ r. ⌜ now (cells .exit) ≡ sets (now (cells .entry)) (s .used) (pos 0 ∷ pos 0 ∷ []) ⌝ }
+fn put_undefined(cells: &mut [i64], cursor: RowCursor) -> RowProgress
+    requires { ⌜ (cursor .place + 1 < 2 ^ 64) × (cursor .used + 2 < 2 ^ 64) ⌝ }
+    ensures answer { λ r. ⌜ r ≡ RowProgress.On (filled cursor false) ⌝ }
+    ensures stored { λ r. ⌜ now (cells .exit) ≡ sets (now (cells .entry)) (cursor .used) (pos 0 ∷ pos 0 ∷ []) ⌝ }
 {
-    storing::put_pair(cells, s.used, 0, 0);
-    Filled::On(RowCursor {
-        at: s.at,
-        place: s.place + 1,
-        used: s.used + 2,
+    storing::put_pair(cells, cursor.used, 0, 0);
+    RowProgress::On(RowCursor {
+        at: cursor.at,
+        place: cursor.place + 1,
+        used: cursor.used + 2,
         before: false,
     })
 }
 
 // A value's two cells, at a state behind its field; or its refusal.
-fn put_value(v: Value, cells: &mut [i64], s: RowCursor) -> Filled
-    requires { ⌜ (s .place + 1 < 2 ^ 64) × (s .used + 2 < 2 ^ 64) ⌝ }
-    ensures { λ r. ⌜ Puts (valueMeant v) s (now (cells .entry)) (now (cells .exit)) r ⌝ }
+fn put_value(value: Value, cells: &mut [i64], cursor: RowCursor) -> RowProgress
+    requires { ⌜ (cursor .place + 1 < 2 ^ 64) × (cursor .used + 2 < 2 ^ 64) ⌝ }
+    ensures { λ r. ⌜ Puts (valueMeant value) cursor (now (cells .entry)) (now (cells .exit)) r ⌝ }
 {
-    match v {
+    match value {
         Value::Pair(a, b) => {
-            storing::put_pair(cells, s.used, a, b);
-            Filled::On(RowCursor {
-                at: s.at,
-                place: s.place + 1,
-                used: s.used + 2,
+            storing::put_pair(cells, cursor.used, a, b);
+            RowProgress::On(RowCursor {
+                at: cursor.at,
+                place: cursor.place + 1,
+                used: cursor.used + 2,
                 before: true,
             })
         }
-        Value::Wrong(k) => Filled::No(k, s.place),
+        Value::Wrong(k) => RowProgress::No(k, cursor.place),
     }
 }
 
@@ -124,17 +124,17 @@ fn put_defined(
     field: &[u8],
     start: usize,
     cells: &mut [i64],
-    s: RowCursor,
-) -> Filled
+    cursor: RowCursor,
+) -> RowProgress
     requires { ⌜ start + (1 + length (now field)) < 2 ^ 63 ⌝ }
-    requires { ⌜ (s .place + 1 < 2 ^ 64) × (s .used + 2 < 2 ^ 64) ⌝ }
+    requires { ⌜ (cursor .place + 1 < 2 ^ 64) × (cursor .used + 2 < 2 ^ 64) ⌝ }
     ensures { λ r. ⌜
         Puts (valueOf (typeAsked (asked .kind) (asked .number) (componentOf (asked .component)))
-        (fieldOf start (now (field .entry)))) s (now (cells .entry)) (now (cells .exit)) r ⌝ }
+        (fieldOf start (now (field .entry)))) cursor (now (cells .entry)) (now (cells .exit)) r ⌝ }
 {
     let component = asked.component;
     let v = read_value(asked.kind, asked.number, component, field, start);
-    put_value(v, cells, s)
+    put_value(v, cells, cursor)
 }
 
 // A field that is due, and its pair.
@@ -144,51 +144,51 @@ fn put_field(
     start: usize,
     undefined: u8,
     cells: &mut [i64],
-    s: RowCursor,
-) -> Filled
-    requires { ⌜ Ready start (now rest) 2 s ⌝ }
+    cursor: RowCursor,
+) -> RowProgress
+    requires { ⌜ CursorReady start (now rest) 2 cursor ⌝ }
     ensures { λ r. ⌜
-        Fills undefined start (now (rest .entry)) 2 (due undefined start (now (rest .entry)) asked s) s
+        Fills undefined start (now (rest .entry)) 2 (due undefined start (now (rest .entry)) asked cursor) cursor
         (now (cells .entry)) (now (cells .exit)) r ⌝ }
 {
-    let at = s.at;
+    let at = cursor.at;
     match taking::take_field(&rest[at..], undefined) {
-        Taken::Missing => Filled::No(11, s.place),
-        Taken::Defined(from, len) => {
+        FieldForm::Missing => RowProgress::No(11, cursor.place),
+        FieldForm::Defined(from, len) => {
             if asked.forbidden {
-                return Filled::No(12, s.place);
+                return RowProgress::No(12, cursor.place);
             }
             let a = at + from;
             let e = a + len;
-            put_defined(asked, &rest[a..e], start + a, cells, behind(s, e))
+            put_defined(asked, &rest[a..e], start + a, cells, behind(cursor, e))
         }
-        Taken::Undefined(from, len) => {
+        FieldForm::Undefined(from, len) => {
             if asked.needed {
-                return Filled::No(12, s.place);
+                return RowProgress::No(12, cursor.place);
             }
-            put_undefined(cells, behind(s, at + from + len))
+            put_undefined(cells, behind(cursor, at + from + len))
         }
-        Taken::Twice(from, len) => {
+        FieldForm::Twice(from, len) => {
             if asked.needed {
-                return Filled::No(12, s.place);
+                return RowProgress::No(12, cursor.place);
             }
-            Filled::RestUndefined(behind(s, at + from + len), 1)
+            RowProgress::RestUndefined(behind(cursor, at + from + len), 1)
         }
     }
 }
 
 // A line attribute's pair: it has no field here, lines of its own follow.
-fn put_line(cells: &mut [i64], s: RowCursor) -> Filled
-    requires { ⌜ s .used + 2 < 2 ^ 64 ⌝ }
-    ensures answer { λ r. ⌜ r ≡ Filled.On (passed s) ⌝ }
-    ensures stored { λ r. ⌜ now (cells .exit) ≡ sets (now (cells .entry)) (s .used) (pos 0 ∷ pos 0 ∷ []) ⌝ }
+fn put_line(cells: &mut [i64], cursor: RowCursor) -> RowProgress
+    requires { ⌜ cursor .used + 2 < 2 ^ 64 ⌝ }
+    ensures answer { λ r. ⌜ r ≡ RowProgress.On (passed cursor) ⌝ }
+    ensures stored { λ r. ⌜ now (cells .exit) ≡ sets (now (cells .entry)) (cursor .used) (pos 0 ∷ pos 0 ∷ []) ⌝ }
 {
-    storing::put_pair(cells, s.used, 0, 0);
-    Filled::On(RowCursor {
-        at: s.at,
-        place: s.place,
-        used: s.used + 2,
-        before: s.before,
+    storing::put_pair(cells, cursor.used, 0, 0);
+    RowProgress::On(RowCursor {
+        at: cursor.at,
+        place: cursor.place,
+        used: cursor.used + 2,
+        before: cursor.before,
     })
 }
 
@@ -212,18 +212,18 @@ fn put_further(
     start: usize,
     undefined: u8,
     cells: &mut [i64],
-    s: RowCursor,
-) -> Filled
+    cursor: RowCursor,
+) -> RowProgress
     requires { ⌜ (components .count ≤ 3) × (length (components .items) ≡ 3) ⌝ }
-    requires { ⌜ Ready start (now rest) 4 s ⌝ }
+    requires { ⌜ CursorReady start (now rest) 4 cursor ⌝ }
     ensures { λ r. ⌜
         Fills undefined start (now (rest .entry)) 4
-        (goingOver undefined start (now (rest .entry)) (componentPairs (drop 1 (componentsOf components))) s) s
+        (goingOver undefined start (now (rest .entry)) (componentPairs (drop 1 (componentsOf components))) cursor) cursor
         (now (cells .entry)) (now (cells .exit)) r ⌝ }
 {
     let count = components.count;
     let items = components.items;
-    let mut t = s;
+    let mut t = cursor;
     let mut i = 1;
     while i < count {
         match put_field(
@@ -234,19 +234,19 @@ fn put_further(
             cells,
             t,
         ) {
-            Filled::On(v) => {
+            RowProgress::On(v) => {
                 t = v;
             }
-            Filled::RestUndefined(v, left) => {
-                return Filled::RestUndefined(v, left + (count - 1 - i));
+            RowProgress::RestUndefined(v, left) => {
+                return RowProgress::RestUndefined(v, left + (count - 1 - i));
             }
-            Filled::No(k, f) => {
-                return Filled::No(k, f);
+            RowProgress::No(k, f) => {
+                return RowProgress::No(k, f);
             }
         }
         i += 1;
     }
-    Filled::On(t)
+    RowProgress::On(t)
 }
 
 // An attribute's own field, and a coordinate's first component, must be defined where the attribute is mandatory.
@@ -270,14 +270,14 @@ fn put_coordinate(
     start: usize,
     undefined: u8,
     cells: &mut [i64],
-    s: RowCursor,
-) -> Filled
+    cursor: RowCursor,
+) -> RowProgress
     requires { ⌜ (1 ≤ components .count) × (components .count ≤ 3) × (length (components .items) ≡ 3) ⌝ }
-    requires { ⌜ Ready start (now rest) 6 s ⌝ }
+    requires { ⌜ CursorReady start (now rest) 6 cursor ⌝ }
     ensures { λ r. ⌜
         Fills undefined start (now (rest .entry)) 6
-        (goingOver undefined start (now (rest .entry)) (pairsOfType optional (Coordinate (componentsOf components))) s)
-        s (now (cells .entry)) (now (cells .exit)) r ⌝ }
+        (goingOver undefined start (now (rest .entry)) (pairsOfType optional (Coordinate (componentsOf components))) cursor)
+        cursor (now (cells .entry)) (now (cells .exit)) r ⌝ }
 {
     let count = components.count;
     let items = components.items;
@@ -287,70 +287,75 @@ fn put_coordinate(
         start,
         undefined,
         cells,
-        s,
+        cursor,
     ) {
-        Filled::On(t) => put_further(components, rest, start, undefined, cells, t),
-        Filled::RestUndefined(t, left) => Filled::RestUndefined(t, left + (count - 1)),
-        Filled::No(k, f) => Filled::No(k, f),
+        RowProgress::On(t) => put_further(components, rest, start, undefined, cells, t),
+        RowProgress::RestUndefined(t, left) => RowProgress::RestUndefined(t, left + (count - 1)),
+        RowProgress::No(k, f) => RowProgress::No(k, f),
     }
 }
 
 // An attribute with one field of its own.
 fn put_own(
-    a: Attribute,
+    attribute: Attribute,
     rest: &[u8],
     start: usize,
     undefined: u8,
     cells: &mut [i64],
-    s: RowCursor,
-) -> Filled
-    requires { ⌜ length (a .components .items) ≡ 3 ⌝ }
-    requires { ⌜ Ready start (now rest) 6 s ⌝ }
+    cursor: RowCursor,
+) -> RowProgress
+    requires { ⌜ length (attribute .components .items) ≡ 3 ⌝ }
+    requires { ⌜ CursorReady start (now rest) 6 cursor ⌝ }
     ensures { λ r. ⌜
-        Fills undefined start (now (rest .entry)) 2 (goingOver undefined start (now (rest .entry)) (ownPairs a) s) s
+        Fills undefined start (now (rest .entry)) 2 (goingOver undefined start (now (rest .entry)) (ownPairs attribute) cursor) cursor
         (now (cells .entry)) (now (cells .exit)) r ⌝ }
 {
-    let components = a.components;
+    let components = attribute.components;
     let items = components.items;
     put_field(
-        ask_own(a.optional, a.kind, a.number, items[0]),
+        ask_own(
+            attribute.optional,
+            attribute.kind,
+            attribute.number,
+            items[0],
+        ),
         rest,
         start,
         undefined,
         cells,
-        s,
+        cursor,
     )
 }
 
 // An attribute by its type.
 pub fn put_attribute(
-    a: Attribute,
+    attribute: Attribute,
     rest: &[u8],
     start: usize,
     undefined: u8,
     cells: &mut [i64],
-    s: RowCursor,
-) -> Filled
-    requires { ⌜ ComponentsCounted a ⌝ }
-    requires { ⌜ Ready start (now rest) 6 s ⌝ }
+    cursor: RowCursor,
+) -> RowProgress
+    requires { ⌜ ComponentsCounted attribute ⌝ }
+    requires { ⌜ CursorReady start (now rest) 6 cursor ⌝ }
     ensures { λ r. ⌜
         Fills undefined start (now (rest .entry)) 6
-        (goingOver undefined start (now (rest .entry)) (pairsOfType (a .optional) (typeOf a)) s) s (now (cells .entry))
+        (goingOver undefined start (now (rest .entry)) (pairsOfType (attribute .optional) (typeOf attribute)) cursor) cursor (now (cells .entry))
         (now (cells .exit)) r ⌝ }
 {
-    let kind = a.kind;
-    let components = a.components;
+    let kind = attribute.kind;
+    let components = attribute.components;
     match kind {
         COORDINATE_2..=COORDINATE_3 => put_coordinate(
-            a.optional,
+            attribute.optional,
             components,
             rest,
             start,
             undefined,
             cells,
-            s,
+            cursor,
         ),
-        REFERENCE..=ENUMERATION => put_own(a, rest, start, undefined, cells, s),
-        _ => put_line(cells, s),
+        REFERENCE..=ENUMERATION => put_own(attribute, rest, start, undefined, cells, cursor),
+        _ => put_line(cells, cursor),
     }
 }

@@ -4,7 +4,7 @@ ghost use mathlib.Core.List.{[], _∷_};
 ghost use Prim.Native.Nat.{_+_, _*_, _<_, _^_};
 ghost use lib.ListN.{set};
 ghost use lib.Seq.{sets};
-ghost use Rattle.read_fields.specs.Filled.{zeros};
+ghost use Rattle.read_fields.specs.RowProgress.{zeros};
 
 fn put_cell(cells: &mut [i64], at: usize, v: i64)
     ensures { λ _. ⌜ now (cells .exit) ≡ set (now (cells .entry)) at v ⌝ }

@@ -14,8 +14,8 @@ use Rattle.meaning.specs.Reading.{Content}
 use Rattle.meaning.specs.Lines.{go, no, bare, named}
 use Rattle.base.specs.Fields.{FirstField}
 use Rattle.read_state.specs.declared.Due.{Due}
-use Rattle.read_state.specs.declared.Moved.{Moved}
-use Rattle.read_state.specs.declared.Moved.the-variants.{To, No}
+use Rattle.read_state.specs.declared.NextDue.{NextDue}
+use Rattle.read_state.specs.declared.NextDue.the-variants.{To, No}
 use Rattle.read_state.specs.Meaning.{dueOf, movedOf, markedOf}
 use Rattle.read_frame.specs.declared.codes.Head.{Head}
 use Rattle.read_frame.specs.Codes.{codes}
@@ -29,17 +29,17 @@ nothing-read = record { marks = []; rows = []; cells = []; points = [] }
 -- ## Refusals
 
 module _ (b : List ℕ) (c : Content) where
-  pub moved-refuse : (t : Bool) (x y : Moved) → movedOf b (refuse t x y) c ≡ refuse t (movedOf b x c) (movedOf b y c)
+  pub moved-refuse : (t : Bool) (x y : NextDue) → movedOf b (refuse t x y) c ≡ refuse t (movedOf b x c) (movedOf b y c)
   unfolding refuse
   moved-refuse true x y = refl
   moved-refuse false x y = refl
 
-  pub marked-refuse : (topics : ℕ) (t : Bool) (x y : Moved) → markedOf b topics (refuse t x y) c ≡ refuse t (markedOf b topics x c) (markedOf b topics y c)
+  pub marked-refuse : (topics : ℕ) (t : Bool) (x y : NextDue) → markedOf b topics (refuse t x y) c ≡ refuse t (markedOf b topics x c) (markedOf b topics y c)
   unfolding refuse
   marked-refuse topics true x y = refl
   marked-refuse topics false x y = refl
 
-pub holds-refuse : (m : Model) (b : List ℕ) (t : Bool) (x y : Moved) → MovedHolds m b x → MovedHolds m b y → MovedHolds m b (refuse t x y)
+pub holds-refuse : (m : Model) (b : List ℕ) (t : Bool) (x y : NextDue) → MovedHolds m b x → MovedHolds m b y → MovedHolds m b (refuse t x y)
 unfolding refuse
 holds-refuse m b true x y h g = h
 holds-refuse m b false x y h g = g
@@ -81,7 +81,7 @@ module _ (l : List ℕ) (h : Head) (o : HeadOf l h) (i : ℕ) (b : i < 16) (due 
   unfolding aloneIn refuse
   other-code n s = rw (o .code i b s, ne-eqb (h .code) (i + 1) n)
 
-  pub this-code : (r : Moved) → h .code ≡ i + 1 → ((s : ℕ) → r ≡ endIn 2 (fieldsOf s (drop (h .behind) l)) due) → (s : ℕ) → r ≡ aloneIn (getD codes i []) (fieldsOf s l) due
+  pub this-code : (r : NextDue) → h .code ≡ i + 1 → ((s : ℕ) → r ≡ endIn 2 (fieldsOf s (drop (h .behind) l)) due) → (s : ℕ) → r ≡ aloneIn (getD codes i []) (fieldsOf s l) due
   unfolding aloneIn endIn refuse
   this-code r e g s =
       let k : 1 ≤ length (fieldsOf s l) = o .some (omega arith) s in
@@ -103,7 +103,7 @@ module _ (rest name : List ℕ) (start len : ℕ) (f : FirstField rest start len
   unfolding namedIn refuse
   other-name e s = rw (f .first s, lt-ltb 0 (suc (length (fieldsOf (s + start + len) (drop (start + len) rest)))) (omega arith), e)
 
-  pub this-name : same (take len (drop start rest)) name ≡ true → (r : Moved) → ((s : ℕ) → r ≡ endIn 3 (fieldsOf s (drop (start + len) rest)) due) → (s : ℕ) → r ≡ namedIn name (fieldsOf s rest) due
+  pub this-name : same (take len (drop start rest)) name ≡ true → (r : NextDue) → ((s : ℕ) → r ≡ endIn 3 (fieldsOf s (drop (start + len) rest)) due) → (s : ℕ) → r ≡ namedIn name (fieldsOf s rest) due
   unfolding namedIn endIn refuse
   this-name e r g s =
       let k = fieldsOf (s + start + len) (drop (start + len) rest) in

@@ -13,8 +13,8 @@ use Rattle.meaning.specs.Lines.{bare, tableLine, topicEnd, behindObjects}
 use Rattle.base.specs.Fields.{FirstField}
 use Rattle.read_state.specs.declared.FrameDue.the-variants as frame
 use Rattle.read_state.specs.declared.Due.the-variants.{Frame, Object}
-use Rattle.read_state.specs.declared.Moved.{Moved}
-use Rattle.read_state.specs.declared.Moved.the-variants.{To, No}
+use Rattle.read_state.specs.declared.NextDue.{NextDue}
+use Rattle.read_state.specs.declared.NextDue.the-variants.{To, No}
 use Rattle.read_state.specs.Meaning.{frameDueOf, dueOf, topicMarkedBy, markedBy, movedOf, markedOf}
 use Rattle.read_frame.specs.declared.codes.Head.{Head}
 use Rattle.read_frame.specs.Heads.{HeadOf}
@@ -38,7 +38,7 @@ module _ (m : Model) (b : List ℕ) (p from : ℕ) (rest : List ℕ) (c : Conten
     unfolding tableIn refuse
     table-skipped e s = rw (some-field rest start len f s, f .first s, e .at .found, e .at .owed)
 
-    pub table-begun : (r : Moved) (t : ℕ) → TableAt m p from (take len (drop start rest)) t false → ((s : ℕ) → r ≡ endIn 3 (fieldsOf s (drop (start + len) rest)) (Object t))
+    pub table-begun : (r : NextDue) (t : ℕ) → TableAt m p from (take len (drop start rest)) t false → ((s : ℕ) → r ≡ endIn 3 (fieldsOf s (drop (start + len) rest)) (Object t))
         → (s : ℕ) → markedOf b (length (m .topics)) r c ≡ tableIn m p from (fieldsOf s rest) c
     unfolding tableIn endIn dueOf markedBy refuse
     table-begun r t h g s =
@@ -46,7 +46,7 @@ module _ (m : Model) (b : List ℕ) (p from : ℕ) (rest : List ℕ) (c : Conten
         rw (some-field rest start len f s, f .first s, h .found, h .owed, behind-more (record { start = s + start; bytes = take len (drop start rest) } ∷ k) 0 (omega arith), g (s + start + len))
         (marked-refuse b c (length (m .topics)) (moreThan 0 k) (No 11 3) (To (Object t)))
 
-pub table-holds : (m : Model) (b : List ℕ) (t : ℕ) → t < length (m .tables) → (r : Moved) (fs : List Field) → r ≡ endIn 3 fs (Object t) → MovedHolds m b r
+pub table-holds : (m : Model) (b : List ℕ) (t : ℕ) → t < length (m .tables) → (r : NextDue) (fs : List Field) → r ≡ endIn 3 fs (Object t) → MovedHolds m b r
 unfolding endIn
 table-holds m b t l r fs e = rw e (holds-refuse m b _ _ _ tt (λ rows n used points. l))
 
@@ -57,7 +57,7 @@ module _ (m : Model) (b : List ℕ) (p from : ℕ) (fs : List Field) where
   unfolding topicEndIn refuse
   topic-owes c e = rw e
 
-  module _ (r : Moved) (g : r ≡ endIn 2 fs (Frame (frame.Topic (p + 1)))) where
+  module _ (r : NextDue) (g : r ≡ endIn 2 fs (Frame (frame.Topic (p + 1)))) where
     pub topic-ended : (c : Content) → mandatoryBetween p from (length (m .tables)) 0 (m .tables) ≡ false → markedOf b (length (m .topics)) r c ≡ topicEndIn m p from fs c
     unfolding topicEndIn endIn frameDueOf dueOf topicMarkedBy markedBy refuse
     topic-ended c e = rw (e, g) (marked-refuse b c (length (m .topics)) (moreThan 0 fs) (No 11 2) (To (Frame (frame.Topic (p + 1)))))
@@ -68,7 +68,7 @@ module _ (m : Model) (b : List ℕ) (p from : ℕ) (fs : List Field) where
 
 -- ## TABL or ETOP
 
-module _ (m : Model) (rooms : Rooms) (text b : List ℕ) (p from : ℕ) (l : List ℕ) (h : Head) (o : HeadOf l h) (r : Moved) (c : Content) (s : ℕ) where
+module _ (m : Model) (rooms : Rooms) (text b : List ℕ) (p from : ℕ) (l : List ℕ) (h : Head) (o : HeadOf l h) (r : NextDue) (c : Content) (s : ℕ) where
   pub topic-closed : h .code ≡ 14 → ((s : ℕ) (c : Content) → markedOf b (length (m .topics)) r c ≡ topicEndIn m p from (fieldsOf s (drop (h .behind) l)) c)
       → markedOf b (length (m .topics)) r c ≡ tableLine m rooms text p from (fieldsOf s l) c
   unfolding tableLine topicEnd topicEndIn bare choose

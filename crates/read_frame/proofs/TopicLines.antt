@@ -13,8 +13,8 @@ use Rattle.meaning.specs.Lines.{bare, transferLine, modelLine, topicLine}
 use Rattle.base.specs.Fields.{FirstField}
 use Rattle.read_state.specs.declared.FrameDue.the-variants as frame
 use Rattle.read_state.specs.declared.Due.the-variants.{Frame}
-use Rattle.read_state.specs.declared.Moved.{Moved}
-use Rattle.read_state.specs.declared.Moved.the-variants.{To, No}
+use Rattle.read_state.specs.declared.NextDue.{NextDue}
+use Rattle.read_state.specs.declared.NextDue.the-variants.{To, No}
 use Rattle.read_state.specs.Meaning.{frameDueOf, dueOf, topicMarkedBy, markedBy, movedOf, markedOf}
 use Rattle.read_frame.specs.declared.codes.Head.{Head}
 use Rattle.read_frame.specs.Heads.{HeadOf}
@@ -35,7 +35,7 @@ module _ (m : Model) (b : List ℕ) (from : ℕ) (rest : List ℕ) (c : Content)
     unfolding topicIn refuse
     topic-missing e s = rw (some-field rest start len f s, f .first s, e)
 
-    pub topic-begun : (r : Moved) (p : ℕ) → findTopic from 0 (take len (drop start rest)) (m .topics) ≡ found p
+    pub topic-begun : (r : NextDue) (p : ℕ) → findTopic from 0 (take len (drop start rest)) (m .topics) ≡ found p
         → ((s : ℕ) → r ≡ endIn 3 (fieldsOf s (drop (start + len) rest)) (Frame (frame.Table p 0))) → (s : ℕ) → markedOf b (length (m .topics)) r c ≡ topicIn m from (fieldsOf s rest) c
     unfolding topicIn endIn frameDueOf dueOf topicMarkedBy markedBy refuse
     topic-begun r p e g s =
@@ -43,7 +43,7 @@ module _ (m : Model) (b : List ℕ) (from : ℕ) (rest : List ℕ) (c : Content)
         rw (some-field rest start len f s, f .first s, e, behind-more (record { start = s + start; bytes = take len (drop start rest) } ∷ k) 0 (omega arith), g (s + start + len))
         (marked-refuse b c (length (m .topics)) (moreThan 0 k) (No 11 3) (To (Frame (frame.Table p 0))))
 
-pub topic-holds : (m : Model) (b : List ℕ) (from : ℕ) (name : List ℕ) (p : ℕ) (r : Moved) (fs : List Field) → findTopic from 0 name (m .topics) ≡ found p
+pub topic-holds : (m : Model) (b : List ℕ) (from : ℕ) (name : List ℕ) (p : ℕ) (r : NextDue) (fs : List Field) → findTopic from 0 name (m .topics) ≡ found p
     → r ≡ endIn 3 fs (Frame (frame.Table p 0)) → MovedHolds m b r
 unfolding endIn
 topic-holds m b from name p r fs t e =
@@ -52,7 +52,7 @@ topic-holds m b from name p r fs t e =
 
 -- ## TOPI or EMOD
 
-module _ (m : Model) (rooms : Rooms) (text b : List ℕ) (from : ℕ) (l : List ℕ) (h : Head) (o : HeadOf l h) (r : Moved) (c : Content) (s : ℕ) where
+module _ (m : Model) (rooms : Rooms) (text b : List ℕ) (from : ℕ) (l : List ℕ) (h : Head) (o : HeadOf l h) (r : NextDue) (c : Content) (s : ℕ) where
   pub model-closed : h .code ≡ 15 → ((s : ℕ) → r ≡ endIn 2 (fieldsOf s (drop (h .behind) l)) (Frame frame.Closing)) → markedOf b (length (m .topics)) r c ≡ topicLine m rooms text from (fieldsOf s l) c
   unfolding topicLine bare endIn frameDueOf dueOf topicMarkedBy markedBy choose
   model-closed e g =
@@ -78,7 +78,7 @@ module _ (m : Model) (rooms : Rooms) (text b : List ℕ) (from : ℕ) (l : List 
 
 -- ## MTID and MODL
 
-module _ (m : Model) (rooms : Rooms) (text b : List ℕ) (l : List ℕ) (h : Head) (o : HeadOf l h) (r : Moved) (c : Content) (s : ℕ) where
+module _ (m : Model) (rooms : Rooms) (text b : List ℕ) (l : List ℕ) (h : Head) (o : HeadOf l h) (r : NextDue) (c : Content) (s : ℕ) where
   pub transfer-named : h .code ≡ 3 → ((s : ℕ) → r ≡ namedIn (m .transfer) (fieldsOf s (drop (h .behind) l)) (Frame frame.ModelName)) → movedOf b r c ≡ transferLine m rooms text (fieldsOf s l) c
   unfolding transferLine frameDueOf dueOf refuse
   transfer-named e g =

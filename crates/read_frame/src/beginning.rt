@@ -13,50 +13,50 @@ use crate::codes;
 use crate::lines;
 use read_state::Due;
 use read_state::FrameDue;
-use read_state::Moved;
+use read_state::NextDue;
 
 // "MTID with the transfer name"; 8: "MOTR in place of MTID".
-pub fn transfer_line(model: &[u8], l: &[u8]) -> Moved
+pub fn transfer_line(model: &[u8], line: &[u8]) -> NextDue
     requires { ⌜ checkModel (now model) ≡ good (modelAt (now model)) ⌝ }
     ensures meant { λ r. ⌜
         ((rooms : Rooms) (text : List ℕ) (s : ℕ) (c : Content)
         → movedOf (now (model .entry)) r c
-        ≡ transferLine (modelAt (now (model .entry))) rooms text (fieldsOf s (now (l .entry))) c) ⌝ }
+        ≡ transferLine (modelAt (now (model .entry))) rooms text (fieldsOf s (now (line .entry))) c) ⌝ }
     ensures held { λ r. ⌜ MovedHolds (modelAt (now (model .entry))) (now (model .entry)) r ⌝ }
 {
-    let head = codes::head_of(l);
+    let head = codes::head_of(line);
     let behind = head.behind;
     let code = head.code;
     let second = model_records::next_at(model, 0);
     match code {
         codes::MTID => lines::named_line(
-            &l[behind..],
+            &line[behind..],
             &model[7..second],
             Due::Frame(FrameDue::ModelName),
         ),
-        codes::MOTR => Moved::No(8, 1),
-        _ => Moved::No(7, 1),
+        codes::MOTR => NextDue::No(8, 1),
+        _ => NextDue::No(7, 1),
     }
 }
 
 // "MODL with the model name".
-pub fn model_line(model: &[u8], l: &[u8]) -> Moved
+pub fn model_line(model: &[u8], line: &[u8]) -> NextDue
     requires { ⌜ checkModel (now model) ≡ good (modelAt (now model)) ⌝ }
     ensures meant { λ r. ⌜
         ((rooms : Rooms) (text : List ℕ) (s : ℕ) (c : Content)
         → movedOf (now (model .entry)) r c
-        ≡ modelLine (modelAt (now (model .entry))) rooms text (fieldsOf s (now (l .entry))) c) ⌝ }
+        ≡ modelLine (modelAt (now (model .entry))) rooms text (fieldsOf s (now (line .entry))) c) ⌝ }
     ensures held { λ r. ⌜ MovedHolds (modelAt (now (model .entry))) (now (model .entry)) r ⌝ }
 {
-    let head = codes::head_of(l);
+    let head = codes::head_of(line);
     let behind = head.behind;
     if head.code != codes::MODL {
-        return Moved::No(7, 1);
+        return NextDue::No(7, 1);
     }
     let second = model_records::next_at(model, 0);
     let first = model_records::next_at(model, second);
     lines::named_line(
-        &l[behind..],
+        &line[behind..],
         &model[second + 4..first],
         Due::Frame(FrameDue::Topic(0)),
     )

@@ -82,19 +82,19 @@ pub struct Head {
     pub behind: usize,
 }
 
-pub fn head_of(l: &[u8]) -> Head
-    ensures { λ r. ⌜ HeadOf (now (l .entry)) r ⌝ }
+pub fn head_of(line: &[u8]) -> Head
+    ensures { λ r. ⌜ HeadOf (now (line .entry)) r ⌝ }
 {
-    let next = fields::next_field(l);
+    let next = fields::next_field(line);
     match next {
         Next::Field { start, len } => {
             let end = start + len;
-            let code = read_code(&l[start..end]);
+            let code = read_code(&line[start..end]);
             Head { code, behind: end }
         }
         Next::Nothing => Head {
             code: NO_CODE,
-            behind: l.len(),
+            behind: line.len(),
         },
     }
 }

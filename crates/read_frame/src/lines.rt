@@ -17,7 +17,7 @@ use base::fields;
 use base::fields::Next;
 use read_state::Due;
 use read_state::FrameDue;
-use read_state::Moved;
+use read_state::NextDue;
 
 // Whether the rest of a line has no field.
 pub fn is_bare(rest: &[u8]) -> bool
@@ -31,77 +31,77 @@ pub fn is_bare(rest: &[u8]) -> bool
 }
 
 // The end of a line, whose next field would be this one.
-pub(crate) fn end_line(rest: &[u8], field: usize, due: Due) -> Moved
+pub(crate) fn end_line(rest: &[u8], field: usize, due: Due) -> NextDue
     ensures { λ r. ⌜ ((s : ℕ) → r ≡ endIn field (fieldsOf s (now (rest .entry))) due) ⌝ }
 {
     if is_bare(rest) {
-        Moved::To(due)
+        NextDue::To(due)
     } else {
-        Moved::No(11, field)
+        NextDue::No(11, field)
     }
 }
 
 // This name behind a line's code, and nothing else.
-pub(crate) fn named_line(rest: &[u8], name: &[u8], due: Due) -> Moved
+pub(crate) fn named_line(rest: &[u8], name: &[u8], due: Due) -> NextDue
     ensures { λ r. ⌜ ((s : ℕ) → r ≡ namedIn (now (name .entry)) (fieldsOf s (now (rest .entry))) due) ⌝ }
 {
     let next = fields::next_field(rest);
     match next {
-        Next::Nothing => Moved::No(11, 2),
+        Next::Nothing => NextDue::No(11, 2),
         Next::Field { start, len } => {
             let end = start + len;
             if compare::same_bytes(&rest[start..end], name) {
                 end_line(&rest[end..], 3, due)
             } else {
-                Moved::No(9, 2)
+                NextDue::No(9, 2)
             }
         }
     }
 }
 
 // A line that is the code of this number alone.
-pub(crate) fn alone_line(l: &[u8], code: u8, due: Due) -> Moved
+pub(crate) fn alone_line(line: &[u8], code: u8, due: Due) -> NextDue
     requires { ⌜ code ≤ 16 ⌝ }
-    ensures { λ r. ⌜ ((s i : ℕ) → code ≡ i + 1 → r ≡ aloneIn (getD codes i []) (fieldsOf s (now (l .entry))) due) ⌝ }
+    ensures { λ r. ⌜ ((s i : ℕ) → code ≡ i + 1 → r ≡ aloneIn (getD codes i []) (fieldsOf s (now (line .entry))) due) ⌝ }
 {
-    let head = codes::head_of(l);
+    let head = codes::head_of(line);
     let behind = head.behind;
     if head.code != code {
-        return Moved::No(7, 1);
+        return NextDue::No(7, 1);
     }
-    end_line(&l[behind..], 2, due)
+    end_line(&line[behind..], 2, due)
 }
 
 // SCNT.
-pub fn opening_line(l: &[u8]) -> Moved
+pub fn opening_line(line: &[u8]) -> NextDue
     ensures meant { λ r. ⌜
         ((m : Model) (rooms : Rooms) (text b : List ℕ) (s : ℕ) (c : Content)
-        → movedOf b r c ≡ openingLine m rooms text (fieldsOf s (now (l .entry))) c) ⌝ }
+        → movedOf b r c ≡ openingLine m rooms text (fieldsOf s (now (line .entry))) c) ⌝ }
     ensures held { λ r. ⌜ ((m : Model) (b : List ℕ) → MovedHolds m b r) ⌝ }
 {
-    alone_line(l, codes::SCNT, Due::Frame(FrameDue::Description))
+    alone_line(line, codes::SCNT, Due::Frame(FrameDue::Description))
 }
 
 // A description line, or ////.
-pub fn description_line(l: &[u8]) -> Moved
+pub fn description_line(line: &[u8]) -> NextDue
     ensures meant { λ r. ⌜
         ((m : Model) (rooms : Rooms) (text b : List ℕ) (s : ℕ) (c : Content)
-        → movedOf b r c ≡ descriptionLine m rooms text (now (l .entry)) (fieldsOf s (now (l .entry))) c) ⌝ }
+        → movedOf b r c ≡ descriptionLine m rooms text (now (line .entry)) (fieldsOf s (now (line .entry))) c) ⌝ }
     ensures held { λ r. ⌜ ((m : Model) (b : List ℕ) → MovedHolds m b r) ⌝ }
 {
-    if compare::begins_with(l, b"////") {
-        alone_line(l, codes::SLASHES, Due::Frame(FrameDue::Transfer))
+    if compare::begins_with(line, b"////") {
+        alone_line(line, codes::SLASHES, Due::Frame(FrameDue::Transfer))
     } else {
-        Moved::To(Due::Frame(FrameDue::Description))
+        NextDue::To(Due::Frame(FrameDue::Description))
     }
 }
 
 // ENDE.
-pub fn closing_line(l: &[u8]) -> Moved
+pub fn closing_line(line: &[u8]) -> NextDue
     ensures meant { λ r. ⌜
         ((m : Model) (rooms : Rooms) (text b : List ℕ) (s : ℕ) (c : Content)
-        → movedOf b r c ≡ closingLine m rooms text (fieldsOf s (now (l .entry))) c) ⌝ }
+        → movedOf b r c ≡ closingLine m rooms text (fieldsOf s (now (line .entry))) c) ⌝ }
     ensures held { λ r. ⌜ ((m : Model) (b : List ℕ) → MovedHolds m b r) ⌝ }
 {
-    alone_line(l, codes::ENDE, Due::Frame(FrameDue::Nothing))
+    alone_line(line, codes::ENDE, Due::Frame(FrameDue::Nothing))
 }

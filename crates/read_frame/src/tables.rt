@@ -8,7 +8,7 @@ ghost use Rattle.meaning.specs.Reading.{Content, Rooms, sameName, mandatoryBetw
 ghost use Rattle.meaning.specs.Lines.{tableLine, behindObjects};
 ghost use Rattle.read_state.specs.Meaning.{movedOf, markedOf};
 ghost use Rattle.model_records.specs.Records.{payloadAt, nextAt, modelAt};
-ghost use Rattle.model_records.specs.Places.{Placed};
+ghost use Rattle.model_records.specs.Places.{RecordsPlaced};
 ghost use Rattle.read_frame.specs.Moves.{MovedHolds};
 ghost use Rattle.read_frame.specs.Finds.{foundAt, FoundTable, tableIn, topicEndIn};
 use crate::codes;
@@ -21,7 +21,7 @@ use model_records::places;
 use model_records::places::Shape;
 use read_state::Due;
 use read_state::FrameDue;
-use read_state::Moved;
+use read_state::NextDue;
 
 // The number of a table, a table behind a mandatory one, or no such table.
 pub enum TableFound {
@@ -40,13 +40,13 @@ fn is_table(model: &[u8], at: usize, name: &[u8]) -> bool
 }
 
 // Table t, unless a mandatory one was passed before it.
-fn found_table(t: usize, mandatory: bool) -> TableFound
-    ensures { λ r. ⌜ r ≡ foundAt t mandatory ⌝ }
+fn found_table(table: usize, mandatory: bool) -> TableFound
+    ensures { λ r. ⌜ r ≡ foundAt table mandatory ⌝ }
 {
     if mandatory {
         return TableFound::Skipped;
     }
-    TableFound::At(t)
+    TableFound::At(table)
 }
 
 // The table of this topic and this name, `from` or a later one.
@@ -58,7 +58,7 @@ fn find_table(
     topic: usize,
     from: usize,
 ) -> TableFound
-    requires { ⌜ Placed (now model) shape (now places) ⌝ }
+    requires { ⌜ RecordsPlaced (now model) shape (now places) ⌝ }
     ensures { λ r. ⌜ FoundTable (modelAt (now (model .entry))) topic from (now (name .entry)) r ⌝ }
 {
     let mut t = from;
@@ -77,7 +77,7 @@ fn find_table(
 
 // Whether a mandatory table of this topic is left, from table `from` on.
 fn has_mandatory(model: &[u8], places: &[usize], shape: Shape, topic: usize, from: usize) -> bool
-    requires { ⌜ Placed (now model) shape (now places) ⌝ }
+    requires { ⌜ RecordsPlaced (now model) shape (now places) ⌝ }
     ensures { λ r. ⌜ (let tables = modelAt (now (model .entry)) .tables in
         r ≡ mandatoryBetween topic from (length tables) 0 tables) ⌝ }
 {
@@ -100,8 +100,8 @@ fn begin_table(
     rest: &[u8],
     topic: usize,
     from: usize,
-) -> Moved
-    requires { ⌜ Placed (now model) shape (now places) ⌝ }
+) -> NextDue
+    requires { ⌜ RecordsPlaced (now model) shape (now places) ⌝ }
     ensures meant { λ r. ⌜ ((s : ℕ) (c : Content) → let m = modelAt (now (model .entry)) in
         markedOf (now (model .entry)) (length (m .topics)) r c
         ≡ tableIn m topic from (fieldsOf s (now (rest .entry))) c) ⌝ }
@@ -109,13 +109,13 @@ fn begin_table(
 {
     let next = fields::next_field(rest);
     match next {
-        Next::Nothing => Moved::No(11, 2),
+        Next::Nothing => NextDue::No(11, 2),
         Next::Field { start, len } => {
             let end = start + len;
             let found = find_table(model, places, shape, &rest[start..end], topic, from);
             match found {
-                TableFound::Missing => Moved::No(9, 2),
-                TableFound::Skipped => Moved::No(10, 2),
+                TableFound::Missing => NextDue::No(9, 2),
+                TableFound::Skipped => NextDue::No(10, 2),
                 TableFound::At(t) => lines::end_line(&rest[end..], 3, Due::Object(t)),
             }
         }
@@ -130,8 +130,8 @@ fn end_topic(
     rest: &[u8],
     topic: usize,
     from: usize,
-) -> Moved
-    requires { ⌜ Placed (now model) shape (now places) ⌝ }
+) -> NextDue
+    requires { ⌜ RecordsPlaced (now model) shape (now places) ⌝ }
     requires { ⌜ topic < shape .topics ⌝ }
     ensures meant { λ r. ⌜ ((s : ℕ) (c : Content) → let m = modelAt (now (model .entry)) in
         markedOf (now (model .entry)) (length (m .topics)) r c
@@ -139,7 +139,7 @@ fn end_topic(
     ensures held { λ r. ⌜ MovedHolds (modelAt (now (model .entry))) (now (model .entry)) r ⌝ }
 {
     if has_mandatory(model, places, shape, topic, from) {
-        return Moved::No(10, 1);
+        return NextDue::No(10, 1);
     }
     lines::end_line(rest, 2, Due::Frame(FrameDue::Topic(topic + 1)))
 }
@@ -149,40 +149,46 @@ pub fn table_line(
     model: &[u8],
     places: &[usize],
     shape: Shape,
-    l: &[u8],
+    line: &[u8],
     topic: usize,
     from: usize,
-) -> Moved
-    requires { ⌜ Placed (now model) shape (now places) ⌝ }
+) -> NextDue
+    requires { ⌜ RecordsPlaced (now model) shape (now places) ⌝ }
     requires { ⌜ topic < shape .topics ⌝ }
     ensures meant { λ r. ⌜ ((rooms : Rooms) (text : List ℕ) (s : ℕ) (c : Content) →
         let m = modelAt (now (model .entry)) in
         markedOf (now (model .entry)) (length (m .topics)) r c
-        ≡ tableLine m rooms text topic from (fieldsOf s (now (l .entry))) c) ⌝ }
+        ≡ tableLine m rooms text topic from (fieldsOf s (now (line .entry))) c) ⌝ }
     ensures held { λ r. ⌜ MovedHolds (modelAt (now (model .entry))) (now (model .entry)) r ⌝ }
 {
-    let head = codes::head_of(l);
+    let head = codes::head_of(line);
     let behind = head.behind;
     let code = head.code;
     match code {
-        codes::ETOP => end_topic(model, places, shape, &l[behind..], topic, from),
-        codes::TABL => begin_table(model, places, shape, &l[behind..], topic, from),
-        _ => Moved::No(7, 1),
+        codes::ETOP => end_topic(model, places, shape, &line[behind..], topic, from),
+        codes::TABL => begin_table(model, places, shape, &line[behind..], topic, from),
+        _ => NextDue::No(7, 1),
     }
 }
 
 // What may follow the objects of this table: ETAB.
-pub fn behind_objects(model: &[u8], places: &[usize], shape: Shape, l: &[u8], table: usize) -> Moved
-    requires { ⌜ Placed (now model) shape (now places) ⌝ }
+pub fn behind_objects(
+    model: &[u8],
+    places: &[usize],
+    shape: Shape,
+    line: &[u8],
+    table: usize,
+) -> NextDue
+    requires { ⌜ RecordsPlaced (now model) shape (now places) ⌝ }
     requires { ⌜ table < shape .tables ⌝ }
     ensures meant { λ r. ⌜ ((rooms : Rooms) (text : List ℕ) (s : ℕ) (c : Content) →
         let m = modelAt (now (model .entry)) in
-        movedOf (now (model .entry)) r c ≡ behindObjects m rooms text table (fieldsOf s (now (l .entry))) c) ⌝ }
+        movedOf (now (model .entry)) r c ≡ behindObjects m rooms text table (fieldsOf s (now (line .entry))) c) ⌝ }
     ensures held { λ r. ⌜ MovedHolds (modelAt (now (model .entry))) (now (model .entry)) r ⌝ }
 {
     let topic = places::topic_of(places, table);
     lines::alone_line(
-        l,
+        line,
         codes::ETAB,
         Due::Frame(FrameDue::Table(topic, table + 1)),
     )

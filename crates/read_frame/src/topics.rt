@@ -8,7 +8,7 @@ ghost use Rattle.meaning.specs.Reading.{Content, Rooms, sameName, findTopic};
 ghost use Rattle.meaning.specs.Lines.{topicLine};
 ghost use Rattle.read_state.specs.Meaning.{markedOf};
 ghost use Rattle.model_records.specs.Records.{payloadAt, nextAt, modelAt};
-ghost use Rattle.model_records.specs.Places.{Placed};
+ghost use Rattle.model_records.specs.Places.{RecordsPlaced};
 ghost use Rattle.read_frame.specs.Moves.{MovedHolds};
 ghost use Rattle.read_frame.specs.Finds.{topicFoundOf, topicIn};
 use crate::codes;
@@ -20,7 +20,7 @@ use model_records::places;
 use model_records::places::Shape;
 use read_state::Due;
 use read_state::FrameDue;
-use read_state::Moved;
+use read_state::NextDue;
 
 // The number of a topic, or no such topic.
 pub enum TopicFound {
@@ -39,7 +39,7 @@ fn is_topic(model: &[u8], at: usize, name: &[u8]) -> bool
 
 // The topic of this name, `from` or a later one.
 fn find_topic(model: &[u8], places: &[usize], shape: Shape, name: &[u8], from: usize) -> TopicFound
-    requires { ⌜ Placed (now model) shape (now places) ⌝ }
+    requires { ⌜ RecordsPlaced (now model) shape (now places) ⌝ }
     ensures { λ r. ⌜
         topicFoundOf r ≡ findTopic from 0 (now (name .entry)) (modelAt (now (model .entry)) .topics) ⌝ }
 {
@@ -54,20 +54,20 @@ fn find_topic(model: &[u8], places: &[usize], shape: Shape, name: &[u8], from: u
 }
 
 // The fields behind TOPI.
-fn begin_topic(model: &[u8], places: &[usize], shape: Shape, rest: &[u8], from: usize) -> Moved
-    requires { ⌜ Placed (now model) shape (now places) ⌝ }
+fn begin_topic(model: &[u8], places: &[usize], shape: Shape, rest: &[u8], from: usize) -> NextDue
+    requires { ⌜ RecordsPlaced (now model) shape (now places) ⌝ }
     ensures meant { λ r. ⌜ ((s : ℕ) (c : Content) → let m = modelAt (now (model .entry)) in
         markedOf (now (model .entry)) (length (m .topics)) r c ≡ topicIn m from (fieldsOf s (now (rest .entry))) c) ⌝ }
     ensures held { λ r. ⌜ MovedHolds (modelAt (now (model .entry))) (now (model .entry)) r ⌝ }
 {
     let next = fields::next_field(rest);
     match next {
-        Next::Nothing => Moved::No(11, 2),
+        Next::Nothing => NextDue::No(11, 2),
         Next::Field { start, len } => {
             let end = start + len;
             let found = find_topic(model, places, shape, &rest[start..end], from);
             match found {
-                TopicFound::Missing => Moved::No(9, 2),
+                TopicFound::Missing => NextDue::No(9, 2),
                 TopicFound::At(p) => lines::end_line(
                     &rest[end..],
                     3,
@@ -79,20 +79,20 @@ fn begin_topic(model: &[u8], places: &[usize], shape: Shape, rest: &[u8], from: 
 }
 
 // TOPI of topic `from` or a later one, or EMOD.
-pub fn topic_line(model: &[u8], places: &[usize], shape: Shape, l: &[u8], from: usize) -> Moved
-    requires { ⌜ Placed (now model) shape (now places) ⌝ }
+pub fn topic_line(model: &[u8], places: &[usize], shape: Shape, line: &[u8], from: usize) -> NextDue
+    requires { ⌜ RecordsPlaced (now model) shape (now places) ⌝ }
     ensures meant { λ r. ⌜ ((rooms : Rooms) (text : List ℕ) (s : ℕ) (c : Content) →
         let m = modelAt (now (model .entry)) in
         markedOf (now (model .entry)) (length (m .topics)) r c
-        ≡ topicLine m rooms text from (fieldsOf s (now (l .entry))) c) ⌝ }
+        ≡ topicLine m rooms text from (fieldsOf s (now (line .entry))) c) ⌝ }
     ensures held { λ r. ⌜ MovedHolds (modelAt (now (model .entry))) (now (model .entry)) r ⌝ }
 {
-    let head = codes::head_of(l);
+    let head = codes::head_of(line);
     let behind = head.behind;
     let code = head.code;
     match code {
-        codes::EMOD => lines::end_line(&l[behind..], 2, Due::Frame(FrameDue::Closing)),
-        codes::TOPI => begin_topic(model, places, shape, &l[behind..], from),
-        _ => Moved::No(7, 1),
+        codes::EMOD => lines::end_line(&line[behind..], 2, Due::Frame(FrameDue::Closing)),
+        codes::TOPI => begin_topic(model, places, shape, &line[behind..], from),
+        _ => NextDue::No(7, 1),
     }
 }

@@ -15,14 +15,14 @@ use Rattle.meaning.specs.Row.{Pair, Cells, cells, refused, hasMandatory, pairCe
 use Rattle.base.specs.Fields.{FirstField}
 use Rattle.model_records.specs.Records.{kindAt, nextAt, pairsAt}
 use Rattle.model_records.specs.AtRecord.{AttributesHere}
-use Rattle.read_fields.specs.Filled.{zeros, prefixed, coveredCells, covered, left, going, goingOver, covering, Steps, Fills}
+use Rattle.read_fields.specs.RowProgress.{zeros, prefixed, coveredCells, covered, left, going, goingOver, covering, RowFilled, Fills}
 use Rattle.read_objects.specs.Fields.{recordPairs, Ends, EndsHere}
 use Rattle.read_fields.specs.declared.filling.RowCursor.{RowCursor}
-use Rattle.read_fields.specs.declared.filling.Filled.the-variants.{On, RestUndefined}
+use Rattle.read_fields.specs.declared.filling.RowProgress.the-variants.{On, RestUndefined}
 use Rattle.read_objects.specs.declared.rows.RowOut.{RowOut}
 use Rattle.read_objects.specs.declared.rows.RowOut.the-variants.{Full, No}
 use Rattle.read_fields.proofs.Stores.{sets-append, length-zeros}
-use Rattle.read_fields.proofs.Steps.{none, both, wider, renamed, before, refuses}
+use Rattle.read_fields.proofs.RowFilled.{none, both, wider, renamed, before, refuses}
 use Rattle.read_objects.proofs.Records.{pairs-next, no-record}
 
 -- ## BehindRow the last attribute
@@ -63,7 +63,7 @@ module _ (rest : List ℕ) (s : RowCursor) (count : ℕ) (ps : List Pair) where
 
 -- ## A row filled, and its end
 
-module _ {rest : List ℕ} {m : ℕ} {whole after : Cells} {s t : RowCursor} {entry between : List ℤ} (a : Steps rest m (λ ps. whole) (λ ps. after) s t entry between) where
+module _ {rest : List ℕ} {m : ℕ} {whole after : Cells} {s t : RowCursor} {entry between : List ℤ} (a : RowFilled rest m (λ ps. whole) (λ ps. after) s t entry between) where
   pub then-ends : (most : ℕ) (exit : List ℤ) (r : RowOut) → Ends after most (t .used) between exit r → Ends whole most (s .used) entry exit r
   unfolding prefixed
   then-ends most exit (Full n) e = record {
@@ -86,7 +86,7 @@ abbrev pub fromRecord : (u start : ℕ) (rest b : List ℕ) (here : ℕ) → Row
 fromRecord u start rest b here s ps = going u start rest s (pairsAt b here)
 
 module _ (u start : ℕ) (rest b : List ℕ) (here : ℕ) {m : Model} (from : AttributesHere m b here) {most : ℕ} {whole : Cells} {s₀ s : RowCursor} {entry cells : List ℤ}
-    (now : Steps rest most (λ ps. whole) (fromRecord u start rest b here s) s₀ s entry cells) where
+    (now : RowFilled rest most (λ ps. whole) (fromRecord u start rest b here s) s₀ s entry cells) where
   pub row-end : (limit : ℕ) → (kindAt b here ≡ 5 → ⊥) → s .used ≤ limit → (r : RowOut) → EndsHere rest s r → Ends whole limit (s₀ .used) entry cells r
   row-end limit n h r e =
       let g : pairsAt b here ≡ [] = no-record b here from n in
@@ -97,7 +97,7 @@ module _ (u start : ℕ) (rest b : List ℕ) (here : ℕ) {m : Model} (from : At
     record-due ps = rw (pairs-next b here from e)
 
     pub row-on : (t : RowCursor) → Fills u start rest 6 (goingOver u start rest (recordPairs b here) s) s cells between (On t)
-        → Steps rest (most + 6) (λ ps. whole) (fromRecord u start rest b (nextAt b here) t) s₀ t entry between
+        → RowFilled rest (most + 6) (λ ps. whole) (fromRecord u start rest b (nextAt b here) t) s₀ t entry between
     row-on t f = both now (renamed (fromRecord u start rest b here s) (fromRecord u start rest b (nextAt b here) t) record-due (λ ps. refl) (before (λ ps. pairsAt b (nextAt b here)) f))
 
     pub row-rest : (t : RowCursor) (n : ℕ) → Fills u start rest 6 (goingOver u start rest (recordPairs b here) s) s cells between (RestUndefined t n)
@@ -105,13 +105,13 @@ module _ (u start : ℕ) (rest b : List ℕ) (here : ℕ) {m : Model} (from : At
     row-rest t n f limit exit r g =
         then-ends (both now (renamed (fromRecord u start rest b here s) (λ ps. covering start rest t n (pairsAt b (nextAt b here))) record-due (λ ps. refl) (before (λ ps. pairsAt b (nextAt b here)) (f .1)))) limit exit r g
 
-    pub row-no : (k g : ℕ) → Fills u start rest 6 (goingOver u start rest (recordPairs b here) s) s cells between (Rattle.read_fields.specs.declared.filling.Filled.the-variants.No k g) → whole ≡ refused k g
+    pub row-no : (k g : ℕ) → Fills u start rest 6 (goingOver u start rest (recordPairs b here) s) s cells between (Rattle.read_fields.specs.declared.filling.RowProgress.the-variants.No k g) → whole ≡ refused k g
     unfolding prefixed
     row-no k g f = refuses (refused k g) (λ ps. record-due ps ∙ f (pairsAt b (nextAt b here))) (λ vs. refl) now []
 
 -- before the first attribute
 pub row-start : (u start : ℕ) (rest b : List ℕ) (at : ℕ) (l : List ℤ) (s : RowCursor) → s ≡ record { at = 0; place = 3; used = 0; before = true }
-    → Steps rest (2 * (at - at)) (λ ps. pairCells u true 3 (pairsAt b at) (fieldsOf start rest)) (fromRecord u start rest b at s) s s l l
+    → RowFilled rest (2 * (at - at)) (λ ps. pairCells u true 3 (pairsAt b at) (fieldsOf start rest)) (fromRecord u start rest b at s) s s l l
 row-start u start rest b at l s e =
     wider (2 * (at - at)) (omega arith) (renamed (λ ps. pairCells u true 3 (pairsAt b at) (fieldsOf start rest)) (fromRecord u start rest b at s)
     (λ ps. rw e (rw (add-zero start))) (λ ps. refl) (none rest (fromRecord u start rest b at s) s l (rw e (omega arith)) (rw e (omega arith))))

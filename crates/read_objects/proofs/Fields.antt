@@ -23,8 +23,8 @@ use Rattle.read_state.specs.declared.Step as declared
 use Rattle.read_state.specs.declared.Step.the-variants.{No}
 use Rattle.read_objects.specs.Tables.{TableHolds}
 use Rattle.read_frame.proofs.Moves.{behind-more, behind-at}
-use Rattle.read_objects.specs.declared.naming.Identified.{Identified}
-use Rattle.read_objects.specs.declared.naming.Identified.the-variants.{At}
+use Rattle.read_objects.specs.declared.naming.IdentificationForm.{IdentificationForm}
+use Rattle.read_objects.specs.declared.naming.IdentificationForm.the-variants.{At}
 use Rattle.read_objects.specs.Names.{identifyIn, IdentifiedAt, Identifies}
 use Rattle.read_objects.specs.Rows.{RowAdds}
 
@@ -49,7 +49,7 @@ part-first text from end a size h = ap (take size) (part-behind text from end a)
 pub part-size : (text : List ℕ) (from end : ℕ) → from ≤ end → end ≤ length text → length (stretch text from (end - from)) ≡ end - from
 part-size text from end l h = length-take-le (end - from) (drop from text) (omega (arith, length-drop from text))
 
-pub identified : (u : ℕ) (rest : List ℕ) (r : Identified) (a size : ℕ) → r ≡ At a size → Identifies u rest r → IdentifiedAt u rest a size
+pub identified : (u : ℕ) (rest : List ℕ) (r : IdentificationForm) (a size : ℕ) → r ≡ At a size → Identifies u rest r → IdentifiedAt u rest a size
 identified u rest r a size e i = subst (Identifies u rest) e i
 
 pub named-within : (text : List ℕ) (from end u a size : ℕ) → IdentifiedAt u (stretch text from (end - from)) a size → from ≤ end → end ≤ length text → from + a + size ≤ end
@@ -88,7 +88,7 @@ module _ (b text : List ℕ) (seed : ℕ) (here : OpenTable) (s : State) (at end
       ∙ ap (λ (fs : List Field). identifyIn (modelAt b .undefined) fs (behindShape (modelAt b) rooms text (here .table) (fieldAt 1 fs) (drop 1 fs) c)) rest-fields
       ∙ ap (λ (v : ℕ). identifyIn v (fieldsOf (at + behind) (stretch text (at + behind) (end - (at + behind)))) (behindShape (modelAt b) rooms text (here .table) (fieldAt 1 (fieldsOf (at + behind) (stretch text (at + behind) (end - (at + behind))))) (drop 1 (fieldsOf (at + behind) (stretch text (at + behind) (end - (at + behind))))) c)) (sym undefined)
 
-  pub unnamed : (k : ℕ) (r : Identified) → r ≡ Identified.No k → Identifies u (stretch text (at + behind) (end - (at + behind))) r → RowAdds b text seed s whole rows rows′ cs cs′ index index′ (No k 2)
+  pub unnamed : (k : ℕ) (r : IdentificationForm) → r ≡ IdentificationForm.No k → Identifies u (stretch text (at + behind) (end - (at + behind))) r → RowAdds b text seed s whole rows rows′ cs cs′ index index′ (No k 2)
   unnamed k r e i =
       let h : (p : ℕ) (next : Step) → identifyIn u (fieldsOf p (stretch text (at + behind) (end - (at + behind)))) next ≡ no k 2 = subst (Identifies u (stretch text (at + behind) (end - (at + behind)))) e i in
       record { step = λ j rooms marks points x y z. sym (whole-is rooms _ ∙ h (at + behind) _); holds = λ marks points held. tt }

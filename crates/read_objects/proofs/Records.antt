@@ -15,10 +15,10 @@ use Rattle.model_records.specs.declared.Component.{Component}
 use Rattle.model_records.specs.Components.{componentOf, listOf}
 use Rattle.model_records.specs.declared.Attribute.{Attribute}
 use Rattle.model_records.specs.Records.{kindAt, payloadAt, nextAt, pairsAt}
-use Rattle.model_records.specs.Attributes.{typeOf, firstOf, Decoded}
+use Rattle.model_records.specs.Attributes.{typeOf, firstOf, RecordAttribute}
 use Rattle.model_records.specs.AtRecord.{RecordFits, AttributeHere, AttributeNext, AttributesHere}
 use Rattle.model_records.proofs.AtRecord as standing
-use Rattle.read_fields.specs.Filled.{ComponentsCounted}
+use Rattle.read_fields.specs.RowProgress.{ComponentsCounted}
 use Rattle.read_objects.specs.Fields.{recordPairs}
 use Rattle.read_fields.proofs.Coordinates.{mandatory-components}
 use Rattle.model_records.proofs.ComponentLaws.{listed-next}
@@ -71,14 +71,14 @@ module _ (a : Attribute) (counted : ComponentsCounted a) where
 
 -- ## Records
 
-pub counted : (b : List ℕ) (at : ℕ) (a : Attribute) → Decoded b at a → ComponentsCounted a
+pub counted : (b : List ℕ) (at : ℕ) (a : Attribute) → RecordAttribute b at a → ComponentsCounted a
 counted b at a d = record { room = d .room; most = d .count; least = λ h g. go h g (eqb (a .kind) 2) refl }
   where
     go : 2 ≤ a .kind → a .kind ≤ 3 → (two : Bool) → eqb (a .kind) 2 ≡ two → 1 ≤ a .components .count
     go h g true e = omega (arith, d .two (eqb-true (a .kind) 2 e))
     go h g false e = let n : a .kind ≡ 2 → ⊥ = eqb-false (a .kind) 2 e in omega (arith, d .three (omega arith))
 
-pub decoded-pairs : (b : List ℕ) (at : ℕ) (a : Attribute) → Decoded b at a → pairsOfType (a .optional) (typeOf a) ≡ recordPairs b at
+pub decoded-pairs : (b : List ℕ) (at : ℕ) (a : Attribute) → RecordAttribute b at a → pairsOfType (a .optional) (typeOf a) ≡ recordPairs b at
 decoded-pairs b at a d = rw (d .type) (ap (λ (o : Bool). pairsOfType o (attributeOf at (payloadAt b at) .type)) (d .optional))
 
 module _ {m : Model} (b : List ℕ) (at : ℕ) (from : AttributesHere m b at) where
@@ -106,7 +106,7 @@ module _ {m : Model} (b : List ℕ) (at : ℕ) (from : AttributesHere m b at) wh
     mandatory-next : hasMandatory (pairsAt b at) ≡ (hasMandatory (recordPairs b at) || hasMandatory (pairsAt b (nextAt b at)))
     mandatory-next = ap hasMandatory pairs-next ∙ mandatory-append (recordPairs b at) (pairsAt b (nextAt b at))
 
-    module _ (a : Attribute) (d : Decoded b at a) where
+    module _ (a : Attribute) (d : RecordAttribute b at a) where
       module _ (r : Bool) (h : r ≡ hasMandatory (pairsOfType (a .optional) (typeOf a))) where
         here-mandatory : hasMandatory (recordPairs b at) ≡ r
         here-mandatory = ap hasMandatory (sym (decoded-pairs b at a d)) ∙ sym h

@@ -8,7 +8,7 @@ use lib.Seq.{sets}
 use Rattle.meaning.specs.Model.{attributeOf}
 use Rattle.meaning.specs.Row.{Pair, Cells, cells, refused, pairsOfType}
 use Rattle.model_records.specs.Records.{payloadAt}
-use Rattle.read_fields.specs.Filled.{going}
+use Rattle.read_fields.specs.RowProgress.{going}
 use Rattle.read_fields.specs.declared.filling.RowCursor.{RowCursor}
 use Rattle.read_objects.specs.declared.rows.RowOut.{RowOut}
 use Rattle.read_objects.specs.declared.rows.RowOut.the-variants.{Full, No}

@@ -15,8 +15,8 @@ use Rattle.table_index.specs.Index.{hashOf}
 use Rattle.table_index.specs.Holds.{IndexedTable}
 use Rattle.read_state.specs.declared.State.{State}
 use Rattle.read_objects.specs.declared.storing.Name.{Name}
-use Rattle.read_objects.specs.declared.naming.Identified.{Identified}
-use Rattle.read_objects.specs.declared.naming.Identified.the-variants.{At}
+use Rattle.read_objects.specs.declared.naming.IdentificationForm.{IdentificationForm}
+use Rattle.read_objects.specs.declared.naming.IdentificationForm.the-variants.{At}
 
 -- the fields behind the code OBJE, judged up to the identification's shape, and then the next step
 unfoldable pub identifyIn : (u : ℕ) → List Field → Step → Step
@@ -31,9 +31,9 @@ pub record IdentifiedAt (u : ℕ) (rest : List ℕ) (at len : ℕ) : Type 0 wher
   pub first : FirstField rest at len
   pub goesOn : (s : ℕ) (next : Step) → identifyIn u (fieldsOf s rest) next ≡ next
 
-abbrev pub Identifies : ℕ → List ℕ → Identified → Type 0
+abbrev pub Identifies : ℕ → List ℕ → IdentificationForm → Type 0
 Identifies u rest (At at len) = IdentifiedAt u rest at len
-Identifies u rest (Identified.No k) = (s : ℕ) (next : Step) → identifyIn u (fieldsOf s rest) next ≡ no k 2
+Identifies u rest (IdentificationForm.No k) = (s : ℕ) (next : Step) → identifyIn u (fieldsOf s rest) next ≡ no k 2
 
 -- a name that no object before has, and its hash under this seed
 pub record NewName (text : List ℕ) (seed : ℕ) (name : Name) (s : State) (rows : List ℕ) (cells : List ℤ)

@@ -12,7 +12,7 @@ ghost use Rattle.read_objects.specs.Tables.{TableHolds};
 ghost use Rattle.read_objects.specs.Rows.{RowAdds, rowMeant};
 use crate::OpenTable;
 use crate::naming;
-use crate::naming::Identified;
+use crate::naming::IdentificationForm;
 use crate::storing;
 use crate::storing::Name;
 use read_state::State;
@@ -29,16 +29,16 @@ fn add_object(
     index: &mut [u64],
     seed: u64,
     here: OpenTable,
-    s: State,
+    state: State,
     start: usize,
     size: usize,
 ) -> Step
     requires { ⌜ TableHolds (modelAt (now model)) (now model) here ⌝ }
     requires { ⌜ (start + size ≤ end) × (end ≤ length (now text)) × (length (now text) < 2 ^ 62) ⌝ }
     requires { ⌜ length (now model) ≤ 65536 ⌝ }
-    requires { ⌜ IndexedTable seed (now text) (s .rows) (s .cells) (now rows) (now cells) (now index) ⌝ }
+    requires { ⌜ IndexedTable seed (now text) (state .rows) (state .cells) (now rows) (now cells) (now index) ⌝ }
     ensures { λ r. ⌜ (let b = now (model .entry) in let t = now (text .entry) in
-        RowAdds b t seed s
+        RowAdds b t seed state
         (λ rooms c. refuse (isUsed (stretch t start size) (objectsOf t (c .cells) (c .rows))) (no 15 2)
         (rowMeant b t undefined here start size end rooms c))
         (now (rows .entry)) (now (rows .exit)) (now (cells .entry)) (now (cells .exit))
@@ -51,7 +51,7 @@ fn add_object(
         rows,
         cells,
         index,
-        s.rows,
+        state.rows,
         seed,
         hash,
         &text[start..stop],
@@ -67,7 +67,7 @@ fn add_object(
         cells,
         index,
         here,
-        s,
+        state,
         Name { start, size, hash },
     )
 }
@@ -85,24 +85,24 @@ pub fn object_fields(
     index: &mut [u64],
     seed: u64,
     here: OpenTable,
-    s: State,
+    state: State,
 ) -> Step
     requires { ⌜ TableHolds (modelAt (now model)) (now model) here ⌝ }
     requires { ⌜ (at + behind ≤ end) × (end ≤ length (now text)) × (length (now text) < 2 ^ 62) ⌝ }
     requires { ⌜ (length (now model) ≤ 65536) × (undefined ≡ modelAt (now model) .undefined) ⌝ }
     requires { ⌜ (let l = stretch (now text) at (end - at) in
         (1 ≤ length (fieldsOf at l)) × (drop 1 (fieldsOf at l) ≡ fieldsOf (at + behind) (drop behind l))) ⌝ }
-    requires { ⌜ IndexedTable seed (now text) (s .rows) (s .cells) (now rows) (now cells) (now index) ⌝ }
+    requires { ⌜ IndexedTable seed (now text) (state .rows) (state .cells) (now rows) (now cells) (now index) ⌝ }
     ensures { λ r. ⌜ (let b = now (model .entry) in let t = now (text .entry) in
-        RowAdds b t seed s
+        RowAdds b t seed state
         (λ rooms c. objectFields (modelAt b) rooms t (here .table) (fieldsOf at (stretch t at (end - at))) c)
         (now (rows .entry)) (now (rows .exit)) (now (cells .entry)) (now (cells .exit))
         (now (index .entry)) (now (index .exit)) r) ⌝ }
 {
     let from = at + behind;
     match naming::take_identification(&text[from..end], undefined) {
-        Identified::No(k) => Step::No(k, 2),
-        Identified::At(a, size) => add_object(
+        IdentificationForm::No(k) => Step::No(k, 2),
+        IdentificationForm::At(a, size) => add_object(
             model,
             text,
             end,
@@ -112,7 +112,7 @@ pub fn object_fields(
             index,
             seed,
             here,
-            s,
+            state,
             from + a,
             size,
         ),

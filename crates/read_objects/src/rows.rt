@@ -8,7 +8,7 @@ ghost use Rattle.meaning.specs.Row.{pairsOfType, hasMandatory, pairCells};
 ghost use Rattle.model_records.specs.Attributes.{typeOf};
 ghost use Rattle.model_records.specs.Records.{modelAt, pairsAt};
 ghost use Rattle.model_records.specs.AtRecord.{AttributeHere, AttributesHere};
-ghost use Rattle.read_fields.specs.Filled.{goingOver, covering, ComponentsCounted, Ready, Fills};
+ghost use Rattle.read_fields.specs.RowProgress.{goingOver, covering, ComponentsCounted, CursorReady, Fills};
 ghost use Rattle.read_objects.specs.Fields.{recordPairs, EndsHere, Ends};
 use base::fields::Next;
 use model_records::ATTRIBUTE;
@@ -17,8 +17,8 @@ use model_records::ENUMERATION;
 use model_records::REFERENCE;
 use model_records::counts;
 use read_fields::filling;
-use read_fields::filling::Filled;
 use read_fields::filling::RowCursor;
+use read_fields::filling::RowProgress;
 use read_fields::storing;
 
 // The row is full with so many cells behind its first three; or a refusal and its field.
@@ -28,13 +28,13 @@ pub enum RowOut {
 }
 
 // Whether an attribute's field may not be undefined; a line has none here.
-fn is_mandatory(a: Attribute) -> bool
-    requires { ⌜ ComponentsCounted a ⌝ }
-    ensures { λ r. ⌜ r ≡ hasMandatory (pairsOfType (a .optional) (typeOf a)) ⌝ }
+fn is_mandatory(attribute: Attribute) -> bool
+    requires { ⌜ ComponentsCounted attribute ⌝ }
+    ensures { λ r. ⌜ r ≡ hasMandatory (pairsOfType (attribute .optional) (typeOf attribute)) ⌝ }
 {
-    let kind = a.kind;
+    let kind = attribute.kind;
     match kind {
-        REFERENCE..=ENUMERATION => !a.optional,
+        REFERENCE..=ENUMERATION => !attribute.optional,
         _ => false,
     }
 }
@@ -62,27 +62,27 @@ fn put_record(
     start: usize,
     undefined: u8,
     cells: &mut [i64],
-    s: RowCursor,
-) -> Filled
+    cursor: RowCursor,
+) -> RowProgress
     requires { ⌜ AttributeHere (now model) at ⌝ }
-    requires { ⌜ Ready start (now rest) 6 s ⌝ }
+    requires { ⌜ CursorReady start (now rest) 6 cursor ⌝ }
     ensures { λ r. ⌜ (let rest = now (rest .entry) in
-        Fills undefined start rest 6 (goingOver undefined start rest (recordPairs (now (model .entry)) at) s) s
+        Fills undefined start rest 6 (goingOver undefined start rest (recordPairs (now (model .entry)) at) cursor) cursor
         (now (cells .entry)) (now (cells .exit)) r) ⌝ }
 {
     let a = model_records::attribute_at(model, at);
-    filling::put_attribute(a, rest, start, undefined, cells, s)
+    filling::put_attribute(a, rest, start, undefined, cells, cursor)
 }
 
 // BehindRow the last attribute no field is left.
-fn end_row(rest: &[u8], s: RowCursor) -> RowOut
-    requires { ⌜ s .at ≤ length (now rest) ⌝ }
-    ensures { λ r. ⌜ EndsHere (now (rest .entry)) s r ⌝ }
+fn end_row(rest: &[u8], cursor: RowCursor) -> RowOut
+    requires { ⌜ cursor .at ≤ length (now rest) ⌝ }
+    ensures { λ r. ⌜ EndsHere (now (rest .entry)) cursor r ⌝ }
 {
-    let at = s.at;
+    let at = cursor.at;
     match base::fields::next_field(&rest[at..]) {
-        Next::Field { start, len } => RowOut::No(11, s.place),
-        Next::Nothing => RowOut::Full(s.used),
+        Next::Field { start, len } => RowOut::No(11, cursor.place),
+        Next::Nothing => RowOut::Full(cursor.used),
     }
 }
 
@@ -93,24 +93,24 @@ fn undefine_rest(
     rest: &[u8],
     left: usize,
     cells: &mut [i64],
-    s: RowCursor,
+    cursor: RowCursor,
 ) -> RowOut
     requires { ⌜ AttributesHere (modelAt (now model)) (now model) at ⌝ }
-    requires { ⌜ (s .at ≤ length (now rest)) × (s .place + 1 < 2 ^ 64) × (s .used + (left + left) ≤ at + at) ⌝ }
+    requires { ⌜ (cursor .at ≤ length (now rest)) × (cursor .place + 1 < 2 ^ 64) × (cursor .used + (left + left) ≤ at + at) ⌝ }
     ensures { λ r. ⌜ ((start : ℕ) → let b = now (model .entry) in
-        Ends (covering start (now (rest .entry)) s left (pairsAt b at)) (2 * length b) (s .used)
+        Ends (covering start (now (rest .entry)) cursor left (pairsAt b at)) (2 * length b) (cursor .used)
         (now (cells .entry)) (now (cells .exit)) r) ⌝ }
 {
     if has_mandatory(model, at) {
-        return RowOut::No(12, s.place);
+        return RowOut::No(12, cursor.place);
     }
-    let from = s.at;
+    let from = cursor.at;
     match base::fields::next_field(&rest[from..]) {
-        Next::Field { start, len } => RowOut::No(11, s.place + 1),
+        Next::Field { start, len } => RowOut::No(11, cursor.place + 1),
         Next::Nothing => {
             let pairs = left + counts::count_pairs(model, at);
-            storing::put_zeros(cells, s.used, pairs);
-            RowOut::Full(s.used + 2 * pairs)
+            storing::put_zeros(cells, cursor.used, pairs);
+            RowOut::Full(cursor.used + 2 * pairs)
         }
     }
 }
@@ -141,13 +141,13 @@ pub(crate) fn row_fields(
     while model_records::kind_at(model, here) == ATTRIBUTE {
         let next = model_records::next_at(model, here);
         match put_record(model, here, rest, start, undefined, cells, s) {
-            Filled::On(t) => {
+            RowProgress::On(t) => {
                 s = t;
             }
-            Filled::RestUndefined(t, left) => {
+            RowProgress::RestUndefined(t, left) => {
                 return undefine_rest(model, next, rest, left, cells, t);
             }
-            Filled::No(k, f) => {
+            RowProgress::No(k, f) => {
                 return RowOut::No(k, f);
             }
         }

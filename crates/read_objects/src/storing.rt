@@ -95,18 +95,18 @@ fn add_row(
 }
 
 // The state behind a row of so many cells.
-fn state_behind(model: &[u8], here: OpenTable, s: State, size: usize) -> State
+fn state_behind(model: &[u8], here: OpenTable, state: State, size: usize) -> State
     requires { ⌜ TableHolds (modelAt (now model)) (now model) here ⌝ }
-    requires { ⌜ (s .rows + 1 < 2 ^ 64) × (s .cells + size < 2 ^ 64)
+    requires { ⌜ (state .rows + 1 < 2 ^ 64) × (state .cells + size < 2 ^ 64)
         × (3 + 2 * length (pairsAt (now model) (here .at)) ≤ size) ⌝ }
-    ensures { λ r. ⌜ BehindRow (now (model .entry)) here s size r ⌝ }
+    ensures { λ r. ⌜ BehindRow (now (model .entry)) here state size r ⌝ }
 {
-    let due = read_polylines::due_lines(model, here.table, here.at, s.cells + 3, s.points);
+    let due = read_polylines::due_lines(model, here.table, here.at, state.cells + 3, state.points);
     State {
         due,
-        rows: s.rows + 1,
-        cells: s.cells + size,
-        points: s.points,
+        rows: state.rows + 1,
+        cells: state.cells + size,
+        points: state.points,
     }
 }
 
@@ -120,15 +120,15 @@ pub(crate) fn store_row(
     cells: &mut [i64],
     index: &mut [u64],
     here: OpenTable,
-    s: State,
+    state: State,
     name: Name,
 ) -> Step
     requires { ⌜ TableHolds (modelAt (now model)) (now model) here ⌝ }
     requires { ⌜ (name .start + name .size ≤ end) × (end ≤ length (now text)) × (length (now text) < 2 ^ 62) ⌝ }
-    requires { ⌜ (length (now model) ≤ 65536) × (s .cells ≤ length (now cells)) × (name .hash < 4294967296) ⌝ }
+    requires { ⌜ (length (now model) ≤ 65536) × (state .cells ≤ length (now cells)) × (name .hash < 4294967296) ⌝ }
     ensures { λ r. ⌜ ((seed : ℕ) → let b = now (model .entry) in let t = now (text .entry) in
-        NewName t seed name s (now (rows .entry)) (now (cells .entry)) (now (index .entry))
-        → RowAdds b t seed s (rowMeant b t undefined here (name .start) (name .size) end)
+        NewName t seed name state (now (rows .entry)) (now (cells .entry)) (now (index .entry))
+        → RowAdds b t seed state (rowMeant b t undefined here (name .start) (name .size) end)
         (now (rows .entry)) (now (rows .exit)) (now (cells .entry)) (now (cells .exit))
         (now (index .entry)) (now (index .exit)) r) ⌝ }
 {
@@ -140,15 +140,23 @@ pub(crate) fn store_row(
         from,
         undefined,
         cells,
-        s.cells,
+        state.cells,
     ) {
         RowOut::No(k, f) => Step::No(k, f),
         RowOut::Full(n) => {
-            if lacks_room(rows.len(), cells.len(), s.rows, s.cells + (3 + n)) {
+            if lacks_room(rows.len(), cells.len(), state.rows, state.cells + (3 + n)) {
                 return Step::No(16, 0);
             }
-            add_row(rows, cells, index, s.rows, s.cells, here.table, name);
-            Step::Go(state_behind(model, here, s, 3 + n))
+            add_row(
+                rows,
+                cells,
+                index,
+                state.rows,
+                state.cells,
+                here.table,
+                name,
+            );
+            Step::Go(state_behind(model, here, state, 3 + n))
         }
     }
 }

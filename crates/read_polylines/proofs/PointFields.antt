@@ -17,8 +17,8 @@ use Rattle.meaning.specs.Row.{Cells, cells, refused, putNumber, componentValues
 use Rattle.model_records.specs.declared.Component.{Component}
 use Rattle.model_records.specs.Components.{componentOf, listOf}
 use Rattle.base.specs.Fields.{FirstField}
-use Rattle.read_fields.specs.Taken.{FieldTaken, TwiceTaken}
-use Rattle.read_fields.specs.Filled.{prefixed}
+use Rattle.read_fields.specs.FieldForm.{FieldTaken, TwiceTaken}
+use Rattle.read_fields.specs.RowProgress.{prefixed}
 use Rattle.read_polylines.specs.PointFields.{ValueGot}
 use Rattle.read_fields.proofs.Pairs.{prefixed-none, prefixed-both}
 use Rattle.model_records.proofs.ComponentLaws.{listed-next, listed-end}

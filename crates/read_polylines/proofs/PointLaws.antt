@@ -21,7 +21,7 @@ use Rattle.meaning.specs.Lines.{go, no, storePoint, attributeLine}
 use Rattle.meaning.specs.Lines as lines
 use Rattle.model_records.specs.declared.Attribute.{Attribute}
 use Rattle.model_records.specs.Records.{modelAt}
-use Rattle.model_records.specs.Attributes.{Decoded}
+use Rattle.model_records.specs.Attributes.{RecordAttribute}
 use Rattle.read_state.specs.declared.LineState.{LineState}
 use Rattle.read_state.specs.declared.OpenLine.{OpenLine}
 use Rattle.read_state.specs.declared.Due.the-variants as due
@@ -66,7 +66,7 @@ module _ (b : List ℕ) (u : OpenLine) (s : State) where
     moved-holds : (m : Model) (rows : List ℕ) (n used points points′ : ℕ) → points ≤ points′ → LineHolds m b rows n used points u → LineHolds m b rows n used points′ (movedTo next u)
     moved-holds m rows n used points points′ g l = record { table = l .table; attributes = l .attributes; kind = l .kind; line = l .line; behindRows = l .behindRows; fits = l .fits; first = omega (arith, l .first) }
 
-    module _ (a : Attribute) (d : Decoded b (u .at) a) (l : LineHolds (modelAt b) b [] 0 (s .cells) (s .points) u) where
+    module _ (a : Attribute) (d : RecordAttribute b (u .at) a) (l : LineHolds (modelAt b) b [] 0 (s .cells) (s .points) u) where
       due-moved : dueOf b (due.Line (movedTo next u)) ≡ lineOf (withState (lineStateOf next) (wayOf b a u))
       due-moved = due-way (modelAt b) b [] 0 (s .cells) (s .points) (movedTo next u) (moved-holds (modelAt b) [] 0 (s .cells) (s .points) (s .points) (omega arith) l) a d
 

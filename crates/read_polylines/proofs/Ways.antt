@@ -21,7 +21,7 @@ use Rattle.model_records.specs.Components.{componentsOf}
 use Rattle.model_records.specs.declared.Attribute.{Attribute}
 use Rattle.model_records.specs.Records.{modelAt, payloadAt, nextAt, pairsAt}
 use Rattle.model_records.specs.AtRecord.{AttributeNext, AttributesHere}
-use Rattle.model_records.specs.Attributes.{typeOf, Decoded}
+use Rattle.model_records.specs.Attributes.{typeOf, RecordAttribute}
 use Rattle.model_records.proofs.AtRecord.{attribute-here}
 use Rattle.table_index.proofs.Kept.{beside-behind, held-pair}
 use Rattle.read_state.specs.declared.OpenLine.{OpenLine}
@@ -75,7 +75,7 @@ module _ (m : Model) (b rows : List ℕ) (n used points : ℕ) (u : OpenLine) (h
   without-rows = record { table = h .table; attributes = h .attributes; kind = h .kind; line = h .line; behindRows = λ o l. absurd (omega arith); fits = h .fits; first = h .first }
 
   -- the attribute of its record
-  module _ (a : Attribute) (d : Decoded b (u .at) a) where
+  module _ (a : Attribute) (d : RecordAttribute b (u .at) a) where
     line-type : attributeOf (u .at) (payloadAt b (u .at)) .type ≡ Line (a .number) (componentsOf (a .components))
     unfolding typeOf choose
     line-type = let k : a .kind ≡ 8 = d .kind ∙ h .line in sym (d .type) ∙ rw k refl
@@ -194,7 +194,7 @@ pub by-move : (b : List ℕ) (u : OpenLine) (s : State) (m : Model) (rooms : Roo
 by-move b u s m rooms text w fs cells points cells′ points′ move move′ e r d = subst (λ (x : meaning.Move). LineDoes b u s (λ c. attributeLine m rooms text w fs c x) cells points cells′ points′ r) e d
 
 -- a line of what is due is a line of the line attribute under way
-pub due-line : (b : List ℕ) (a : Attribute) (u : OpenLine) (s : State) → LineHolds (modelAt b) b [] 0 (s .cells) (s .points) u → Decoded b (u .at) a
+pub due-line : (b : List ℕ) (a : Attribute) (u : OpenLine) (s : State) → LineHolds (modelAt b) b [] 0 (s .cells) (s .points) u → RecordAttribute b (u .at) a
     → (rooms : Rooms) (text l : List ℕ) (fs : List Field) (cells points cells′ points′ : List ℤ) (r : state.Step)
     → LineDoes b u s (λ c. attributeLine (modelAt b) rooms text (wayOf b a u) fs c (meaning.move (lineStateOf (u .state)) (meaning.lineCodeOf fs))) cells points cells′ points′ r
     → LineDoes b u s (λ c. lineDue (modelAt b) rooms text (dueOf b (due.Line u)) l fs c) cells points cells′ points′ r

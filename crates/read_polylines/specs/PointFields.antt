@@ -7,7 +7,7 @@ use lib.ListN.{length, take, drop}
 use Rattle.meaning.specs.Model.{Component}
 use Rattle.meaning.specs.Field.{fieldsOf}
 use Rattle.meaning.specs.Row.{cells, refused, componentValues}
-use Rattle.read_fields.specs.Filled.{prefixed}
+use Rattle.read_fields.specs.RowProgress.{prefixed}
 use Rattle.read_polylines.specs.declared.point_fields.ValueTaken as got
 use Rattle.read_polylines.specs.declared.point_fields.ValueTaken.the-variants as gets
 use Rattle.read_polylines.specs.declared.point_fields.PointAnswer.{PointAnswer}

@@ -7,7 +7,7 @@ ghost use Rattle.meaning.specs.Field.{Field, fieldsOf};
 ghost use Rattle.meaning.specs.Reading as meaning;
 ghost use Rattle.meaning.specs.Reading.{dueLines, Rooms, move};
 ghost use Rattle.meaning.specs.Lines.{attributeLine, lineDue};
-ghost use Rattle.model_records.specs.Attributes.{Decoded};
+ghost use Rattle.model_records.specs.Attributes.{RecordAttribute};
 ghost use Rattle.model_records.specs.Records.{modelAt, pairsAt};
 ghost use Rattle.model_records.specs.AtRecord.{AttributesHere};
 ghost use Rattle.read_state.specs.declared.Due.the-variants.{Line};
@@ -65,39 +65,45 @@ pub fn due_lines(model: &[u8], table: usize, at: usize, cell: usize, first: usiz
 // A line of the line attribute under way, by its code and the rest behind it; a is the attribute of its record.
 fn move_line(
     model: &[u8],
-    a: Attribute,
+    attribute: Attribute,
     code: LineCode,
     rest: &[u8],
     undefined: u8,
     cells: &mut [i64],
     points: &mut [i64],
-    u: OpenLine,
-    s: State,
+    polyline: OpenLine,
+    state: State,
 ) -> Step
-    requires { ⌜ LineGiven (now model) undefined u s (now cells) (now points) ⌝ }
-    requires { ⌜ Decoded (now model) (u .at) a ⌝ }
+    requires { ⌜ LineGiven (now model) undefined polyline state (now cells) (now points) ⌝ }
+    requires { ⌜ RecordAttribute (now model) (polyline .at) attribute ⌝ }
     ensures { λ r. ⌜ ((rooms : Rooms) (text : List ℕ) (fs : List Field) (start : ℕ) → let b = now (model .entry) in
         rooms .points ≡ length (now (points .entry)) → drop 1 fs ≡ fieldsOf start (now (rest .entry))
         → meaning.lineCodeOf fs ≡ lineCodeOf code
-        → let moved = move (lineStateOf (u .state)) (meaning.lineCodeOf fs) in
-        LineDoes b u s (λ c. attributeLine (modelAt b) rooms text (wayOf b a u) fs c moved)
+        → let moved = move (lineStateOf (polyline .state)) (meaning.lineCodeOf fs) in
+        LineDoes b polyline state (λ c. attributeLine (modelAt b) rooms text (wayOf b attribute polyline) fs c moved)
         (now (cells .entry)) (now (points .entry)) (now (cells .exit)) (now (points .exit)) r) ⌝ }
 {
-    let state = u.state;
-    match state.step(code) {
+    let before = polyline.state;
+    match before.step(code) {
         Move::Unexpected => Step::No(7, 1),
-        Move::UndefinedLine => moves::undefined_line(model, a.optional, rest, u, s),
-        Move::Ended => moves::end_line(model, rest, cells, u, s),
+        Move::UndefinedLine => moves::undefined_line(
+            model,
+            attribute.optional,
+            rest,
+            polyline,
+            state,
+        ),
+        Move::Ended => moves::end_line(model, rest, cells, polyline, state),
         Move::Point(kind, next) => points::point_line(
-            a,
+            attribute,
             code,
             rest,
             undefined,
             points,
             kind,
             next,
-            u,
-            s,
+            polyline,
+            state,
         ),
     }
 }
@@ -105,24 +111,34 @@ fn move_line(
 // A line of the line attribute under way.
 pub fn attribute_line(
     model: &[u8],
-    l: &[u8],
+    line: &[u8],
     undefined: u8,
     cells: &mut [i64],
     points: &mut [i64],
-    u: OpenLine,
-    s: State,
+    polyline: OpenLine,
+    state: State,
 ) -> Step
-    requires { ⌜ LineGiven (now model) undefined u s (now cells) (now points) ⌝ }
+    requires { ⌜ LineGiven (now model) undefined polyline state (now cells) (now points) ⌝ }
     ensures { λ r. ⌜ ((rooms : Rooms) (text : List ℕ) (start : ℕ) → let b = now (model .entry) in
         rooms .points ≡ length (now (points .entry))
-        → LineDoes b u s
-        (λ c. lineDue (modelAt b) rooms text (dueOf b (Line u)) (now (l .entry)) (fieldsOf start (now (l .entry))) c)
+        → LineDoes b polyline state
+        (λ c. lineDue (modelAt b) rooms text (dueOf b (Line polyline)) (now (line .entry)) (fieldsOf start (now (line .entry))) c)
         (now (cells .entry)) (now (points .entry)) (now (cells .exit)) (now (points .exit)) r) ⌝ }
 {
-    let at = u.at;
-    let head = read_frame::codes::head_of(l);
+    let at = polyline.at;
+    let head = read_frame::codes::head_of(line);
     let behind = head.behind;
     let a = model_records::attribute_at(model, at);
     let code = moves::name_code(head.code);
-    move_line(model, a, code, &l[behind..], undefined, cells, points, u, s)
+    move_line(
+        model,
+        a,
+        code,
+        &line[behind..],
+        undefined,
+        cells,
+        points,
+        polyline,
+        state,
+    )
 }

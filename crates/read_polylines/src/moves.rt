@@ -32,18 +32,18 @@ pub(crate) fn name_code(number: u8) -> LineCode
 }
 
 // The state behind the last line of the line attribute under way: the next one has this first point.
-fn behind_line(model: &[u8], u: OpenLine, s: State, first: usize) -> State
-    requires { ⌜ LineReady (now model) u s ⌝ }
-    ensures { λ r. ⌜ BehindLine (now (model .entry)) u s first r ⌝ }
+fn behind_line(model: &[u8], polyline: OpenLine, state: State, first: usize) -> State
+    requires { ⌜ LineReady (now model) polyline state ⌝ }
+    ensures { λ r. ⌜ BehindLine (now (model .entry)) polyline state first r ⌝ }
 {
-    let at = u.at;
+    let at = polyline.at;
     let next = model_records::next_at(model, at);
-    let due = crate::due_lines(model, u.table, next, u.cell + 2, first);
+    let due = crate::due_lines(model, polyline.table, next, polyline.cell + 2, first);
     State {
         due,
-        rows: s.rows,
-        cells: s.cells,
-        points: s.points,
+        rows: state.rows,
+        cells: state.cells,
+        points: state.points,
     }
 }
 
@@ -52,14 +52,14 @@ pub(crate) fn undefined_line(
     model: &[u8],
     optional: bool,
     rest: &[u8],
-    u: OpenLine,
-    s: State,
+    polyline: OpenLine,
+    state: State,
 ) -> Step
-    requires { ⌜ LineReady (now model) u s ⌝ }
+    requires { ⌜ LineReady (now model) polyline state ⌝ }
     ensures { λ r. ⌜ ((a : Attribute) (rooms : Rooms) (text : List ℕ) (fs : List Field) (start : ℕ)
         (cells points : List ℤ) → let b = now (model .entry) in
         a .optional ≡ optional → drop 1 fs ≡ fieldsOf start (now (rest .entry))
-        → LineDoes b u s (λ c. attributeLine (modelAt b) rooms text (wayOf b a u) fs c undefinedLine)
+        → LineDoes b polyline state (λ c. attributeLine (modelAt b) rooms text (wayOf b a polyline) fs c undefinedLine)
         cells points cells points r) ⌝ }
 {
     if !optional {
@@ -68,7 +68,7 @@ pub(crate) fn undefined_line(
     if !read_frame::lines::is_bare(rest) {
         return Step::No(11, 2);
     }
-    Step::Go(behind_line(model, u, s, u.first))
+    Step::Go(behind_line(model, polyline, state, polyline.first))
 }
 
 // "Line: 1 plus its count of points, its first point".
@@ -83,18 +83,29 @@ fn put_line(cells: &mut [i64], cell: usize, count: usize, first: usize)
 }
 
 // ELIN behind the last point of a line.
-pub(crate) fn end_line(model: &[u8], rest: &[u8], cells: &mut [i64], u: OpenLine, s: State) -> Step
-    requires { ⌜ LineReady (now model) u s ⌝ }
-    requires { ⌜ s .cells ≤ length (now cells) ⌝ }
+pub(crate) fn end_line(
+    model: &[u8],
+    rest: &[u8],
+    cells: &mut [i64],
+    polyline: OpenLine,
+    state: State,
+) -> Step
+    requires { ⌜ LineReady (now model) polyline state ⌝ }
+    requires { ⌜ state .cells ≤ length (now cells) ⌝ }
     ensures { λ r. ⌜ ((a : Attribute) (rooms : Rooms) (text : List ℕ) (fs : List Field) (start : ℕ)
         (points : List ℤ) → let b = now (model .entry) in
-        4 * s .points ≤ length points → drop 1 fs ≡ fieldsOf start (now (rest .entry))
-        → LineDoes b u s (λ c. attributeLine (modelAt b) rooms text (wayOf b a u) fs c ended)
+        4 * state .points ≤ length points → drop 1 fs ≡ fieldsOf start (now (rest .entry))
+        → LineDoes b polyline state (λ c. attributeLine (modelAt b) rooms text (wayOf b a polyline) fs c ended)
         (now (cells .entry)) points (now (cells .exit)) points r) ⌝ }
 {
     if !read_frame::lines::is_bare(rest) {
         return Step::No(11, 2);
     }
-    put_line(cells, u.cell, s.points - u.first, u.first);
-    Step::Go(behind_line(model, u, s, s.points))
+    put_line(
+        cells,
+        polyline.cell,
+        state.points - polyline.first,
+        polyline.first,
+    );
+    Step::Go(behind_line(model, polyline, state, state.points))
 }

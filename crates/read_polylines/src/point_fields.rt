@@ -8,7 +8,7 @@ use base::fields::Next;
 use model_records::Component;
 use model_records::Components;
 use read_fields::taking;
-use read_fields::taking::Taken;
+use read_fields::taking::FieldForm;
 use value_read::Value;
 
 // The value of the next field, and where the field ends in the rest; or the number of its refusal.
@@ -34,16 +34,16 @@ fn get_value(rest: &[u8], undefined: u8, component: Component) -> ValueTaken
     ensures { λ r. ⌜ GetsValue undefined (componentOf component) (now (rest .entry)) r ⌝ }
 {
     match taking::take_field(rest, undefined) {
-        Taken::Missing => ValueTaken::No(11),
-        Taken::Defined(from, len) => {
+        FieldForm::Missing => ValueTaken::No(11),
+        FieldForm::Defined(from, len) => {
             let end = from + len;
             match value_read::numbers::read_number(&rest[from..end], component) {
                 Value::Pair(_, v) => ValueTaken::Value(v, end),
                 Value::Wrong(k) => ValueTaken::No(k),
             }
         }
-        Taken::Undefined(_, _) => ValueTaken::No(12),
-        Taken::Twice(_, _) => ValueTaken::No(12),
+        FieldForm::Undefined(_, _) => ValueTaken::No(12),
+        FieldForm::Twice(_, _) => ValueTaken::No(12),
     }
 }
 

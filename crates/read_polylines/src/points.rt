@@ -11,7 +11,7 @@ ghost use Rattle.meaning.specs.Reading.{Rooms, point};
 ghost use Rattle.meaning.specs.Lines.{attributeLine};
 ghost use Rattle.model_records.specs.Components.{componentsOf};
 ghost use Rattle.model_records.specs.Records.{modelAt};
-ghost use Rattle.model_records.specs.Attributes.{Decoded};
+ghost use Rattle.model_records.specs.Attributes.{RecordAttribute};
 ghost use Rattle.read_state.specs.Meaning.{lineStateOf, lineCodeOf};
 ghost use Rattle.read_state.specs.Holds.{LineHolds};
 ghost use Rattle.read_polylines.specs.Ways.{wayOf, LineDoes};
@@ -26,46 +26,46 @@ use read_state::OpenLine;
 use read_state::State;
 use read_state::Step;
 
-// A point joins the table where there is room for it; u has the line state behind it.
+// A point joins the table where there is room for it; the polyline has the line state behind it.
 fn store_point(
     points: &mut [i64],
     kind: u8,
     values: [i64; 3],
     count: usize,
-    u: OpenLine,
-    s: State,
+    polyline: OpenLine,
+    state: State,
 ) -> Step
     requires { ⌜ (2 ≤ count) × (count ≤ 3) × (length values ≡ 3) ⌝ }
-    requires { ⌜ 4 * s .points ≤ length (now points) ⌝ }
+    requires { ⌜ 4 * state .points ≤ length (now points) ⌝ }
     ensures { λ r. ⌜
-        Stores (pointCells kind (take count values)) u s (now (points .entry)) (now (points .exit)) r ⌝ }
+        Stores (pointCells kind (take count values)) polyline state (now (points .entry)) (now (points .exit)) r ⌝ }
 {
-    let at = 4 * s.points;
+    let at = 4 * state.points;
     if points.len() - at < 4 {
         return Step::No(16, 0);
     }
     table::points::put_point(points, at, kind, values, count);
     Step::Go(State {
-        due: Due::Line(u),
-        rows: s.rows,
-        cells: s.cells,
-        points: s.points + 1,
+        due: Due::Line(polyline),
+        rows: state.rows,
+        cells: state.cells,
+        points: state.points + 1,
     })
 }
 
-// A point from the fields behind its line's code; u has the line state behind it.
+// A point from the fields behind its line's code; the polyline has the line state behind it.
 fn read_point(
     components: Components,
     rest: &[u8],
     undefined: u8,
     points: &mut [i64],
     kind: u8,
-    u: OpenLine,
-    s: State,
+    polyline: OpenLine,
+    state: State,
 ) -> Step
     requires { ⌜ (2 ≤ components .count) × (components .count ≤ 3) × (length (components .items) ≡ 3) ⌝ }
-    requires { ⌜ 4 * s .points ≤ length (now points) ⌝ }
-    ensures { λ r. ⌜ ((start : ℕ) → Joins kind u s (now (points .entry)) (now (points .exit)) r
+    requires { ⌜ 4 * state .points ≤ length (now points) ⌝ }
+    ensures { λ r. ⌜ ((start : ℕ) → Joins kind polyline state (now (points .entry)) (now (points .exit)) r
         (componentValues undefined 2 (componentsOf components) (fieldsOf start (now (rest .entry))))) ⌝ }
 {
     let count = components.count;
@@ -73,43 +73,43 @@ fn read_point(
     let answer = out.answer;
     let values = out.values;
     match answer {
-        PointAnswer::Read => store_point(points, kind, values, count, u, s),
+        PointAnswer::Read => store_point(points, kind, values, count, polyline, state),
         PointAnswer::No(number, field) => Step::No(number, field),
     }
 }
 
 // The line of a point, whose code makes this line state: 18 comes before its fields.
 pub(crate) fn point_line(
-    a: Attribute,
+    attribute: Attribute,
     code: LineCode,
     rest: &[u8],
     undefined: u8,
     points: &mut [i64],
     kind: u8,
     next: LineState,
-    u: OpenLine,
-    s: State,
+    polyline: OpenLine,
+    state: State,
 ) -> Step
-    requires { ⌜ (2 ≤ a .components .count) × (a .components .count ≤ 3) × (length (a .components .items) ≡ 3) ⌝ }
-    requires { ⌜ 4 * s .points ≤ length (now points) ⌝ }
+    requires { ⌜ (2 ≤ attribute .components .count) × (attribute .components .count ≤ 3) × (length (attribute .components .items) ≡ 3) ⌝ }
+    requires { ⌜ 4 * state .points ≤ length (now points) ⌝ }
     ensures { λ r. ⌜ ((b text : List ℕ) (rooms : Rooms) (fs : List Field) (start : ℕ) (cells : List ℤ)
-        → Decoded b (u .at) a → LineHolds (modelAt b) b [] 0 (s .cells) (s .points) u
+        → RecordAttribute b (polyline .at) attribute → LineHolds (modelAt b) b [] 0 (state .cells) (state .points) polyline
         → modelAt b .undefined ≡ undefined → rooms .points ≡ length (now (points .entry))
         → drop 1 fs ≡ fieldsOf start (now (rest .entry)) → meaning.lineCodeOf fs ≡ lineCodeOf code
-        → LineDoes b u s (λ c. attributeLine (modelAt b) rooms text (wayOf b a u) fs c (point kind (lineStateOf next)))
+        → LineDoes b polyline state (λ c. attributeLine (modelAt b) rooms text (wayOf b attribute polyline) fs c (point kind (lineStateOf next)))
         cells (now (points .entry)) cells (now (points .exit)) r) ⌝ }
 {
-    let state = u.state;
-    if state.forbids(code, a.number) {
+    let before = polyline.state;
+    if before.forbids(code, attribute.number) {
         return Step::No(18, 1);
     }
-    let components = a.components;
+    let components = attribute.components;
     let moved = OpenLine {
-        table: u.table,
+        table: polyline.table,
         state: next,
-        first: u.first,
-        at: u.at,
-        cell: u.cell,
+        first: polyline.first,
+        at: polyline.at,
+        cell: polyline.cell,
     };
-    read_point(components, rest, undefined, points, kind, moved, s)
+    read_point(components, rest, undefined, points, kind, moved, state)
 }

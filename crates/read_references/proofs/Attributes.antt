@@ -15,14 +15,14 @@ use Rattle.meaning.specs.Reading.{Object}
 use Rattle.meaning.specs.Table.{afterResolved, resolvePair, resolvePairs}
 use Rattle.model_records.specs.Records.{payloadAt, nextAt, pairsAt}
 use Rattle.model_records.specs.AtRecord.{AttributeHere, AttributeNext}
-use Rattle.model_records.specs.Attributes.{Sized}
+use Rattle.model_records.specs.Attributes.{ParametersFit}
 use Rattle.model_records.proofs.Types.{payload-room, payload-byte, sized, type-at, word-size}
 use Rattle.model_records.specs.Counts.{fieldsOf, pairCount, CountsOf}
 
 -- ## The type
 
 -- only a reference refers to a table
-no-target : (t : ℕ) (q : List ℕ) → Sized t q → (t ≡ 1 → ⊥) → targetOf (typeOf t q) ≡ missing
+no-target : (t : ℕ) (q : List ℕ) → ParametersFit t q → (t ≡ 1 → ⊥) → targetOf (typeOf t q) ≡ missing
 unfolding targetOf typeOf choose
 no-target zero q s n = refl
 no-target (suc zero) q s n = absurd (n refl)
@@ -69,7 +69,7 @@ module _ (o : Bool) (q : List ℕ) (ps : List Pair) where
     moved f c e g = ap₂ (λ (x y : ℕ). resolvePairs text os object x y ps cs) e g
 
   module _ (text : List ℕ) (os : List Object) (object field cell : ℕ) (cs : List ℤ) where
-    resolve-type : (t : ℕ) → Sized t q → resolvePairs text os object field cell (pairsOfType o (typeOf t q) ++ ps) cs
+    resolve-type : (t : ℕ) → ParametersFit t q → resolvePairs text os object field cell (pairsOfType o (typeOf t q) ++ ps) cs
         ≡ afterResolved (resolvePair text os object field cell (targetOf (typeOf t q)) cs) (λ ds. resolvePairs text os object (field + fieldsOf t) (cell + 2 * pairCount t) ps ds)
     unfolding resolvePairs resolvePair targetOf pairsOfType componentPairs typeOf componentsOf fieldsOf pairCount choose
     resolve-type zero s = absurd (omega (arith, s .least))

@@ -15,7 +15,7 @@ use Rattle.meaning.specs.Row.{Pair, OfAttribute, OfComponent, OfLine, pairsOf}
 use Rattle.meaning.specs.Reading.{Object, stretch, cellAt, objectAt, objectsOf}
 use Rattle.meaning.specs.Table.{Resolved, resolved, unresolved, afterResolved, findObject, putReference, resolvePair, resolvePairs, resolveRows}
 use Rattle.model_records.specs.Records.{kindAt, payloadAt, nextAt, attributesAt, pairsAt}
-use Rattle.model_records.specs.Places.{attributesPlace, tablePlace, TableRecord, Noted}
+use Rattle.model_records.specs.Places.{attributesPlace, tablePlace, TableRecord, RecordsNoted}
 use Rattle.model_records.specs.AtRecord.{AttributeHere, AttributeNext, AttributesHere}
 use Rattle.model_records.proofs.AtRecord.{attribute-here, no-attribute}
 use Rattle.model_records.proofs.Types.{parts-room}
@@ -238,7 +238,7 @@ module _ (m : Model) (b places : List ℕ) (seed : ℕ) (text rows : List ℕ) (
         let e : drop o (take n rows) ≡ [] = drop-of-length-le (take n rows) {i = o} (omega (arith, length-take-le n rows (in-rows seed text rows n index cells₀ cs (i .going)))) in
         rw e at (i .same)
 
-    module _ (l : o < n) (laid : RowsLaidOut m n (length cells₀) rows cells₀) {k : ℕ} (placed : Noted m b places k (length (m .tables))) where
+    module _ (l : o < n) (laid : RowsLaidOut m n (length cells₀) rows cells₀) {k : ℕ} (placed : RecordsNoted m b places k (length (m .tables))) where
       kept : cellAt cs (getD rows o 0) ≡ cellAt cells₀ (getD rows o 0)
       kept = table-kept seed text rows n index cells₀ cs (i .going) o l
 

@@ -6,7 +6,7 @@ ghost use Rattle.meaning.specs.Model.{targetOf, attributeOf};
 ghost use Rattle.meaning.specs.Reading.{objectsOf};
 ghost use Rattle.meaning.specs.Table.{resolvePair, resolvePairs, resolveRows};
 ghost use Rattle.model_records.specs.Records.{modelAt, payloadAt, pairsAt};
-ghost use Rattle.model_records.specs.Places.{Placed};
+ghost use Rattle.model_records.specs.Places.{RecordsPlaced};
 ghost use Rattle.model_records.specs.AtRecord.{AttributeHere};
 ghost use Rattle.table_index.specs.Holds.{ObjectsKnown, IndexedTable};
 ghost use Rattle.table.specs.Rows.{RowsLaidOut};
@@ -124,7 +124,7 @@ pub fn resolve_references(
     objects: usize,
     seed: u64,
 ) -> Resolved
-    requires { ⌜ Placed (now model) shape (now places) ⌝ }
+    requires { ⌜ RecordsPlaced (now model) shape (now places) ⌝ }
     requires { ⌜ IndexedTable seed (now text) objects (length (now cells)) (now rows) (now cells) (now index) ⌝ }
     requires { ⌜ RowsLaidOut (modelAt (now model)) objects (length (now cells)) (now rows) (now cells) ⌝ }
     ensures { λ r. ⌜ (let t = now (text .entry) in let cs = now (cells .entry) in

@@ -19,8 +19,8 @@ use Rattle.read_state.specs.declared.Due.{Due}
 use Rattle.read_state.specs.declared.Due.the-variants.{Frame, Object, Line}
 use Rattle.read_state.specs.declared.FrameDue.{FrameDue}
 use Rattle.read_state.specs.declared.FrameDue.the-variants as frame
-use Rattle.read_state.specs.declared.Moved.{Moved}
-use Rattle.read_state.specs.declared.Moved.the-variants.{To}
+use Rattle.read_state.specs.declared.NextDue.{NextDue}
+use Rattle.read_state.specs.declared.NextDue.the-variants.{To}
 use Rattle.read_state.specs.declared.State.{State}
 use Rattle.read_state.specs.declared.Step.{Step}
 use Rattle.read_state.specs.declared.Step.the-variants.{Go}
@@ -99,14 +99,14 @@ markedBy topics (Object table) c = withMark (topics + table) c
 markedBy topics (Line u) c = c
 
 -- behind a line that leaves the table as it is
-abbrev pub movedOf : (model : List ℕ) → Moved → Content → lines.Step
+abbrev pub movedOf : (model : List ℕ) → NextDue → Content → lines.Step
 movedOf model (To due) c = lines.go (dueOf model due) c
-movedOf model (Moved.No number field) c = lines.no number field
+movedOf model (NextDue.No number field) c = lines.no number field
 
 -- behind a line that begins a topic or a table, or ends one
-abbrev pub markedOf : (model : List ℕ) (topics : ℕ) → Moved → Content → lines.Step
+abbrev pub markedOf : (model : List ℕ) (topics : ℕ) → NextDue → Content → lines.Step
 markedOf model topics (To due) c = lines.go (dueOf model due) (markedBy topics due c)
-markedOf model topics (Moved.No number field) c = lines.no number field
+markedOf model topics (NextDue.No number field) c = lines.no number field
 
 -- the table so far, in the lent buffers, of so many marks
 abbrev pub contentOf : (markCount : ℕ) → State → (marks rows : List ℕ) (cells points : List ℤ) → Content

@@ -148,7 +148,7 @@ pub enum Due {
 }
 
 // What is due behind a line that adds nothing to the rows, cells and points; or a refusal and its field.
-pub enum Moved {
+pub enum NextDue {
     To(Due),
     No(u8, usize),
 }

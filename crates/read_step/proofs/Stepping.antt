@@ -17,14 +17,14 @@ use Rattle.meaning.specs.Lines as lines
 use Rattle.meaning.specs.Lines.{lineDue, objectLine, objectFields, behindObjects}
 use Rattle.meaning.proofs.Tests.Refuse.{passed}
 use Rattle.model_records.specs.Records.{modelAt}
-use Rattle.model_records.specs.Places.{Placed, attributesPlace}
+use Rattle.model_records.specs.Places.{RecordsPlaced, attributesPlace}
 use Rattle.model_records.specs.declared.places.Shape.{Shape}
 use Rattle.read_state.specs.declared.Due.{Due}
 use Rattle.read_state.specs.declared.Due.the-variants.{Frame, Object, Line}
 use Rattle.read_state.specs.declared.FrameDue.{FrameDue}
 use Rattle.read_state.specs.declared.FrameDue.the-variants as frame
-use Rattle.read_state.specs.declared.Moved.{Moved}
-use Rattle.read_state.specs.declared.Moved.the-variants.{To, No}
+use Rattle.read_state.specs.declared.NextDue.{NextDue}
+use Rattle.read_state.specs.declared.NextDue.the-variants.{To, No}
 use Rattle.read_state.specs.declared.State.{State}
 use Rattle.read_state.specs.declared.OpenLine.{OpenLine}
 use Rattle.read_state.specs.declared.Step.{Step}
@@ -44,17 +44,17 @@ use Rattle.read_step.specs.Steps.{topicMarksBy, marksBy, Steps, lineMean
 abbrev pub dueNext : Due → State → State
 dueNext due s = record { due = due; rows = s .rows; cells = s .cells; points = s .points }
 
-pub moved-to : (b : List ℕ) (moved : Moved) (due : Due) (c : Content) → moved ≡ To due → lines.go (dueOf b due) c ≡ movedOf b moved c
-moved-to b moved due c e = sym (ap (λ (x : Moved). movedOf b x c) e)
+pub moved-to : (b : List ℕ) (moved : NextDue) (due : Due) (c : Content) → moved ≡ To due → lines.go (dueOf b due) c ≡ movedOf b moved c
+moved-to b moved due c e = sym (ap (λ (x : NextDue). movedOf b x c) e)
 
-pub moved-no : (b : List ℕ) (moved : Moved) (number field : ℕ) (c : Content) → moved ≡ No number field → lines.no number field ≡ movedOf b moved c
-moved-no b moved number field c e = sym (ap (λ (x : Moved). movedOf b x c) e)
+pub moved-no : (b : List ℕ) (moved : NextDue) (number field : ℕ) (c : Content) → moved ≡ No number field → lines.no number field ≡ movedOf b moved c
+moved-no b moved number field c e = sym (ap (λ (x : NextDue). movedOf b x c) e)
 
-pub marked-no : (b : List ℕ) (topics : ℕ) (moved : Moved) (number field : ℕ) (c : Content) → moved ≡ No number field → lines.no number field ≡ markedOf b topics moved c
-marked-no b topics moved number field c e = sym (ap (λ (x : Moved). markedOf b topics x c) e)
+pub marked-no : (b : List ℕ) (topics : ℕ) (moved : NextDue) (number field : ℕ) (c : Content) → moved ≡ No number field → lines.no number field ≡ markedOf b topics moved c
+marked-no b topics moved number field c e = sym (ap (λ (x : NextDue). markedOf b topics x c) e)
 
 -- what holds stays, with so many marks as before
-pub next-holds : (b text : List ℕ) (seed : ℕ) (s : State) (moved : Moved) (due : Due) (marks marks′ rows : List ℕ) (cells points : List ℤ) (index : List ℕ) → moved ≡ To due → length marks′ ≡ length marks
+pub next-holds : (b text : List ℕ) (seed : ℕ) (s : State) (moved : NextDue) (due : Due) (marks marks′ rows : List ℕ) (cells points : List ℤ) (index : List ℕ) → moved ≡ To due → length marks′ ≡ length marks
     → MovedHolds (modelAt b) b moved → Holds (modelAt b) b text seed s marks rows cells points index → Holds (modelAt b) b text seed (dueNext due s) marks′ rows cells points index
 next-holds b text seed s moved due marks marks′ rows cells points index e n d h = record {
   due = subst (MovedHolds (modelAt b) b) e d rows (s .rows) (s .cells) (s .points);
@@ -101,11 +101,11 @@ module _ (topics : ℕ) (due : Due) (marks marks′ : List ℕ) (e : marks′ �
       ap (λ (x : List ℕ). record { marks = x; rows = take (s .rows) rows; cells = take (s .cells) cells; points = take (4 * s .points) points }) all-marks
       ∙ due-marks topics due .0 (contentOf (length marks) s marks rows cells points)
 
-  pub marked-to : (b : List ℕ) (moved : Moved) → moved ≡ To due → (s : State) (rows : List ℕ) (cells points : List ℤ)
+  pub marked-to : (b : List ℕ) (moved : NextDue) → moved ≡ To due → (s : State) (rows : List ℕ) (cells points : List ℤ)
       → lines.go (dueOf b due) (contentOf (length marks) s marks′ rows cells points) ≡ markedOf b topics moved (contentOf (length marks) s marks rows cells points)
   marked-to b moved m s rows cells points =
       ap (lines.go (dueOf b due)) (marked-taken s rows cells points)
-      ∙ sym (ap (λ (x : Moved). markedOf b topics x (contentOf (length marks) s marks rows cells points)) m)
+      ∙ sym (ap (λ (x : NextDue). markedOf b topics x (contentOf (length marks) s marks rows cells points)) m)
 
 -- ## What a good model bounds
 
@@ -133,7 +133,7 @@ FrameSteps b s l marks marks′ due r =
     × ((text : List ℕ) (seed : ℕ) (rows : List ℕ) (cells points : List ℤ) (index : List ℕ)
     → Holds (modelAt b) b text seed s marks rows cells points index → StepHolds (modelAt b) b text seed r marks′ rows cells points index)
 
-module _ (b : List ℕ) (s : State) (l marks : List ℕ) (due due′ : FrameDue) (e : due ≡ due′) (moved : Moved) (r : Step) (d : MovedHolds (modelAt b) b moved) where
+module _ (b : List ℕ) (s : State) (l marks : List ℕ) (due due′ : FrameDue) (e : due ≡ due′) (moved : NextDue) (r : Step) (d : MovedHolds (modelAt b) b moved) where
   -- by a step that leaves the marks
   pub plain-frame :
       ((k : ℕ) (marks rows : List ℕ) (cells points : List ℤ) → stepOf b k r marks rows cells points ≡ movedOf b moved (contentOf k s marks rows cells points))
@@ -166,7 +166,7 @@ module _ (b : List ℕ) (s : State) (l marks : List ℕ) (due due′ : FrameDue)
 -- ## A line among objects
 
 -- the table whose objects are read, by its number and the byte of its attributes
-pub table-open : (b : List ℕ) (shape : Shape) (places : List ℕ) (t first : ℕ) → Placed b shape places → t < shape .tables → first ≡ attributesPlace b places t
+pub table-open : (b : List ℕ) (shape : Shape) (places : List ℕ) (t first : ℕ) → RecordsPlaced b shape places → t < shape .tables → first ≡ attributesPlace b places t
     → TableHolds (modelAt b) b (record { table = t; at = first })
 table-open b shape places t first p l e =
     let r = p .noted .table t l in

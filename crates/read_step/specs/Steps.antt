@@ -10,7 +10,7 @@ use Rattle.meaning.specs.Reading.{Content, Rooms, stretch}
 use Rattle.meaning.specs.Lines as lines
 use Rattle.model_records.specs.Records.{modelAt}
 use Rattle.model_records.specs.declared.places.Shape.{Shape}
-use Rattle.model_records.specs.Places.{Placed}
+use Rattle.model_records.specs.Places.{RecordsPlaced}
 use Rattle.read_state.specs.Meaning.{topicMarkedBy, markedBy, dueOf, contentOf, stepOf}
 use Rattle.read_state.specs.declared.FrameDue.{FrameDue}
 use Rattle.read_state.specs.declared.Due.{Due}
@@ -33,7 +33,7 @@ marksBy topics due marks = markedBy topics due (marksOnly marks) .marks
 
 -- what every line may take for granted: a good model with its shape and its places, and a mark for each topic and table
 pub record Prepared (b : List ℕ) (shape : Shape) (places marks : List ℕ) : Type 0 where
-  pub placed : Placed b shape places
+  pub placed : RecordsPlaced b shape places
   pub markCount : length marks ≡ shape .topics + shape .tables
 
 -- a step means this, with the buffers before and behind it; and what holds stays

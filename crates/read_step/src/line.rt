@@ -8,7 +8,7 @@ ghost use Rattle.meaning.specs.Field.{fieldsOf};
 ghost use Rattle.meaning.specs.Reading.{Rooms, stretch};
 ghost use Rattle.meaning.specs.Lines.{lineDue, objectLine};
 ghost use Rattle.model_records.specs.Records.{modelAt};
-ghost use Rattle.model_records.specs.Places.{Placed};
+ghost use Rattle.model_records.specs.Places.{RecordsPlaced};
 ghost use Rattle.read_state.specs.Meaning.{frameDueOf, movedOf, markedOf, contentOf, stepOf};
 ghost use Rattle.read_state.specs.Holds.{FrameHolds, Holds};
 ghost use Rattle.table_index.specs.Holds.{IndexedTable};
@@ -27,54 +27,54 @@ use read_frame::topics;
 use read_objects::OpenTable;
 use read_state::Due;
 use read_state::FrameDue;
-use read_state::Moved;
+use read_state::NextDue;
 use read_state::State;
 use read_state::Step;
 
 // A line that adds nothing to the table.
-fn plain_step(s: State, moved: Moved) -> Step
+fn plain_step(state: State, moved: NextDue) -> Step
     ensures { λ r. ⌜
         ((b : List ℕ) (k : ℕ) (marks rows : List ℕ) (cells points : List ℤ)
-        → stepOf b k r marks rows cells points ≡ movedOf b moved (contentOf k s marks rows cells points)) ⌝ }
+        → stepOf b k r marks rows cells points ≡ movedOf b moved (contentOf k state marks rows cells points)) ⌝ }
     ensures { λ r. ⌜
         ((b text : List ℕ) (seed : ℕ) (marks rows : List ℕ) (cells points : List ℤ) (index : List ℕ)
-        → MovedHolds (modelAt b) b moved → Holds (modelAt b) b text seed s marks rows cells points index
+        → MovedHolds (modelAt b) b moved → Holds (modelAt b) b text seed state marks rows cells points index
         → StepHolds (modelAt b) b text seed r marks rows cells points index) ⌝ }
 {
     match moved {
-        Moved::To(due) => Step::Go(State {
+        NextDue::To(due) => Step::Go(State {
             due,
-            rows: s.rows,
-            cells: s.cells,
-            points: s.points,
+            rows: state.rows,
+            cells: state.cells,
+            points: state.points,
         }),
-        Moved::No(number, field) => Step::No(number, field),
+        NextDue::No(number, field) => Step::No(number, field),
     }
 }
 
 // A line that may begin a topic or a table; there is a mark for each, and no more.
-fn marked_step(topics: usize, marks: &mut [u8], s: State, moved: Moved) -> Step
+fn marked_step(topics: usize, marks: &mut [u8], state: State, moved: NextDue) -> Step
     ensures { λ r. ⌜
         ((b rows : List ℕ) (cells points : List ℤ)
         → stepOf b (length (now (marks .entry))) r (now (marks .exit)) rows cells points
         ≡ markedOf b topics moved
-        (contentOf (length (now (marks .entry))) s (now (marks .entry)) rows cells points)) ⌝ }
+        (contentOf (length (now (marks .entry))) state (now (marks .entry)) rows cells points)) ⌝ }
     ensures { λ r. ⌜
         ((b text : List ℕ) (seed : ℕ) (rows : List ℕ) (cells points : List ℤ) (index : List ℕ)
-        → MovedHolds (modelAt b) b moved → Holds (modelAt b) b text seed s (now (marks .entry)) rows cells points index
+        → MovedHolds (modelAt b) b moved → Holds (modelAt b) b text seed state (now (marks .entry)) rows cells points index
         → StepHolds (modelAt b) b text seed r (now (marks .exit)) rows cells points index) ⌝ }
 {
     match moved {
-        Moved::To(due) => {
+        NextDue::To(due) => {
             marks::mark_due(marks, topics, due);
             Step::Go(State {
                 due,
-                rows: s.rows,
-                cells: s.cells,
-                points: s.points,
+                rows: state.rows,
+                cells: state.cells,
+                points: state.points,
             })
         }
-        Moved::No(number, field) => Step::No(number, field),
+        NextDue::No(number, field) => Step::No(number, field),
     }
 }
 
@@ -83,40 +83,40 @@ fn frame_line(
     model: &[u8],
     places: &[usize],
     shape: Shape,
-    l: &[u8],
+    line: &[u8],
     marks: &mut [u8],
     due: FrameDue,
-    s: State,
+    state: State,
 ) -> Step
     requires { ⌜ Prepared (now model) shape (now places) (now marks) ⌝ }
     requires { ⌜ FrameHolds (modelAt (now model)) due ⌝ }
     ensures step { λ r. ⌜ ((rooms : Rooms) (text : List ℕ) (start : ℕ) (rows : List ℕ) (cells points : List ℤ)
         → let n = length (now (marks .entry)) in
         stepOf (now (model .entry)) n r (now (marks .exit)) rows cells points
-        ≡ lineDue (modelAt (now (model .entry))) rooms text (frameDueOf due) (now (l .entry))
-        (fieldsOf start (now (l .entry))) (contentOf n s (now (marks .entry)) rows cells points)) ⌝ }
+        ≡ lineDue (modelAt (now (model .entry))) rooms text (frameDueOf due) (now (line .entry))
+        (fieldsOf start (now (line .entry))) (contentOf n state (now (marks .entry)) rows cells points)) ⌝ }
     ensures holds { λ r. ⌜ ((text : List ℕ) (seed : ℕ) (rows : List ℕ) (cells points : List ℤ) (index : List ℕ)
-        → let b = now (model .entry) in Holds (modelAt b) b text seed s (now (marks .entry)) rows cells points index
+        → let b = now (model .entry) in Holds (modelAt b) b text seed state (now (marks .entry)) rows cells points index
         → StepHolds (modelAt b) b text seed r (now (marks .exit)) rows cells points index) ⌝ }
 {
     match due {
-        FrameDue::Opening => plain_step(s, lines::opening_line(l)),
-        FrameDue::Description => plain_step(s, lines::description_line(l)),
-        FrameDue::Transfer => plain_step(s, beginning::transfer_line(model, l)),
-        FrameDue::ModelName => plain_step(s, beginning::model_line(model, l)),
+        FrameDue::Opening => plain_step(state, lines::opening_line(line)),
+        FrameDue::Description => plain_step(state, lines::description_line(line)),
+        FrameDue::Transfer => plain_step(state, beginning::transfer_line(model, line)),
+        FrameDue::ModelName => plain_step(state, beginning::model_line(model, line)),
         FrameDue::Topic(from) => marked_step(
             shape.topics,
             marks,
-            s,
-            topics::topic_line(model, places, shape, l, from),
+            state,
+            topics::topic_line(model, places, shape, line, from),
         ),
         FrameDue::Table(topic, from) => marked_step(
             shape.topics,
             marks,
-            s,
-            tables::table_line(model, places, shape, l, topic, from),
+            state,
+            tables::table_line(model, places, shape, line, topic, from),
         ),
-        FrameDue::Closing => plain_step(s, lines::closing_line(l)),
+        FrameDue::Closing => plain_step(state, lines::closing_line(line)),
         FrameDue::Nothing => Step::No(7, 1),
     }
 }
@@ -134,13 +134,13 @@ fn object_line(
     index: &mut [u64],
     seed: u64,
     table: usize,
-    s: State,
+    state: State,
 ) -> Step
-    requires { ⌜ Placed (now model) shape (now places) ⌝ }
+    requires { ⌜ RecordsPlaced (now model) shape (now places) ⌝ }
     requires { ⌜ table < shape .tables ⌝ }
     requires { ⌜ (at ≤ end) × (end ≤ length (now text)) × (length (now text) < 2 ^ 62) ⌝ }
-    requires { ⌜ IndexedTable seed (now text) (s .rows) (s .cells) (now rows) (now cells) (now index) ⌝ }
-    ensures { λ r. ⌜ (let t = now (text .entry) in RowAdds (now (model .entry)) t seed s
+    requires { ⌜ IndexedTable seed (now text) (state .rows) (state .cells) (now rows) (now cells) (now index) ⌝ }
+    ensures { λ r. ⌜ (let t = now (text .entry) in RowAdds (now (model .entry)) t seed state
         (λ rooms c. objectLine (modelAt (now (model .entry))) rooms t table (fieldsOf at (stretch t at (end - at))) c)
         (now (rows .entry)) (now (rows .exit)) (now (cells .entry)) (now (cells .exit))
         (now (index .entry)) (now (index .exit)) r) ⌝ }
@@ -148,7 +148,7 @@ fn object_line(
     let head = codes::head_of(&text[at..end]);
     if head.code != codes::OBJE {
         return plain_step(
-            s,
+            state,
             tables::behind_objects(model, places, shape, &text[at..end], table),
         );
     }
@@ -165,7 +165,7 @@ fn object_line(
         index,
         seed,
         OpenTable { table, at: first },
-        s,
+        state,
     )
 }
 
@@ -183,18 +183,18 @@ pub fn step_line(
     points: &mut [i64],
     index: &mut [u64],
     seed: u64,
-    s: State,
+    state: State,
 ) -> Step
     requires { ⌜ Prepared (now model) shape (now places) (now marks) ⌝ }
     requires { ⌜ (at ≤ end) × (end ≤ length (now text)) × (length (now text) < 2 ^ 62) ⌝ }
     requires { ⌜ (let b = now model in
-        Holds (modelAt b) b (now text) seed s (now marks) (now rows) (now cells) (now points) (now index)) ⌝ }
+        Holds (modelAt b) b (now text) seed state (now marks) (now rows) (now cells) (now points) (now index)) ⌝ }
     ensures { λ r. ⌜ (let b = now (model .entry) in let t = now (text .entry) in
-        Steps b t seed s (lineMeant b t at (end - at) (s .due))
+        Steps b t seed state (lineMeant b t at (end - at) (state .due))
         (now (marks .entry)) (now (rows .entry)) (now (cells .entry)) (now (points .entry)) (now (index .entry))
         (now (marks .exit)) (now (rows .exit)) (now (cells .exit)) (now (points .exit)) (now (index .exit)) r) ⌝ }
 {
-    let due = s.due;
+    let due = state.due;
     match due {
         Due::Object(table) => object_line(
             model,
@@ -208,7 +208,7 @@ pub fn step_line(
             index,
             seed,
             table,
-            s,
+            state,
         ),
         Due::Line(u) => read_polylines::attribute_line(
             model,
@@ -217,8 +217,8 @@ pub fn step_line(
             cells,
             points,
             u,
-            s,
+            state,
         ),
-        Due::Frame(frame) => frame_line(model, places, shape, &text[at..end], marks, frame, s),
+        Due::Frame(frame) => frame_line(model, places, shape, &text[at..end], marks, frame, state),
     }
 }

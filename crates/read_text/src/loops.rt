@@ -39,14 +39,14 @@ fn is_last(due: FrameDue) -> bool
 }
 
 // 7 where a line is still due behind the last one.
-fn at_end(s: State, line: usize) -> LinesRun
-    ensures { λ r. ⌜ EndsAs s line r ⌝ }
+fn at_end(state: State, line: usize) -> LinesRun
+    ensures { λ r. ⌜ EndsAs state line r ⌝ }
 {
-    let due = s.due;
+    let due = state.due;
     match due {
         Due::Frame(frame) => {
             if is_last(frame) {
-                return LinesRun::Read(s);
+                return LinesRun::Read(state);
             }
             LinesRun::Stopped(7, line, 1)
         }

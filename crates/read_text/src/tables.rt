@@ -10,7 +10,7 @@ ghost use Rattle.meaning.specs.Table.{readRun, readResolved, resolve};
 ghost use Rattle.model_records.specs.Records.{modelAt};
 ghost use Rattle.table_index.specs.Holds.{IndexedTable};
 ghost use Rattle.table.specs.Rows.{RowsLaidOut};
-ghost use Rattle.model_records.specs.Places.{Placed};
+ghost use Rattle.model_records.specs.Places.{RecordsPlaced};
 ghost use Rattle.read_step.specs.Steps.{Prepared};
 ghost use Rattle.read_text.specs.Text.{linesOf};
 ghost use Rattle.read_text.specs.Outcomes.{Fits, usedOf, TableRead};
@@ -32,20 +32,20 @@ fn resolve_all(
     cells: &mut [i64],
     index: &[u64],
     seed: u64,
-    s: State,
+    state: State,
 ) -> Answer
-    requires { ⌜ IndexedTable seed (now text) (s .rows) (s .cells) (now rows) (now cells) (now index) ⌝ }
-    requires { ⌜ RowsLaidOut (modelAt (now model)) (s .rows) (s .cells) (now rows) (now cells) ⌝ }
-    requires { ⌜ Placed (now model) shape (now places) ⌝ }
+    requires { ⌜ IndexedTable seed (now text) (state .rows) (state .cells) (now rows) (now cells) (now index) ⌝ }
+    requires { ⌜ RowsLaidOut (modelAt (now model)) (state .rows) (state .cells) (now rows) (now cells) ⌝ }
+    requires { ⌜ RecordsPlaced (now model) shape (now places) ⌝ }
     ensures read { λ r. ⌜ (let m = modelAt (now (model .entry)) in let t = now (text .entry) in
-        (rooms : Rooms) (marks : List ℕ) (points : List ℤ) → 4 * s .points ≤ length points
-        → let used = usedOf marks (now (rows .entry)) (now (cells .entry)) points (s .rows) (s .cells) (s .points) in
+        (rooms : Rooms) (marks : List ℕ) (points : List ℤ) → 4 * state .points ≤ length points
+        → let used = usedOf marks (now (rows .entry)) (now (cells .entry)) points (state .rows) (state .cells) (state .points) in
         TableRead (readResolved rooms t used (resolve m t used)) rooms t
         marks (now (rows .entry)) (now (cells .exit)) points r) ⌝ }
-    ensures fits { λ r. ⌜ ((points : List ℤ) → 4 * s .points ≤ length points
+    ensures fits { λ r. ⌜ ((points : List ℤ) → 4 * state .points ≤ length points
         → Fits (now (rows .entry)) (now (cells .exit)) points r) ⌝ }
 {
-    let used = s.cells;
+    let used = state.cells;
     let done = read_references::rows::resolve_references(
         model,
         places,
@@ -54,11 +54,11 @@ fn resolve_all(
         rows,
         &mut cells[..used],
         index,
-        s.rows,
+        state.rows,
         seed,
     );
     match done {
-        Resolved::All => Answer::Accepted(s.rows, used, s.points),
+        Resolved::All => Answer::Accepted(state.rows, used, state.points),
         Resolved::Unresolved(object, field) => Answer::Refused(17, object, field),
     }
 }

@@ -13,7 +13,7 @@ use borrow.Author.Tests.{lt-ltb, le-ltb}
 use Rattle.meaning.specs.Unfold.{refuse, Unfolded, lines, fault, physical, put, next, unfoldLines}
 use Rattle.meaning.specs.Unfold.{unfoldedText}
 use Rattle.meaning.specs.Answer.{accepted, TextResult, filled, textRefused, textUnfolded}
-use Rattle.unfold.specs.Step.{Parted}
+use Rattle.unfold.specs.LinePart.{Parted}
 use Rattle.unfold.specs.Turn.{Flat, good, bad, closing, flat, prepend, overfull}
 
 -- ## Texts

@@ -13,7 +13,7 @@ use Rattle.meaning.specs.Unfold.{permitted, every, ends, cont, prefix, Physical
 use Rattle.meaning.proofs.Unfolding.Cuts.{Spelled, s-tail, s-line, spelled, both}
 use Rattle.base.proofs.Fill.{to-end}
 use Rattle.unfold.specs.First.{Shortened, LineOf}
-use Rattle.unfold.specs.Step.{skip, Parted, Refused}
+use Rattle.unfold.specs.LinePart.{skip, Parted, Refused}
 
 -- ## The tests
 

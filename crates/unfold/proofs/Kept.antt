@@ -11,11 +11,11 @@ use lib.Dec.{ltb}
 use borrow.Author.Tests.{ltb-true, ltb-false}
 use Rattle.meaning.specs.Unfold.{lines, physical, next, unfoldLines, unfoldFile}
 use Rattle.meaning.specs.Answer.{textRefused, textUnfolded}
-use Rattle.unfold.specs.Step.{Parted, Refused}
-use Rattle.unfold.specs.Turn.{overfull, Put, Finished, Ready, Ended}
+use Rattle.unfold.specs.LinePart.{Parted, Refused}
+use Rattle.unfold.specs.Turn.{overfull, Put, Finished, TurnReady, Ended}
 use Rattle.unfold.specs.declared.Answer.{Answer}
 use Rattle.unfold.specs.declared.Answer.the-variants.{Fault}
-use Rattle.unfold.specs.declared.State.{State}
+use Rattle.unfold.specs.declared.LineCursor.{LineCursor}
 use Rattle.unfold.proofs.Flat.{ended, step-within, next-flat, next-full, part-length, grown-full, result-bad, result-done, nothing-left}
 
 -- one part put behind another
@@ -40,11 +40,11 @@ unfolding next
 next-least true n = omega arith
 next-least false n = omega arith
 
-module _ (m : ℕ) (f text : List ℕ) (s : State) (ready : Ready m f text s) where
+module _ (m : ℕ) (f text : List ℕ) (s : LineCursor) (ready : TurnReady m f text s) where
   -- a turn that goes on: the part, with its LF where it ends a line, is put behind the text
   pub goes-on : (c : Bool) (start len after : ℕ) (exit : List ℕ) (r : ℕ) → Parted m (s .continues) c (drop (s .at) f) start len after → length exit ≡ length text
       → Put (s .used) (ended c (take len (drop (s .at + start) f))) text exit r
-      → Ready m f exit (record { at = s .at + after; line = next c (s .line); used = r; continues = c })
+      → TurnReady m f exit (record { at = s .at + after; line = next c (s .line); used = r; continues = c })
   goes-on c start len after exit r p same put =
       let part : List ℕ = take len (drop (s .at + start) f) in
       let size : length part ≡ len = part-length m (s .line) (s .continues) c f (s .at) start len after p in

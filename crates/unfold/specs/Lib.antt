@@ -1,5 +1,5 @@
 pub mod Answer
 pub mod First
-pub mod Step
+pub mod LinePart
 pub mod Turn
 pub mod Claims

@@ -10,7 +10,7 @@ use Rattle.meaning.specs.Answer.{TextResult, textRefused, textUnfolded}
 use Rattle.unfold.specs.Answer.{answerOf, Within}
 use Rattle.unfold.specs.declared.Answer.{Answer}
 use Rattle.unfold.specs.declared.Answer.the-variants.{Text, NoRoom}
-use Rattle.unfold.specs.declared.State.{State}
+use Rattle.unfold.specs.declared.LineCursor.{LineCursor}
 use Rattle.unfold.specs.declared.Turn.{Turn}
 use Rattle.unfold.specs.declared.Turn.the-variants.{Go, Stop}
 
@@ -54,7 +54,7 @@ pub record Finished (used : ℕ) (text exit : List ℕ) (answer : Answer) : Type
 
 -- ## What the loop keeps
 
-pub record Ready (m : ℕ) (f text : List ℕ) (s : State) : Type 0 where
+pub record TurnReady (m : ℕ) (f text : List ℕ) (s : LineCursor) : Type 0 where
   pub inside : s .at ≤ length f
   pub first : 1 ≤ s .line
   pub numbered : s .line ≤ s .at + 1
@@ -74,5 +74,5 @@ pub record Ended (m : ℕ) (f : List ℕ) (room : ℕ) (exit : List ℕ) (answer
   pub within : Within (length f) answer
 
 abbrev pub Turned : ℕ → List ℕ → ℕ → List ℕ → ℕ → Turn → Type 0
-Turned m f room exit at (Go s) = (at < s .at) × Ready m f exit s
+Turned m f room exit at (Go s) = (at < s .at) × TurnReady m f exit s
 Turned m f room exit at (Stop answer) = Ended m f room exit answer

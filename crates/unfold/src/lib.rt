@@ -4,13 +4,13 @@ mod steps;
 
 ghost use mathlib.Core.Path.{_≡_};
 ghost use mathlib.Core.List.{[], _∷_};
-ghost use Prim.Native.Nat.{_+_, _≤_, _<_, _^_};
-ghost use lib.ListN.{length, take};
+ghost use Prim.Native.Nat.{_+_, _<_, _^_};
+ghost use lib.ListN.{length};
 ghost use Rattle.meaning.specs.Unfold.{unfoldFile};
 ghost use Rattle.meaning.specs.Answer.{textUnfolded};
 ghost use Rattle.unfold.specs.Answer.{answerOf, Within};
-ghost use Rattle.unfold.specs.Turn.{Put, Finished, Ready, Turned};
-use crate::steps::Step;
+ghost use Rattle.unfold.specs.Turn.{Put, Finished, TurnReady, Turned};
+use crate::steps::LinePart;
 use base::rooms;
 
 // What unfolding answers: the text's length; the number of a fault and its logical line; no room for the text.
@@ -22,7 +22,7 @@ pub enum Answer {
 
 // Before the physical line at `at`: its logical line, the length of the text so far (which goes on growing where the
 // room is full), and whether the line continues one.
-struct State {
+struct LineCursor {
     at: usize,
     line: usize,
     used: usize,
@@ -30,7 +30,7 @@ struct State {
 }
 
 enum Turn {
-    Go(State),
+    Go(LineCursor),
     Stop(Answer),
 }
 
@@ -72,35 +72,35 @@ fn finish(text: &mut [u8], used: usize) -> Answer
 }
 
 // One turn: the physical line at s.at.
-fn one_turn(file: &[u8], mark: u8, text: &mut [u8], s: State) -> Turn
-    requires { ⌜ Ready mark (now file) (now text) s ⌝ }
-    ensures { λ r. ⌜ Turned mark (now (file .entry)) (length (now (text .entry))) (now (text .exit)) (s .at) r ⌝ }
+fn one_turn(file: &[u8], mark: u8, text: &mut [u8], cursor: LineCursor) -> Turn
+    requires { ⌜ TurnReady mark (now file) (now text) cursor ⌝ }
+    ensures { λ r. ⌜ Turned mark (now (file .entry)) (length (now (text .entry))) (now (text .exit)) (cursor .at) r ⌝ }
 {
-    let at = s.at;
-    let line = s.line;
-    let used = s.used;
-    let continues = s.continues;
+    let at = cursor.at;
+    let line = cursor.line;
+    let used = cursor.used;
+    let continues = cursor.continues;
     let step = steps::over_line(&file[at..], mark, continues);
     match step {
-        Step::Done => Turn::Stop(finish(text, used)),
-        Step::Bad(number) => {
+        LinePart::Done => Turn::Stop(finish(text, used)),
+        LinePart::Bad(number) => {
             rooms::clear(text);
             Turn::Stop(Answer::Fault(number, line))
         }
-        Step::More { start, len, after } => {
+        LinePart::More { start, len, after } => {
             let from = at + start;
             let end = put_part(&file[from..from + len], text, used);
-            Turn::Go(State {
+            Turn::Go(LineCursor {
                 at: at + after,
                 line,
                 used: end,
                 continues: true,
             })
         }
-        Step::Last { start, len, after } => {
+        LinePart::Last { start, len, after } => {
             let from = at + start;
             let end = put_part(&file[from..from + len], text, used);
-            Turn::Go(State {
+            Turn::Go(LineCursor {
                 at: at + after,
                 line: line + 1,
                 used: put_line_end(text, end),
@@ -118,7 +118,7 @@ pub fn unfold_with(file: &[u8], mark: u8, text: &mut [u8]) -> Answer
         ≡ textUnfolded (length (now (text .entry))) (unfoldFile mark (now (file .entry))) .text ⌝ }
     ensures within { λ r. ⌜ Within (length (now (file .entry))) r ⌝ }
 {
-    let mut s = State {
+    let mut s = LineCursor {
         at: 0,
         line: 1,
         used: 0,

@@ -17,13 +17,13 @@ pub(crate) enum First {
 }
 
 // Goes over whole blocks of sixteen permitted bytes: the test of such a block is a few vector operations.
-fn permitted_blocks(f: &[u8]) -> usize
-    ensures { λ r. ⌜ r ≤ length (now (f .entry)) ⌝ }
-    ensures { λ r. ⌜ r + leading permitted (drop r (now (f .entry))) ≡ leading permitted (now (f .entry)) ⌝ }
+fn permitted_blocks(rest: &[u8]) -> usize
+    ensures { λ r. ⌜ r ≤ length (now (rest .entry)) ⌝ }
+    ensures { λ r. ⌜ r + leading permitted (drop r (now (rest .entry))) ≡ leading permitted (now (rest .entry)) ⌝ }
 {
     let mut i = 0;
-    while 16 <= f.len() - i {
-        if !kinds::every_permitted(&f[i..i + 16]) {
+    while 16 <= rest.len() - i {
+        if !kinds::every_permitted(&rest[i..i + 16]) {
             return i;
         }
         i += 16;
@@ -32,12 +32,12 @@ fn permitted_blocks(f: &[u8]) -> usize
 }
 
 // How many of the first bytes of f are permitted.
-fn permitted_run(f: &[u8]) -> usize
-    ensures { λ r. ⌜ r ≡ leading permitted (now (f .entry)) ⌝ }
+fn permitted_run(rest: &[u8]) -> usize
+    ensures { λ r. ⌜ r ≡ leading permitted (now (rest .entry)) ⌝ }
 {
-    let mut i = permitted_blocks(f);
-    while i < f.len() {
-        if !kinds::is_permitted(f[i]) {
+    let mut i = permitted_blocks(rest);
+    while i < rest.len() {
+        if !kinds::is_permitted(rest[i]) {
             return i;
         }
         i += 1;
@@ -46,12 +46,12 @@ fn permitted_run(f: &[u8]) -> usize
 }
 
 // How many bytes of f stand before its first LF.
-fn line_len(f: &[u8]) -> usize
-    ensures { λ r. ⌜ r ≡ leading noLf (now (f .entry)) ⌝ }
+fn line_len(rest: &[u8]) -> usize
+    ensures { λ r. ⌜ r ≡ leading noLf (now (rest .entry)) ⌝ }
 {
     let mut i = 0;
-    while i < f.len() {
-        if f[i] == 10 {
+    while i < rest.len() {
+        if rest[i] == 10 {
             return i;
         }
         i += 1;
@@ -60,29 +60,29 @@ fn line_len(f: &[u8]) -> usize
 }
 
 // The length of the line end that f begins with: 1 for LF, 2 for CR LF, 0 where there is none.
-fn end_len(f: &[u8]) -> usize
-    ensures { λ r. ⌜ r ≡ endLen (now (f .entry)) ⌝ }
+fn end_len(rest: &[u8]) -> usize
+    ensures { λ r. ⌜ r ≡ endLen (now (rest .entry)) ⌝ }
 {
-    if f.len() == 0 {
+    if rest.len() == 0 {
         return 0;
     }
-    if f[0] == 10 {
+    if rest[0] == 10 {
         return 1;
     }
-    if f[0] != 13 {
+    if rest[0] != 13 {
         return 0;
     }
-    if f.len() == 1 {
+    if rest.len() == 1 {
         return 0;
     }
-    if f[1] == 10 { 2 } else { 0 }
+    if rest[1] == 10 { 2 } else { 0 }
 }
 
 // The length of l without its last byte, or of all of l.
-pub(crate) fn without_last(l: &[u8], shorter: bool) -> usize
-    ensures { λ r. ⌜ Shortened shorter (now (l .entry)) r ⌝ }
+pub(crate) fn without_last(line: &[u8], shorter: bool) -> usize
+    ensures { λ r. ⌜ Shortened shorter (now (line .entry)) r ⌝ }
 {
-    let n = l.len();
+    let n = line.len();
     if shorter {
         if n == 0 { 0 } else { n - 1 }
     } else {
@@ -91,30 +91,30 @@ pub(crate) fn without_last(l: &[u8], shorter: bool) -> usize
 }
 
 // The first line of f by its LF, where its permitted bytes are not followed by a line end.
-fn line_to_lf(f: &[u8]) -> First
-    requires { ⌜ endLen (drop (leading permitted (now f)) (now f)) ≡ 0 ⌝ }
-    ensures { λ r. ⌜ FirstOf (now (f .entry)) r ⌝ }
+fn line_to_lf(rest: &[u8]) -> First
+    requires { ⌜ endLen (drop (leading permitted (now rest)) (now rest)) ≡ 0 ⌝ }
+    ensures { λ r. ⌜ FirstOf (now (rest .entry)) r ⌝ }
 {
-    if f.len() == 0 {
+    if rest.len() == 0 {
         return First::Nothing;
     }
-    let n = line_len(f);
-    if f.len() <= n {
+    let n = line_len(rest);
+    if rest.len() <= n {
         return First::Open;
     }
-    let raw = &f[..n];
+    let raw = &rest[..n];
     let len = without_last(raw, compare::ends_in(raw, 13));
     First::NotPermitted { len, after: n + 1 }
 }
 
 // The first line of f: its content is its first len bytes, and the next line begins at after.
-pub(crate) fn first_line(f: &[u8]) -> First
-    ensures { λ r. ⌜ FirstOf (now (f .entry)) r ⌝ }
+pub(crate) fn first_line(rest: &[u8]) -> First
+    ensures { λ r. ⌜ FirstOf (now (rest .entry)) r ⌝ }
 {
-    let len = permitted_run(f);
-    let end = end_len(&f[len..]);
+    let len = permitted_run(rest);
+    let end = end_len(&rest[len..]);
     if end == 0 {
-        return line_to_lf(f);
+        return line_to_lf(rest);
     }
     First::Permitted {
         len,

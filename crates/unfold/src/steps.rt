@@ -4,7 +4,7 @@ ghost use mathlib.Core.Bool.{not, _&&_};
 ghost use lib.ListN.{take};
 ghost use Rattle.meaning.specs.Unfold.{permitted, every, prefix, cont};
 ghost use Rattle.unfold.specs.First.{LineOf};
-ghost use Rattle.unfold.specs.Step.{skip, Stepped};
+ghost use Rattle.unfold.specs.LinePart.{skip, Stepped};
 use crate::lines;
 use crate::lines::First;
 use base::bools;
@@ -12,7 +12,7 @@ use base::compare;
 
 // What a step finds: no line left; the number of a fault; a part of a line that is continued, or that ends one. A part
 // is len bytes from start, and the next physical line begins at after.
-pub(crate) enum Step {
+pub(crate) enum LinePart {
     Done,
     Bad(u8),
     More {
@@ -28,11 +28,11 @@ pub(crate) enum Step {
 }
 
 // Whether l should begin with CONT and a space, and does not.
-fn unled(l: &[u8], continues: bool) -> bool
-    ensures { λ r. ⌜ r ≡ (continues && not (prefix cont (now (l .entry)))) ⌝ }
+fn unled(line: &[u8], continues: bool) -> bool
+    ensures { λ r. ⌜ r ≡ (continues && not (prefix cont (now (line .entry)))) ⌝ }
 {
     if continues {
-        !compare::starts_cont(l)
+        !compare::starts_cont(line)
     } else {
         false
     }
@@ -46,40 +46,46 @@ fn skipped(continues: bool) -> usize
 }
 
 // The first physical line of f, whose content is its first len bytes: 3, then 5, then 4, then its part.
-fn judge(f: &[u8], len: usize, after: usize, fine: bool, mark: u8, continues: bool) -> Step
-    requires { ⌜ LineOf (now f) len after ⌝ }
-    requires { ⌜ every permitted (take len (now f)) ≡ fine ⌝ }
-    ensures { λ r. ⌜ Stepped mark continues (now (f .entry)) r ⌝ }
+fn judge(rest: &[u8], len: usize, after: usize, fine: bool, mark: u8, continues: bool) -> LinePart
+    requires { ⌜ LineOf (now rest) len after ⌝ }
+    requires { ⌜ every permitted (take len (now rest)) ≡ fine ⌝ }
+    ensures { λ r. ⌜ Stepped mark continues (now (rest .entry)) r ⌝ }
 {
-    let l = &f[..len];
+    let l = &rest[..len];
     let continued = compare::ends_in(l, mark);
-    if bools::both(continued, after == f.len()) {
-        return Step::Bad(3);
+    if bools::both(continued, after == rest.len()) {
+        return LinePart::Bad(3);
     }
     if unled(l, continues) {
-        return Step::Bad(5);
+        return LinePart::Bad(5);
     }
     if !fine {
-        return Step::Bad(4);
+        return LinePart::Bad(4);
     }
     let start = skipped(continues);
     let len = lines::without_last(&l[start..], continued);
     if continued {
-        Step::More { start, len, after }
+        LinePart::More { start, len, after }
     } else {
-        Step::Last { start, len, after }
+        LinePart::Last { start, len, after }
     }
 }
 
 // A step over the first physical line of f, which continues a line or not.
-pub(crate) fn over_line(f: &[u8], mark: u8, continues: bool) -> Step
-    ensures { λ r. ⌜ Stepped mark continues (now (f .entry)) r ⌝ }
+pub(crate) fn over_line(rest: &[u8], mark: u8, continues: bool) -> LinePart
+    ensures { λ r. ⌜ Stepped mark continues (now (rest .entry)) r ⌝ }
 {
-    let first = lines::first_line(f);
+    let first = lines::first_line(rest);
     match first {
-        First::Nothing => { if continues { Step::Bad(3) } else { Step::Done } }
-        First::Open => Step::Bad(3),
-        First::Permitted { len, after } => judge(f, len, after, true, mark, continues),
-        First::NotPermitted { len, after } => judge(f, len, after, false, mark, continues),
+        First::Nothing => {
+            if continues {
+                LinePart::Bad(3)
+            } else {
+                LinePart::Done
+            }
+        }
+        First::Open => LinePart::Bad(3),
+        First::Permitted { len, after } => judge(rest, len, after, true, mark, continues),
+        First::NotPermitted { len, after } => judge(rest, len, after, false, mark, continues),
     }
 }

@@ -16,7 +16,7 @@ use Rattle.meaning.proofs.Values.Digits.{after-append, every-append}
 use Rattle.base.proofs.Scan.{and-false}
 use Rattle.value_read.specs.Meant.{Reads, judged}
 use Rattle.meaning.proofs.Values.Counts.{below-18, date-year, date-month, date-day}
-use Rattle.value_read.specs.declared.digits.Found.{Found}
+use Rattle.value_read.specs.declared.digits.DigitsFound.{DigitsFound}
 
 -- ## So many digits
 
@@ -33,7 +33,7 @@ pub just-digits : (least most : ℕ) (s : List ℕ) → least ≤ length s → l
 unfolding isDigits
 just-digits least most s l h = rw (le-leb least (length s) l, le-leb (length s) most h)
 
-pub digits-read : (least most : ℕ) (s : List ℕ) (n : ℕ) (r : Found) → least ≤ length s → length s ≤ most → Reads (every digit s) n r → Reads (isDigits least most s) n r
+pub digits-read : (least most : ℕ) (s : List ℕ) (n : ℕ) (r : DigitsFound) → least ≤ length s → length s ≤ most → Reads (every digit s) n r → Reads (isDigits least most s) n r
 digits-read least most s n r l h e = rw (just-digits least most s l h) e
 
 -- what so many digits say
@@ -96,7 +96,7 @@ module _ (d : ℕ) (s : List ℕ) (above : 0 < d) (size : d + 1 < length s) (few
   pointed-none e = pointed-parts d s above size few point ∙ rw e
 
   -- the whole part was digits, and r is what the decimals were
-  pub pointed-read : (n : ℕ) (r : Found) → (every digit (take (whole d s) s) ≡ true) × (n ≡ digitsValue (take (whole d s) s))
+  pub pointed-read : (n : ℕ) (r : DigitsFound) → (every digit (take (whole d s) s) ≡ true) × (n ≡ digitsValue (take (whole d s) s))
       → Reads (every digit (drop (whole d s + 1) s)) (digitsAfter n (drop (whole d s + 1) s)) r → Reads (isNumber d s) (digitsValue (numberDigits d s)) r
   pointed-read n r e x =
       let shape : isNumber d s ≡ every digit (drop (whole d s + 1) s) = pointed-parts d s above size few point ∙ rw (e .0) in

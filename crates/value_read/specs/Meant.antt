@@ -9,8 +9,8 @@ use Rattle.meaning.specs.Field.{Field}
 use Rattle.meaning.specs.Value as meaning
 use Rattle.value_read.specs.declared.Value.{Value}
 use Rattle.value_read.specs.declared.Value.the-variants.{Pair, Wrong}
-use Rattle.value_read.specs.declared.digits.Found.{Found}
-use Rattle.value_read.specs.declared.digits.Found.the-variants.{Number, Others}
+use Rattle.value_read.specs.declared.digits.DigitsFound.{DigitsFound}
+use Rattle.value_read.specs.declared.digits.DigitsFound.the-variants.{Number, Others}
 use mathlib.Core.Bool.{not}
 
 -- a value: its two cells, or the number of its refusal
@@ -27,6 +27,6 @@ abbrev pub fieldOf : ℕ → List ℕ → Field
 fieldOf start bytes = record { start = start; bytes = bytes }
 
 -- digits that have the right shape, and their number; or that they have not
-abbrev pub Reads : Bool → ℕ → Found → Type 0
+abbrev pub Reads : Bool → ℕ → DigitsFound → Type 0
 Reads shape n (Number v) = (shape ≡ true) × (v ≡ n)
 Reads shape n Others = shape ≡ false

@@ -7,7 +7,7 @@ ghost use Rattle.meaning.specs.Value.{isLeapYear, daysOfMonth, isDay, dateOf, e
 ghost use Rattle.value_read.specs.Meant.{judged, valueMeant};
 use crate::Value;
 use crate::digits;
-use crate::digits::Found;
+use crate::digits::DigitsFound;
 use base::bools;
 
 // A leap year of the Gregorian calendar; year 0000 is one.
@@ -62,8 +62,8 @@ pub fn read_date(field: &[u8]) -> Value
         return Value::Wrong(13);
     }
     match digits::read_digits(0, 0, field) {
-        Found::Number(n) => judge_date(n),
-        Found::Others => Value::Wrong(13),
+        DigitsFound::Number(n) => judge_date(n),
+        DigitsFound::Others => Value::Wrong(13),
     }
 }
 
@@ -83,7 +83,7 @@ pub fn read_enumeration(field: &[u8], leaves: u64) -> Value
     ensures { λ r. ⌜ valueMeant r ≡ enumerationOf leaves (now (field .entry)) ⌝ }
 {
     match digits::read_count(field) {
-        Found::Number(n) => judge_leaf(n, leaves),
-        Found::Others => Value::Wrong(13),
+        DigitsFound::Number(n) => judge_leaf(n, leaves),
+        DigitsFound::Others => Value::Wrong(13),
     }
 }

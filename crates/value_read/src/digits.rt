@@ -6,39 +6,39 @@ ghost use Rattle.meaning.specs.Value.{digitsAfter, digitsValue, isDigits};
 ghost use Rattle.value_read.specs.Meant.{Reads};
 
 // The number that digits say, or that other bytes stand among them.
-pub enum Found {
+pub enum DigitsFound {
     Number(u64),
     Others,
 }
 
 // The digits of s behind those of n, of which there are `before` at most.
-pub(crate) fn read_digits(n: u64, before: usize, s: &[u8]) -> Found
+pub(crate) fn read_digits(n: u64, before: usize, field: &[u8]) -> DigitsFound
     requires { ⌜ n < 10 ^ before ⌝ }
-    requires { ⌜ before + length (now s) ≤ 18 ⌝ }
-    ensures { λ r. ⌜ Reads (every digit (now (s .entry))) (digitsAfter n (now (s .entry))) r ⌝ }
+    requires { ⌜ before + length (now field) ≤ 18 ⌝ }
+    ensures { λ r. ⌜ Reads (every digit (now (field .entry))) (digitsAfter n (now (field .entry))) r ⌝ }
 {
     let mut v = n;
     let mut i = 0;
-    while i < s.len() {
-        let b = s[i];
+    while i < field.len() {
+        let b = field[i];
         if !base::kinds::is_digit(b) {
-            return Found::Others;
+            return DigitsFound::Others;
         }
         v = v * 10 + (b as u64 - 0x30);
         i += 1;
     }
-    Found::Number(v)
+    DigitsFound::Number(v)
 }
 
 // "1 to 18 digits"
-pub(crate) fn read_count(s: &[u8]) -> Found
-    ensures { λ r. ⌜ Reads (isDigits 1 18 (now (s .entry))) (digitsValue (now (s .entry))) r ⌝ }
+pub(crate) fn read_count(field: &[u8]) -> DigitsFound
+    ensures { λ r. ⌜ Reads (isDigits 1 18 (now (field .entry))) (digitsValue (now (field .entry))) r ⌝ }
 {
-    if s.len() < 1 {
-        return Found::Others;
+    if field.len() < 1 {
+        return DigitsFound::Others;
     }
-    if 18 < s.len() {
-        return Found::Others;
+    if 18 < field.len() {
+        return DigitsFound::Others;
     }
-    read_digits(0, 0, s)
+    read_digits(0, 0, field)
 }

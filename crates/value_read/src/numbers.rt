@@ -9,62 +9,66 @@ ghost use Rattle.model_records.specs.Components.{componentOf};
 ghost use Rattle.value_read.specs.Meant.{Reads, judged, valueMeant};
 use crate::Value;
 use crate::digits;
-use crate::digits::Found;
+use crate::digits::DigitsFound;
 use model_records::Component;
 
 // A point and exactly so many digits behind it, at least one before it.
-fn read_pointed(s: &[u8], decimals: usize) -> Found
+fn read_pointed(field: &[u8], decimals: usize) -> DigitsFound
     requires { ⌜ 0 < decimals ⌝ }
     requires { ⌜ decimals < 256 ⌝ }
     ensures { λ r. ⌜
-        Reads (isNumber decimals (now (s .entry))) (digitsValue (numberDigits decimals (now (s .entry)))) r ⌝ }
+        Reads (isNumber decimals (now (field .entry))) (digitsValue (numberDigits decimals (now (field .entry)))) r ⌝ }
 {
-    if s.len() <= decimals + 1 {
-        return Found::Others;
+    if field.len() <= decimals + 1 {
+        return DigitsFound::Others;
     }
-    let whole = s.len() - (decimals + 1);
+    let whole = field.len() - (decimals + 1);
     if 18 < whole + decimals {
-        return Found::Others;
+        return DigitsFound::Others;
     }
-    if s[whole] != b'.' {
-        return Found::Others;
+    if field[whole] != b'.' {
+        return DigitsFound::Others;
     }
-    match digits::read_digits(0, 0, &s[..whole]) {
-        Found::Number(n) => digits::read_digits(n, whole, &s[whole + 1..]),
-        Found::Others => Found::Others,
+    match digits::read_digits(0, 0, &field[..whole]) {
+        DigitsFound::Number(n) => digits::read_digits(n, whole, &field[whole + 1..]),
+        DigitsFound::Others => DigitsFound::Others,
     }
 }
 
 // A number without its sign: its value with all decimals.
-fn read_unsigned(s: &[u8], decimals: u8) -> Found
+fn read_unsigned(field: &[u8], decimals: u8) -> DigitsFound
     ensures { λ r. ⌜
-        Reads (isNumber decimals (now (s .entry))) (digitsValue (numberDigits decimals (now (s .entry)))) r ⌝ }
+        Reads (isNumber decimals (now (field .entry))) (digitsValue (numberDigits decimals (now (field .entry)))) r ⌝ }
 {
     if decimals == 0 {
-        digits::read_count(s)
+        digits::read_count(field)
     } else {
-        read_pointed(s, decimals as usize)
+        read_pointed(field, decimals as usize)
     }
 }
 
 // The size of the sign, 0 or 1: "optional + or -".
-fn sign_size(s: &[u8]) -> usize
-    ensures { λ r. ⌜ (r ≤ length (now (s .entry))) × (drop r (now (s .entry)) ≡ unsigned (now (s .entry))) ⌝ }
+fn sign_size(field: &[u8]) -> usize
+    ensures { λ r. ⌜ (r ≤ length (now (field .entry))) × (drop r (now (field .entry)) ≡ unsigned (now (field .entry))) ⌝ }
 {
-    if s.len() == 0 {
+    if field.len() == 0 {
         return 0;
     }
-    let b = s[0];
+    let b = field[0];
     match b {
         b'+' | b'-' => 1,
         _ => 0,
     }
 }
 
-fn is_negative(s: &[u8]) -> bool
-    ensures { λ r. ⌜ r ≡ begins 0x2d (now (s .entry)) ⌝ }
+fn is_negative(field: &[u8]) -> bool
+    ensures { λ r. ⌜ r ≡ begins 0x2d (now (field .entry)) ⌝ }
 {
-    if s.len() == 0 { false } else { s[0] == b'-' }
+    if field.len() == 0 {
+        false
+    } else {
+        field[0] == b'-'
+    }
 }
 
 // The value: the sign is that of the field, also where the whole part is zero.
@@ -76,34 +80,34 @@ fn with_sign(negative: bool, n: u64) -> i64
 }
 
 // Within the bounds of a component.
-pub fn is_within(c: Component, v: i64) -> bool
-    ensures { λ r. ⌜ r ≡ within (componentOf c) v ⌝ }
+pub fn is_within(component: Component, v: i64) -> bool
+    ensures { λ r. ⌜ r ≡ within (componentOf component) v ⌝ }
 {
-    if v < c.least {
+    if v < component.least {
         false
-    } else if c.greatest < v {
+    } else if component.greatest < v {
         false
     } else {
         true
     }
 }
 
-fn judge_number(c: Component, v: i64) -> Value
-    ensures { λ r. ⌜ valueMeant r ≡ judged (within (componentOf c) v) v ⌝ }
+fn judge_number(component: Component, v: i64) -> Value
+    ensures { λ r. ⌜ valueMeant r ≡ judged (within (componentOf component) v) v ⌝ }
 {
-    if is_within(c, v) {
+    if is_within(component, v) {
         Value::Pair(1, v)
     } else {
         Value::Wrong(14)
     }
 }
 
-pub fn read_number(field: &[u8], c: Component) -> Value
-    ensures { λ r. ⌜ valueMeant r ≡ numberOf (componentOf c) (now (field .entry)) ⌝ }
+pub fn read_number(field: &[u8], component: Component) -> Value
+    ensures { λ r. ⌜ valueMeant r ≡ numberOf (componentOf component) (now (field .entry)) ⌝ }
 {
     let size = sign_size(field);
-    match read_unsigned(&field[size..], c.decimals) {
-        Found::Number(n) => judge_number(c, with_sign(is_negative(field), n)),
-        Found::Others => Value::Wrong(13),
+    match read_unsigned(&field[size..], component.decimals) {
+        DigitsFound::Number(n) => judge_number(component, with_sign(is_negative(field), n)),
+        DigitsFound::Others => Value::Wrong(13),
     }
 }

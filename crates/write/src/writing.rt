@@ -7,7 +7,7 @@ ghost use Rattle.meaning.specs.Check.{good};
 ghost use Rattle.meaning.specs.Writing.{lentOf, contentOf, linesOf};
 ghost use Rattle.meaning.specs.Width.{cutLines, writeChecked};
 ghost use Rattle.model_records.specs.Records.{modelAt};
-ghost use Rattle.model_records.specs.Places.{Placed};
+ghost use Rattle.model_records.specs.Places.{RecordsPlaced};
 ghost use Rattle.write_file.specs.Styles.{Fit};
 ghost use Rattle.table.specs.Contents.{contentIn};
 ghost use Rattle.write.specs.Answers.{answerOf, refusalOf, Fitting, Limited, settledOf};
@@ -55,7 +55,7 @@ fn put_limited(
     points: &[i64],
     out: &mut [u8],
 ) -> Put
-    requires { ⌜ Placed (now model) shape (now places) ⌝ }
+    requires { ⌜ RecordsPlaced (now model) shape (now places) ⌝ }
     requires { ⌜ Fit (modelAt (now model)) style ⌝ }
     ensures { λ r. ⌜
         Limited (cutLines (style .mark) (style .width)
@@ -92,7 +92,7 @@ fn put_used(
     width: usize,
     out: &mut [u8],
 ) -> Put
-    requires { ⌜ Placed (now model) shape (now places) ⌝ }
+    requires { ⌜ RecordsPlaced (now model) shape (now places) ⌝ }
     requires { ⌜ (16 ≤ width) × (width ≤ 65535) ⌝ }
     requires { ⌜
         Fitting (modelAt (now model))
@@ -142,7 +142,7 @@ fn refusal_of(
     index: &mut [u64],
     seed: u64,
 ) -> u8
-    requires { ⌜ Placed (now model) shape (now places) ⌝ }
+    requires { ⌜ RecordsPlaced (now model) shape (now places) ⌝ }
     ensures { λ r. ⌜ r
         ≡ refusalOf (modelAt (now (model .entry)))
         (lentOf (now (text .entry)) (now (marks .entry)) (now (rows .entry)) (now (cells .entry)) (now (points .entry))
@@ -188,7 +188,7 @@ pub(crate) fn write_under(
     index: &mut [u64],
     seed: u64,
 ) -> Answer
-    requires { ⌜ Placed (now model) shape (now places) ⌝ }
+    requires { ⌜ RecordsPlaced (now model) shape (now places) ⌝ }
     ensures answer { λ r. ⌜ answerOf r
         ≡ writeChecked
         (lentOf (now (text .entry)) (now (marks .entry)) (now (rows .entry)) (now (cells .entry)) (now (points .entry))

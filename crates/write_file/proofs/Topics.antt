@@ -17,7 +17,7 @@ use Rattle.meaning.specs.Reading.{Content, cellAt}
 use Rattle.meaning.specs.Writing.{rowsBehindTopic, tableLines, topicLines, fieldLines, linesBytes, linesOf}
 use Rattle.model_records.specs.declared.places.Shape.{Shape}
 use Rattle.model_records.specs.Records.{nextAt, modelAt}
-use Rattle.model_records.specs.Places.{topicPlace, TopicRecord, Placed}
+use Rattle.model_records.specs.Places.{topicPlace, TopicRecord, RecordsPlaced}
 use Rattle.model_records.proofs.Types.{payload-part}
 use Rattle.write_lines.specs.declared.Put.{Put}
 use Rattle.write_lines.specs.Puts.{Puts}
@@ -67,7 +67,7 @@ module _ (ts : List Table) (p : ℕ) (cells : List ℤ) (rows : List ℕ) (row :
 -- ## Topics
 
 -- the record of topic p is at this byte, the next record at that one
-module _ (b : List ℕ) (shape : Shape) (places : List ℕ) (h : Placed b shape places) (p : ℕ) (l : p < shape .topics) (at : ℕ) (e : at ≡ topicPlace places p) where
+module _ (b : List ℕ) (shape : Shape) (places : List ℕ) (h : RecordsPlaced b shape places) (p : ℕ) (l : p < shape .topics) (at : ℕ) (e : at ≡ topicPlace places p) where
   record-of : TopicRecord (modelAt b) b p at
   record-of = rw e (h .noted .topic p l)
 

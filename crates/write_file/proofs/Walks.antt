@@ -20,7 +20,7 @@ use Rattle.meaning.specs.Width.{cutLines}
 use Rattle.model_records.specs.declared.places.Shape.{Shape}
 use Rattle.model_records.specs.Records.{nextAt, modelAt, pairsAt}
 use Rattle.model_records.specs.AtRecord.{AttributesHere}
-use Rattle.model_records.specs.Places.{tablePlace, topicOf, TableRecord, Placed}
+use Rattle.model_records.specs.Places.{tablePlace, topicOf, TableRecord, RecordsPlaced}
 use Rattle.model_records.proofs.Types.{payload-part}
 use Rattle.write_lines.specs.declared.Put.{Put}
 use Rattle.write_lines.specs.Puts.{Puts}
@@ -107,7 +107,7 @@ module _ (mark width : ℕ) (m : Model) (text : List ℕ) (c : Content) (ps : Li
 -- ## Tables
 
 -- the record of table t is at this byte, the next record at that one
-module _ (b : List ℕ) (shape : Shape) (places : List ℕ) (h : Placed b shape places) (t : ℕ) (l : t < shape .tables) (at : ℕ) (e : at ≡ tablePlace places t) where
+module _ (b : List ℕ) (shape : Shape) (places : List ℕ) (h : RecordsPlaced b shape places) (t : ℕ) (l : t < shape .tables) (at : ℕ) (e : at ≡ tablePlace places t) where
   record-of : TableRecord (modelAt b) b t at
   record-of = rw e (h .noted .table t l)
 
@@ -129,7 +129,7 @@ module _ (b : List ℕ) (shape : Shape) (places : List ℕ) (h : Placed b shape 
 
 -- table t is passed: the test is whether it is one of topic p that is delivered
 module _ (b : List ℕ) (shape : Shape) (places text : List ℕ) (c : Content) (s : LineStyle) (p t row : ℕ) (put : Put) (e : List ℕ)
-    (h : Placed b shape places) (l : t < shape .tables) (r : Bool)
+    (h : RecordsPlaced b shape places) (l : t < shape .tables) (r : Bool)
     (test : r ≡ (eqb (topicOf places t) p && not (eqb (getD (c .marks) (shape .topics + t) 0) 0))) where
   tested : (eqb (tableAt (modelAt b .tables) t .topic) p && isDelivered c (length (modelAt b .topics) + t)) ≡ r
   tested = rw (← h .noted .owner t l, ← h .topics) (sym test)

@@ -9,7 +9,7 @@ ghost use Rattle.meaning.specs.Writing.{topicLines, linesOf};
 ghost use Rattle.meaning.specs.Width.{cutLines};
 ghost use Rattle.model_records.specs.Records.{modelAt};
 ghost use Rattle.model_records.specs.AtRecord.{Beginning};
-ghost use Rattle.model_records.specs.Places.{Placed};
+ghost use Rattle.model_records.specs.Places.{RecordsPlaced};
 ghost use Rattle.write_lines.specs.Puts.{Puts};
 ghost use Rattle.write_file.specs.Styles.{Fit, cutOf};
 ghost use Rattle.write_file.specs.Walks.{linesOfTopic, TopicEnd, TopicTurn};
@@ -26,13 +26,13 @@ use write_lines::Put;
 use write_lines::fields::put_nothing;
 
 // The topic of a table, 0 where there is no such table.
-fn owner_of(places: &[usize], shape: Shape, t: usize) -> usize
+fn owner_of(places: &[usize], shape: Shape, table: usize) -> usize
     requires { ⌜ (length (now places) ≡ 1088) × (shape .tables ≤ 512) ⌝ }
     ensures { λ r. ⌜ ((b : List ℕ) →
-        Placed b shape (now (places .entry)) → r ≡ tableAt (modelAt b .tables) t .topic) ⌝ }
+        RecordsPlaced b shape (now (places .entry)) → r ≡ tableAt (modelAt b .tables) table .topic) ⌝ }
 {
-    if t < shape.tables {
-        places::topic_of(places, t)
+    if table < shape.tables {
+        places::topic_of(places, table)
     } else {
         0
     }
@@ -44,18 +44,18 @@ fn behind_topic(
     shape: Shape,
     rows: &[u64],
     cells: &[i64],
-    p: usize,
+    topic: usize,
     row: usize,
 ) -> usize
     requires { ⌜ (length (now places) ≡ 1088) × (shape .tables ≤ 512) ⌝ }
     requires { ⌜ row ≤ length (now rows) ⌝ }
-    ensures { λ r. ⌜ ((b : List ℕ) → Placed b shape (now (places .entry)) →
-        TopicEnd (modelAt b .tables) p (now (cells .entry)) (now (rows .entry)) row r) ⌝ }
+    ensures { λ r. ⌜ ((b : List ℕ) → RecordsPlaced b shape (now (places .entry)) →
+        TopicEnd (modelAt b .tables) topic (now (cells .entry)) (now (rows .entry)) row r) ⌝ }
 {
     let mut i = row;
     while i < rows.len() {
         let table = size_at(cells, rows[i] as usize);
-        if owner_of(places, shape, table) != p {
+        if owner_of(places, shape, table) != topic {
             return i;
         }
         i += 1;
@@ -69,7 +69,7 @@ fn then_topic(
     model: &[u8],
     places: &[usize],
     shape: Shape,
-    p: usize,
+    topic: usize,
     text: &[u8],
     style: LineStyle,
     marks: &[u8],
@@ -79,15 +79,15 @@ fn then_topic(
     row: usize,
     out: &mut [u8],
 ) -> Put
-    requires { ⌜ Placed (now model) shape (now places) ⌝ }
+    requires { ⌜ RecordsPlaced (now model) shape (now places) ⌝ }
     requires { ⌜ Fit (modelAt (now model)) style ⌝ }
-    requires { ⌜ (p < shape .topics) × (row ≤ length (now rows)) ⌝ }
+    requires { ⌜ (topic < shape .topics) × (row ≤ length (now rows)) ⌝ }
     ensures { λ r. ⌜ (let m = modelAt (now (model .entry)) in
         let c = contentIn (now (marks .entry)) (now (rows .entry)) (now (cells .entry)) (now (points .entry)) in
-        let lines = linesOfTopic m (now (text .entry)) c p (drop row (now (rows .entry))) in
+        let lines = linesOfTopic m (now (text .entry)) c topic (drop row (now (rows .entry))) in
         Puts (cutOf style lines) put (now (out .entry)) (now (out .exit)) r) ⌝ }
 {
-    let at = places::topic_at(places, p);
+    let at = places::topic_at(places, topic);
     let next = model_records::next_at(model, at);
     let head = lines::then_named(put, b"TOPI", &model[at + 4..next], style, out);
     let body = walk::then_tables(
@@ -95,7 +95,7 @@ fn then_topic(
         model,
         places,
         shape,
-        p,
+        topic,
         text,
         style,
         marks,
@@ -114,7 +114,7 @@ fn pass_topic(
     model: &[u8],
     places: &[usize],
     shape: Shape,
-    p: usize,
+    topic: usize,
     text: &[u8],
     style: LineStyle,
     marks: &[u8],
@@ -124,14 +124,14 @@ fn pass_topic(
     row: usize,
     out: &mut [u8],
 ) -> RowsWritten
-    requires { ⌜ Placed (now model) shape (now places) ⌝ }
+    requires { ⌜ RecordsPlaced (now model) shape (now places) ⌝ }
     requires { ⌜ Fit (modelAt (now model)) style ⌝ }
-    requires { ⌜ (p < shape .topics) × (row ≤ length (now rows)) ⌝ }
+    requires { ⌜ (topic < shape .topics) × (row ≤ length (now rows)) ⌝ }
     ensures { λ r. ⌜ (let m = modelAt (now (model .entry)) in
         let c = contentIn (now (marks .entry)) (now (rows .entry)) (now (cells .entry)) (now (points .entry)) in
-        TopicTurn m (now (text .entry)) c style p row put (now (out .entry)) (now (out .exit)) r) ⌝ }
+        TopicTurn m (now (text .entry)) c style topic row put (now (out .entry)) (now (out .exit)) r) ⌝ }
 {
-    if byte_at(marks, p) == 0 {
+    if byte_at(marks, topic) == 0 {
         return RowsWritten {
             put: put_nothing(put),
             row,
@@ -142,7 +142,7 @@ fn pass_topic(
         model,
         places,
         shape,
-        p,
+        topic,
         text,
         style,
         marks,
@@ -152,7 +152,7 @@ fn pass_topic(
         row,
         out,
     );
-    let end = behind_topic(places, shape, rows, cells, p, row);
+    let end = behind_topic(places, shape, rows, cells, topic, row);
     RowsWritten { put: all, row: end }
 }
 
@@ -170,7 +170,7 @@ fn then_topics(
     points: &[i64],
     out: &mut [u8],
 ) -> Put
-    requires { ⌜ Placed (now model) shape (now places) ⌝ }
+    requires { ⌜ RecordsPlaced (now model) shape (now places) ⌝ }
     requires { ⌜ Fit (modelAt (now model)) style ⌝ }
     ensures { λ r. ⌜ (let m = modelAt (now (model .entry)) in
         let c = contentIn (now (marks .entry)) (now (rows .entry)) (now (cells .entry)) (now (points .entry)) in
@@ -233,7 +233,7 @@ pub fn put_file(
     points: &[i64],
     out: &mut [u8],
 ) -> Put
-    requires { ⌜ Placed (now model) shape (now places) ⌝ }
+    requires { ⌜ RecordsPlaced (now model) shape (now places) ⌝ }
     requires { ⌜ Fit (modelAt (now model)) style ⌝ }
     ensures { λ r. ⌜ (let m = modelAt (now (model .entry)) in
         let c = contentIn (now (marks .entry)) (now (rows .entry)) (now (cells .entry)) (now (points .entry)) in

@@ -8,7 +8,7 @@ ghost use lib.ListN.{length, take, drop, getD};
 ghost use Rattle.meaning.specs.Writing.{rowLines, tableLines};
 ghost use Rattle.model_records.specs.Records.{modelAt, pairsAt};
 ghost use Rattle.model_records.specs.AtRecord.{AttributesHere};
-ghost use Rattle.model_records.specs.Places.{topicOf, Placed};
+ghost use Rattle.model_records.specs.Places.{topicOf, RecordsPlaced};
 ghost use Rattle.write_lines.specs.Puts.{Puts};
 ghost use Rattle.write_file.specs.Styles.{Fit, cutOf};
 ghost use Rattle.write_file.specs.Walks.{linesOfTable, TableEnd, TableTurn};
@@ -31,13 +31,13 @@ pub(crate) struct RowsWritten {
 }
 
 // The number of the row behind the first rows of a table.
-fn behind_table(rows: &[u64], cells: &[i64], t: usize, row: usize) -> usize
+fn behind_table(rows: &[u64], cells: &[i64], table: usize, row: usize) -> usize
     requires { ⌜ row ≤ length (now rows) ⌝ }
-    ensures { λ r. ⌜ TableEnd t (now (cells .entry)) (now (rows .entry)) row r ⌝ }
+    ensures { λ r. ⌜ TableEnd table (now (cells .entry)) (now (rows .entry)) row r ⌝ }
 {
     let mut i = row;
     while i < rows.len() {
-        if size_at(cells, rows[i] as usize) != t {
+        if size_at(cells, rows[i] as usize) != table {
             return i;
         }
         i += 1;
@@ -98,7 +98,7 @@ fn then_table(
     model: &[u8],
     places: &[usize],
     shape: Shape,
-    t: usize,
+    table: usize,
     text: &[u8],
     style: LineStyle,
     rows: &[u64],
@@ -108,16 +108,16 @@ fn then_table(
     to: usize,
     out: &mut [u8],
 ) -> Put
-    requires { ⌜ Placed (now model) shape (now places) ⌝ }
+    requires { ⌜ RecordsPlaced (now model) shape (now places) ⌝ }
     requires { ⌜ Fit (modelAt (now model)) style ⌝ }
-    requires { ⌜ (t < shape .tables) × (from ≤ to) × (to ≤ length (now rows)) ⌝ }
+    requires { ⌜ (table < shape .tables) × (from ≤ to) × (to ≤ length (now rows)) ⌝ }
     ensures { λ r. ⌜ ((marks : List ℕ) →
         let c = contentIn marks (now (rows .entry)) (now (cells .entry)) (now (points .entry)) in
         let rs = take (to - from) (drop from (now (rows .entry))) in
-        let lines = linesOfTable (modelAt (now (model .entry))) (now (text .entry)) c t rs in
+        let lines = linesOfTable (modelAt (now (model .entry))) (now (text .entry)) c table rs in
         Puts (cutOf style lines) put (now (out .entry)) (now (out .exit)) r) ⌝ }
 {
-    let at = places::table_at(places, t);
+    let at = places::table_at(places, table);
     let next = model_records::next_at(model, at);
     let head = lines::then_named(put, b"TABL", &model[at + 5..next], style, out);
     let body = then_rows(
@@ -137,13 +137,13 @@ fn then_table(
 }
 
 // Whether table t is one of topic p that is delivered.
-fn is_due(places: &[usize], shape: Shape, p: usize, t: usize, marks: &[u8]) -> bool
-    requires { ⌜ (length (now places) ≡ 1088) × (shape .topics ≤ 64) × (t < 512) ⌝ }
-    ensures { λ r. ⌜ (let mark = getD (now (marks .entry)) (shape .topics + t) 0 in
-        r ≡ (eqb (topicOf (now (places .entry)) t) p && not (eqb mark 0))) ⌝ }
+fn is_due(places: &[usize], shape: Shape, topic: usize, table: usize, marks: &[u8]) -> bool
+    requires { ⌜ (length (now places) ≡ 1088) × (shape .topics ≤ 64) × (table < 512) ⌝ }
+    ensures { λ r. ⌜ (let mark = getD (now (marks .entry)) (shape .topics + table) 0 in
+        r ≡ (eqb (topicOf (now (places .entry)) table) topic && not (eqb mark 0))) ⌝ }
 {
-    let mark = byte_at(marks, shape.topics + t);
-    bools::both(places::topic_of(places, t) == p, mark != 0)
+    let mark = byte_at(marks, shape.topics + table);
+    bools::both(places::topic_of(places, table) == topic, mark != 0)
 }
 
 // The lines of table t, where it is one of topic p and delivered.
@@ -152,8 +152,8 @@ fn pass_table(
     model: &[u8],
     places: &[usize],
     shape: Shape,
-    p: usize,
-    t: usize,
+    topic: usize,
+    table: usize,
     text: &[u8],
     style: LineStyle,
     marks: &[u8],
@@ -163,26 +163,26 @@ fn pass_table(
     row: usize,
     out: &mut [u8],
 ) -> RowsWritten
-    requires { ⌜ Placed (now model) shape (now places) ⌝ }
+    requires { ⌜ RecordsPlaced (now model) shape (now places) ⌝ }
     requires { ⌜ Fit (modelAt (now model)) style ⌝ }
-    requires { ⌜ (t < shape .tables) × (row ≤ length (now rows)) ⌝ }
+    requires { ⌜ (table < shape .tables) × (row ≤ length (now rows)) ⌝ }
     ensures { λ r. ⌜ (let m = modelAt (now (model .entry)) in
         let c = contentIn (now (marks .entry)) (now (rows .entry)) (now (cells .entry)) (now (points .entry)) in
-        TableTurn m (now (text .entry)) c style p t row put (now (out .entry)) (now (out .exit)) r) ⌝ }
+        TableTurn m (now (text .entry)) c style topic table row put (now (out .entry)) (now (out .exit)) r) ⌝ }
 {
-    if !is_due(places, shape, p, t, marks) {
+    if !is_due(places, shape, topic, table, marks) {
         return RowsWritten {
             put: put_nothing(put),
             row,
         };
     }
-    let end = behind_table(rows, cells, t, row);
+    let end = behind_table(rows, cells, table, row);
     let all = then_table(
         put,
         model,
         places,
         shape,
-        t,
+        table,
         text,
         style,
         rows,
@@ -201,7 +201,7 @@ pub(crate) fn then_tables(
     model: &[u8],
     places: &[usize],
     shape: Shape,
-    p: usize,
+    topic: usize,
     text: &[u8],
     style: LineStyle,
     marks: &[u8],
@@ -211,12 +211,12 @@ pub(crate) fn then_tables(
     row: usize,
     out: &mut [u8],
 ) -> Put
-    requires { ⌜ Placed (now model) shape (now places) ⌝ }
+    requires { ⌜ RecordsPlaced (now model) shape (now places) ⌝ }
     requires { ⌜ Fit (modelAt (now model)) style ⌝ }
     requires { ⌜ row ≤ length (now rows) ⌝ }
     ensures { λ r. ⌜ (let m = modelAt (now (model .entry)) in
         let c = contentIn (now (marks .entry)) (now (rows .entry)) (now (cells .entry)) (now (points .entry)) in
-        let lines = tableLines m (now (text .entry)) c p 0 (m .tables) (drop row (now (rows .entry))) in
+        let lines = tableLines m (now (text .entry)) c topic 0 (m .tables) (drop row (now (rows .entry))) in
         Puts (cutOf style lines) put (now (out .entry)) (now (out .exit)) r) ⌝ }
 {
     let mut all = put_nothing(put);
@@ -228,7 +228,7 @@ pub(crate) fn then_tables(
             model,
             places,
             shape,
-            p,
+            topic,
             t,
             text,
             style,

@@ -21,7 +21,7 @@ use Rattle.meaning.proofs.Tests.Refuse.{both, holds}
 use Rattle.meaning.proofs.Reading.Stretches.{stretch-pos}
 use Rattle.model_records.specs.Records.{modelAt, pairsAt}
 use Rattle.model_records.specs.AtRecord.{AttributesHere}
-use Rattle.model_records.specs.Places.{attributesPlace, Placed}
+use Rattle.model_records.specs.Places.{attributesPlace, RecordsPlaced}
 use Rattle.model_records.specs.declared.places.Shape.{Shape}
 use Rattle.table.specs.Rows.{identificationOf, Row, RowsListed}
 use Rattle.table_index.specs.Index.{hashOf, insertOf}
@@ -78,7 +78,7 @@ module _ (shape : Shape) (marks : List ℕ) (cells : List ℤ) (least at : ℕ) 
     table-in = below-is (getD cells at (pos 0)) (shape .tables) table-pos (holds _ 1 h)
 
 -- the attribute records of the row's table
-module _ (b : List ℕ) (shape : Shape) (places : List ℕ) (h : Placed b shape places) (cells : List ℤ) (at t : ℕ) (e : t ≡ cellAt cells at) (l : t < shape .tables)
+module _ (b : List ℕ) (shape : Shape) (places : List ℕ) (h : RecordsPlaced b shape places) (cells : List ℤ) (at t : ℕ) (e : t ≡ cellAt cells at) (l : t < shape .tables)
     (first : ℕ) (f : first ≡ attributesPlace b places t) where
   pub row-attributes : AttributesHere (modelAt b) b first
   row-attributes = rw f (record { topics = _; tables = _; standing = h .noted .table t l .standing })
@@ -229,7 +229,7 @@ end-told true e size r h n = go (leb e size) refl h
     go false q h = absurd (n h)
 end-told false e size r h n = absurd (n h)
 
-module _ (b : List ℕ) (shape : Shape) (places marks : List ℕ) (placed : Placed b shape places)
+module _ (b : List ℕ) (shape : Shape) (places marks : List ℕ) (placed : RecordsPlaced b shape places)
     (text rows : List ℕ) (cells : List ℤ) (o at least : ℕ) (er : getD rows o 0 ≡ at) (listed : RowsListed text rows cells o) where
   abbrev m : Model
   m = modelAt b

@@ -20,7 +20,7 @@ use Rattle.meaning.proofs.Tests.Refuse.{holds}
 use Rattle.table_index.proofs.Kept.{held-start}
 use Rattle.write_judge.specs.Meant.{fineOf}
 use Rattle.table.specs.Contents.{contentIn}
-use Rattle.write_judge.specs.Rows.{AtRow, rowsFrom, Turned}
+use Rattle.write_judge.specs.Rows.{AtRow, rowsFrom, RowTurn}
 use Rattle.write_judge.specs.declared.pairs.PairsJudged.{PairsJudged}
 use Rattle.write_judge.specs.declared.pairs.PairsJudged.the-variants as fine
 use Rattle.write_judge.specs.declared.rows.Place.{Place}
@@ -157,7 +157,7 @@ module _ (m : Model) (seed : ℕ) (text marks rows : List ℕ) (cells points : L
     left-end l = sym (rows-end m text marks rows cells points o p l) ∙ i .same
 
     abbrev Answered : (index′ : List ℕ) → RowJudged → Type 0
-    Answered index′ r = Turned (rowsFrom m text marks rows cells points o p) (rowsFrom m text marks rows cells points (o + 1)) (AtRow seed text rows cells points index′ (o + 1)) r
+    Answered index′ r = RowTurn (rowsFrom m text marks rows cells points o p) (rowsFrom m text marks rows cells points (o + 1)) (AtRow seed text rows cells points index′ (o + 1)) r
 
     -- its row is not fine
     pub left-stop : (index′ : List ℕ) (r : RowJudged) → Answered index′ r → r ≡ judged.No → false ≡ judgeRows m text (contentIn marks rows cells points) 0 0 0 [] rows

@@ -23,7 +23,7 @@ use Rattle.model_records.specs.Components.{componentOf, listOf}
 use Rattle.model_records.specs.declared.Attribute.{Attribute}
 use Rattle.model_records.specs.Records.{modelAt, kindAt, nextAt, attributesAt, pairsAt}
 use Rattle.model_records.specs.AtRecord.{AtRecord, AttributeHere, AttributesHere}
-use Rattle.model_records.specs.Attributes.{typeOf, Decoded}
+use Rattle.model_records.specs.Attributes.{typeOf, RecordAttribute}
 use Rattle.model_records.specs.Counts.{pairCount}
 use Rattle.model_records.proofs.AtRecord.{attribute-here, no-attribute}
 use Rattle.model_records.proofs.Counting.{own-count}
@@ -304,7 +304,7 @@ few-components n h = go (eqb n 2) refl (eqb n 3) refl
     go false e true f = (omega (arith, eqb-true n 3 f), omega (arith, eqb-true n 3 f))
     go false e false f = absurd (false≢true (rw (e, f) at h))
 
-pub counted : (b : List ℕ) (at : ℕ) (a : Attribute) → Decoded b at a → ComponentsOfKind a
+pub counted : (b : List ℕ) (at : ℕ) (a : Attribute) → RecordAttribute b at a → ComponentsOfKind a
 counted b at a d = record { least = d .least; most = d .most; room = d .room; two = d .two; three = d .three; line = λ e. few-components (a .components .count) (d .line e) }
 
 module _ (b : List ℕ) (u : ℕ) (text rows : List ℕ) (cells points : List ℤ) (first cell k : ℕ) where
@@ -330,7 +330,7 @@ module _ (b : List ℕ) (u : ℕ) (text rows : List ℕ) (cells points : List �
       pub good-here : AttributeHere b at
       good-here = attribute-here (modelAt b) b at (i .topics) (i .tables) (i .standing) e .good
 
-      module _ (a : Attribute) (d : Decoded b at a) where
+      module _ (a : Attribute) (d : RecordAttribute b at a) where
         abbrev own : List Pair
         own = pairsOfType (a .optional) (typeOf a)
 

@@ -16,7 +16,7 @@ use Rattle.meaning.specs.Writing.{Lent, countsFit, contentOf}
 use Rattle.meaning.specs.Judge.{isMark, judgeTables, judgeRows, judge}
 use Rattle.meaning.proofs.Tests.Refuse.{holds}
 use Rattle.model_records.specs.Records.{modelAt}
-use Rattle.model_records.specs.Places.{Placed}
+use Rattle.model_records.specs.Places.{RecordsPlaced}
 use Rattle.model_records.specs.declared.places.Shape.{Shape}
 use Rattle.write_judge.specs.Marks.{Judging}
 use Rattle.table.specs.Contents.{contentIn}
@@ -63,7 +63,7 @@ cleared l n e = e ∙ ap (λ (k : ℕ). replicate k 0) (sym (ap length e ∙ len
 
 -- ## The whole
 
-module _ (b : List ℕ) (shape : Shape) (places : List ℕ) (placed : Placed b shape places)
+module _ (b : List ℕ) (shape : Shape) (places : List ℕ) (placed : RecordsPlaced b shape places)
     (text marks rows : List ℕ) (cells points : List ℤ) (objects cellCount pointCount : ℕ) where
   abbrev count : ℕ
   count = shape .topics + shape .tables

@@ -5,13 +5,13 @@ use mathlib.Core.List.{List}
 use lib.ListN.{length, drop}
 use Rattle.meaning.specs.Model.{Table}
 use Rattle.meaning.specs.Judge.{judgeTables}
-use Rattle.model_records.specs.Places.{Placed}
+use Rattle.model_records.specs.Places.{RecordsPlaced}
 use Rattle.model_records.specs.declared.places.Shape.{Shape}
 use Rattle.table.specs.Contents.{marksOnly}
 
 -- a good model's bytes, with its shape and its places, and a mark for each topic and each table
 pub record Judging (b : List ℕ) (shape : Shape) (places marks : List ℕ) : Type 0 where
-  pub placed : Placed b shape places
+  pub placed : RecordsPlaced b shape places
   pub marksRoom : shape .topics + shape .tables ≤ length marks
 
 -- the judge of the tables from table n on

@@ -45,6 +45,6 @@ rowsFrom m text marks rows cells points o p =
     judgeRows m text (contentIn marks rows cells points) (p .least) (p .at) (p .points) (take o rows) (drop o rows)
 
 -- a row is fine, and the next one's place says what the row's place said; or it is not fine
-abbrev pub Turned : (whole : Bool) (next : Place → Bool) (Holds : Place → Type 0) → RowJudged → Type 0
-Turned whole next Holds (On p) = (next p ≡ whole) × Holds p
-Turned whole next Holds No = false ≡ whole
+abbrev pub RowTurn : (whole : Bool) (next : Place → Bool) (Holds : Place → Type 0) → RowJudged → Type 0
+RowTurn whole next Holds (On p) = (next p ≡ whole) × Holds p
+RowTurn whole next Holds No = false ≡ whole

@@ -6,7 +6,7 @@ ghost use lib.Dec.{leb};
 ghost use Rattle.meaning.specs.Bytes.{allOf};
 ghost use Rattle.meaning.specs.Judge as meaning;
 ghost use Rattle.model_records.specs.Records.{modelAt};
-ghost use Rattle.model_records.specs.Places.{Placed};
+ghost use Rattle.model_records.specs.Places.{RecordsPlaced};
 ghost use Rattle.write_judge.specs.Marks.{Judging};
 ghost use Rattle.table.specs.Contents.{contentIn};
 ghost use Rattle.write_judge.specs.Tables.{judgeUsed};
@@ -88,7 +88,7 @@ pub fn judge(
     index: &mut [u64],
     seed: u64,
 ) -> bool
-    requires { ⌜ Placed (now model) shape (now places) ⌝ }
+    requires { ⌜ RecordsPlaced (now model) shape (now places) ⌝ }
     ensures { λ r. ⌜ r ≡ meaning.judge (modelAt (now (model .entry)))
         (lentOf (now (text .entry)) (now (marks .entry)) (now (rows .entry)) (now (cells .entry)) (now (points .entry))
         (used .objects) (used .cells) (used .points)) ⌝ }

@@ -38,16 +38,20 @@ fn is_fine(delivered: bool, in_topic: bool, optional: bool) -> bool
 }
 
 // The mark of table t beside that of its topic.
-fn judge_delivery(model: &[u8], places: &[usize], shape: Shape, marks: &[u8], t: usize) -> bool
+fn judge_delivery(model: &[u8], places: &[usize], shape: Shape, marks: &[u8], table: usize) -> bool
     requires { ⌜ Judging (now model) shape (now places) (now marks) ⌝ }
-    requires { ⌜ t < shape .tables ⌝ }
+    requires { ⌜ table < shape .tables ⌝ }
     ensures { λ r. ⌜ (
         let from = tablesFrom (shape .topics) (now (marks .entry)) (modelAt (now (model .entry)) .tables) in
-        from t ≡ choose r (from (t + 1)) false) ⌝ }
+        from table ≡ choose r (from (table + 1)) false) ⌝ }
 {
-    let topic = places::topic_of(places, t);
-    let optional = places::is_optional(model, places, shape, t);
-    is_fine(marks[shape.topics + t] != 0, marks[topic] != 0, optional)
+    let topic = places::topic_of(places, table);
+    let optional = places::is_optional(model, places, shape, table);
+    is_fine(
+        marks[shape.topics + table] != 0,
+        marks[topic] != 0,
+        optional,
+    )
 }
 
 // The marks of all tables.

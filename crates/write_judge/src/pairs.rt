@@ -41,11 +41,11 @@ pub(crate) enum PairsJudged {
 }
 
 // PairsJudged where a test holds.
-fn fine_if(test: bool, k: usize) -> PairsJudged
-    ensures { λ r. ⌜ fineOf r ≡ fineIf test k ⌝ }
+fn fine_if(test: bool, first: usize) -> PairsJudged
+    ensures { λ r. ⌜ fineOf r ≡ fineIf test first ⌝ }
 {
     if test {
-        PairsJudged::At(k)
+        PairsJudged::At(first)
     } else {
         PairsJudged::No
     }
@@ -257,46 +257,46 @@ fn judge_drawn(
     forms: usize,
     components: Components,
     points: &[i64],
-    k: usize,
+    first: usize,
     a: i64,
     b: i64,
 ) -> PairsJudged
     requires { ⌜ (2 ≤ components .count) × (components .count ≤ 3) × (length (components .items) ≡ 3) ⌝ }
-    requires { ⌜ 4 * k ≤ length (now points) ⌝ }
+    requires { ⌜ 4 * first ≤ length (now points) ⌝ }
     ensures { λ r. ⌜ ((marks rows : List ℕ) (cells : List ℤ) →
         let t = contentIn marks rows cells (now (points .entry)) in
-        fineOf r ≡ fineIf (judgeLine t k forms (componentsOf components) a b) (k + (natAbs a - 1))) ⌝ }
+        fineOf r ≡ fineIf (judgeLine t first forms (componentsOf components) a b) (first + (natAbs a - 1))) ⌝ }
 {
     if cells::is_below(a, 2) {
         return PairsJudged::No;
     }
-    if !cells::is_number(b, k) {
+    if !cells::is_number(b, first) {
         return PairsJudged::No;
     }
     let n = table::cells::size_of(a) - 1;
-    if points.len() / 4 - k < n {
+    if points.len() / 4 - first < n {
         return PairsJudged::No;
     }
     fine_if(
-        points::judge_points(forms, components, &points[4 * k..], n),
-        k + n,
+        points::judge_points(forms, components, &points[4 * first..], n),
+        first + n,
     )
 }
 
 // The pair of a line attribute.
-fn judge_line(attribute: Attribute, points: &[i64], k: usize, a: i64, b: i64) -> PairsJudged
+fn judge_line(attribute: Attribute, points: &[i64], first: usize, a: i64, b: i64) -> PairsJudged
     requires { ⌜ (2 ≤ attribute .components .count) × (attribute .components .count ≤ 3)
         × (length (attribute .components .items) ≡ 3) ⌝ }
-    requires { ⌜ 4 * k ≤ length (now points) ⌝ }
+    requires { ⌜ 4 * first ≤ length (now points) ⌝ }
     ensures { λ r. ⌜ ((undefined : ℕ) (text marks rows : List ℕ) (cells : List ℤ) →
-        fineOf r ≡ judgePair undefined text (contentIn marks rows cells (now (points .entry))) true k
+        fineOf r ≡ judgePair undefined text (contentIn marks rows cells (now (points .entry))) true first
         (OfLine (attribute .optional) (attribute .number) (componentsOf (attribute .components))) a b) ⌝ }
 {
     let components = attribute.components;
     if cells::is_number(a, 0) {
-        fine_if(judge_undefined(attribute.optional, b), k)
+        fine_if(judge_undefined(attribute.optional, b), first)
     } else {
-        judge_drawn(attribute.number, components, points, k, a, b)
+        judge_drawn(attribute.number, components, points, first, a, b)
     }
 }
 
@@ -309,13 +309,13 @@ fn judge_attribute(
     cells: &[i64],
     points: &[i64],
     cell: usize,
-    k: usize,
+    first: usize,
 ) -> PairsJudged
     requires { ⌜ ComponentsOfKind attribute ⌝ }
     requires { ⌜ cell + 2 * length (pairsOfType (attribute .optional) (typeOf attribute)) ≤ length (now cells) ⌝ }
-    requires { ⌜ 4 * k ≤ length (now points) ⌝ }
+    requires { ⌜ 4 * first ≤ length (now points) ⌝ }
     ensures { λ r. ⌜ ((marks : List ℕ) → fineOf r ≡ judgePairs undefined (now (text .entry))
-        (contentIn marks (now (rows .entry)) (now (cells .entry)) (now (points .entry))) true k
+        (contentIn marks (now (rows .entry)) (now (cells .entry)) (now (points .entry))) true first
         (pairsOfType (attribute .optional) (typeOf attribute)) (drop cell (now (cells .entry)))) ⌝ }
 {
     let kind = attribute.kind;
@@ -323,9 +323,9 @@ fn judge_attribute(
     match kind {
         COORDINATE_2 | COORDINATE_3 => fine_if(
             judge_coordinate(attribute.optional, components, cells, cell),
-            k,
+            first,
         ),
-        LINE => judge_line(attribute, points, k, cells[cell], cells[cell + 1]),
+        LINE => judge_line(attribute, points, first, cells[cell], cells[cell + 1]),
         _ => fine_if(
             judge_own(
                 attribute,
@@ -336,7 +336,7 @@ fn judge_attribute(
                 cells[cell],
                 cells[cell + 1],
             ),
-            k,
+            first,
         ),
     }
 }

@@ -15,7 +15,7 @@ ghost use Rattle.table.specs.Rows.{identificationOf, Row};
 ghost use Rattle.table_index.specs.Holds.{ObjectsKnown};
 ghost use Rattle.write_judge.specs.Marks.{Judging};
 ghost use Rattle.table.specs.Contents.{contentIn};
-ghost use Rattle.write_judge.specs.Rows.{AtRow, tableTests, nameTests, rowsFrom, Turned};
+ghost use Rattle.write_judge.specs.Rows.{AtRow, tableTests, nameTests, rowsFrom, RowTurn};
 use crate::cells;
 use crate::pairs;
 use crate::pairs::PairsJudged;
@@ -200,7 +200,7 @@ fn judge_object(
     requires { ⌜ AtRow seed (now text) (now rows) (now cells) (now points) (now index) object place ⌝ }
     ensures { λ r. ⌜ (let from = rowsFrom (modelAt (now (model .entry))) (now (text .entry)) (now (marks .entry))
         (now (rows .entry)) (now (cells .entry)) (now (points .entry)) in
-        Turned (from object place) (from (object + 1))
+        RowTurn (from object place) (from (object + 1))
         (AtRow seed (now (text .entry)) (now (rows .entry)) (now (cells .entry)) (now (points .entry))
         (now (index .exit)) (object + 1)) r) ⌝ }
 {

@@ -8,7 +8,7 @@ use lib.Dec.{eqb, ltb}
 use lib.ListN.{length}
 use borrow.Author.Tests.{ltb-false}
 use Rattle.meaning.specs.Bytes.{choose, refuse, u16At}
-use Rattle.meaning.specs.Model.{Records, finish, overrun, entry, recordsFrom, Attribute, Table, Model, attributeOf, attributesOf, tablesOf, modelOf, targetOf}
+use Rattle.meaning.specs.Model.{Records, finish, overrun, entry, recordsFrom, Attribute, Table, attributeOf, attributesOf, tablesOf, modelOf, targetOf}
 use Rattle.meaning.specs.Check.{Seen, nothingSeen, Checked, good, bad, isOutside, judgeAttributes, judgeReferences, checkRecords, checkModel}
 
 -- each record begins at byte n at the latest

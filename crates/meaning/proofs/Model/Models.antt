@@ -1,11 +1,9 @@
 -- The model of records that pass: its topics and tables are those of all records. Assumes nothing.
-use Prim.Native.Nat.{ℕ}
-use mathlib.Core.Path.{_≡_, refl}
+use mathlib.Core.Path.{_≡_}
 use mathlib.Core.Bool.{true≢false}
-use mathlib.Core.List.{List}
 use borrow.Author.Tests.{not-false}
 use Rattle.meaning.specs.Bytes.{choose}
-use Rattle.meaning.specs.Model.{Records, finish, overrun, entry, Model, Table, topicsOf, tablesOf, modelOf}
+use Rattle.meaning.specs.Model.{Records, finish, overrun, entry, Model, topicsOf, tablesOf, modelOf}
 use Rattle.meaning.specs.Check.{Checked, good, nothingSeen, checkRecords}
 use Rattle.meaning.proofs.Model.Marks.{bad-good, passed, is-transfer}
 

@@ -1,17 +1,17 @@
 -- Reading what writing writes, at the level of values. Assumes nothing.
 use Prim.Native.Nat.{ℕ, zero, suc, _+_, _*_, _-_, _/_, _%_, _^_, _≤_, _<_}
 use native.Mathlib.Omega.{arith}
-use native.Mathlib.Nat.{pow-suc, mod-lt}
-use mathlib.Core.Path.{_≡_, refl, sym, ap, _∙_}
-use mathlib.Core.Bool.{Bool, true, false, not, _&&_, _||_, false≢true, true≢false}
-use mathlib.Core.List.{List, [], _∷_, _++_, append-assoc}
-use lib.ListN.{length, take, drop, getD, length-append, take-append-drop, length-take, length-drop}
-use lib.Seq.{take-at, drop-at, getD-at, length-take-le}
-use lib.Dec.{eqb, leb, ltb}
-use lib.IntN.{ℤ, pos, negsuc, negℤ, natAbs}
+use native.Mathlib.Nat.{pow-suc}
+use mathlib.Core.Path.{_≡_, refl, ap, _∙_}
+use mathlib.Core.Bool.{Bool, true, false, not, _&&_, false≢true}
+use mathlib.Core.List.{List, [], _∷_, _++_}
+use lib.ListN.{length, take, drop, length-append, take-append-drop, length-take, length-drop}
+use lib.Seq.{take-at, getD-at}
+use lib.Dec.{eqb, leb}
+use lib.IntN.{ℤ, pos, negsuc, natAbs}
 use lib.Signed.{ltZ}
-use borrow.Author.Tests.{ne-eqb, eq-eqb, le-leb, lt-ltb, le-ltb, lt-leb, eqb-true, leb-true, ltb-true, ltb-false, leb-false, not-false, not-true}
-use Rattle.meaning.specs.Bytes.{choose, refuse, allOf, digit, every, begins}
+use borrow.Author.Tests.{ne-eqb, le-leb, lt-ltb, le-ltb, eqb-true, leb-true, ltb-true, ltb-false, not-true}
+use Rattle.meaning.specs.Bytes.{choose, refuse, digit, every, begins}
 use Rattle.meaning.specs.Model.{Component}
 use Rattle.meaning.specs.Check.{isBound, goodComponent}
 use Rattle.meaning.specs.Value.{pair, digitsAfter, isDigits, unsigned, signed, wholeSize, isNumber, numberDigits, within, numberOf, enumerationOf}

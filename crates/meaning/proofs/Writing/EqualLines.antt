@@ -1,27 +1,24 @@
 -- Tables that compare equal have the same lines. Assumes nothing.
 use Prim.Native.Nat.{ℕ, suc, _+_, _*_, _-_, _/_, min}
 use native.Mathlib.Omega.{arith}
-use mathlib.Core.Path.{_≡_, refl, sym, ap, ap₂, subst, _∙_}
-use mathlib.Core.Bool.{Bool, true, false, not, _&&_}
+use mathlib.Core.Path.{_≡_, refl, sym, ap, ap₂, _∙_}
+use mathlib.Core.Bool.{Bool, true}
 use mathlib.Core.List.{List, [], _∷_, _++_}
-use lib.Dec.{eqb}
 use lib.IntN.{ℤ, pos, natAbs}
-use lib.ListN.{length, drop, getD, replicate, length-drop}
+use lib.ListN.{length, drop, getD, length-drop}
 use lib.Seq.{drop-drop, getD-drop}
-use borrow.Author.Tests.{ne-eqb}
 use Rattle.meaning.specs.Bytes.{choose}
-use Rattle.meaning.specs.Model.{Component, AttributeType, Reference, Text, Model, tableAt, found, missing, targetOf}
+use Rattle.meaning.specs.Model.{Component, Reference, Text, Model, tableAt, found}
 use Rattle.meaning.specs.Field.{SCNT, slashes, MTID, MODL, TOPI, TABL, OBJE, ELIN, ETAB, ETOP}
 use Rattle.meaning.specs.Row.{Pair, OfAttribute, OfComponent, OfLine, pairsOf}
-use Rattle.meaning.specs.Reading.{Content, cellAt, lineAttributes, pointCount}
-use Rattle.meaning.specs.Digits.{numberBytes}
+use Rattle.meaning.specs.Reading.{Content, cellAt, lineAttributes}
 use Rattle.meaning.specs.Table.{findObject}
-use Rattle.meaning.specs.Writing.{stretchBytes, identificationBytes, typeBytes, fieldBytes, pairFields, attributeLines, pointLines, objectLines, topicLines, fieldLines, linesBytes, linesOf}
-use Rattle.meaning.specs.Readback.{isText, hasStart, pairsWithoutStarts, pairTexts}
-use Rattle.meaning.proofs.Judge.Valid.{RowOk, done, absent, plain, word, name, without, along, noLine, line, lentObjects, ObjectOk, Place, topicsFrom, tablesFrom, objects, Rest, finished, topicOut, topicIn, topicEnd, tableOut, tableIn, object, tableEnd, Valid}
+use Rattle.meaning.specs.Writing.{identificationBytes, typeBytes, fieldBytes, pairFields, attributeLines, pointLines, objectLines, fieldLines, linesBytes, linesOf}
+use Rattle.meaning.specs.Readback.{hasStart, pairsWithoutStarts, pairTexts}
+use Rattle.meaning.proofs.Judge.Valid.{RowOk, done, absent, plain, word, name, without, along, noLine, line, lentObjects, ObjectOk, Place, topicsFrom, Rest, finished, topicOut, topicIn, topicEnd, tableOut, tableIn, object, tableEnd, Valid}
 use Rattle.meaning.proofs.Reading.RowsRead.{found-at}
 use Rattle.meaning.proofs.Writing.Tables.{linesAt, last-lines, topic-out-lines, topic-in-lines, topic-end-lines, table-out-lines, table-in-lines, object-lines, table-end-lines}
-use Rattle.meaning.proofs.Judge.EqualTables.{pair-alike, start-zero, start-plain, start-word, reference-start, kept, taken, plain-bytes, pairsAt, RowAlike, AllAlike, rows-alike, of-table, behind-table, behind-topic, TablesAlike, all-objects, cons-inv}
+use Rattle.meaning.proofs.Judge.EqualTables.{pair-alike, start-plain, start-word, reference-start, kept, taken, plain-bytes, pairsAt, RowAlike, AllAlike, rows-alike, of-table, behind-table, behind-topic, TablesAlike, all-objects, cons-inv}
 
 -- ## The fields of a row
 

@@ -9,13 +9,13 @@ use lib.Signed.{ltZ}
 use lib.ListN.{length, take, drop, getD, length-take, length-drop}
 use lib.Seq.{take-append-le, drop-append-le}
 use Rattle.meaning.specs.Bytes.{choose}
-use Rattle.meaning.specs.Model.{Reference, Text, Model, tableAt}
-use Rattle.meaning.specs.Row.{Pair, OfAttribute, OfComponent, OfLine, pairsOf}
+use Rattle.meaning.specs.Model.{Text, Model, tableAt}
+use Rattle.meaning.specs.Row.{Pair, OfAttribute, pairsOf}
 use Rattle.meaning.specs.Reading.{Content, cellAt, stretch}
 use Rattle.meaning.specs.Writing.{stretchBytes, identificationBytes}
 use Rattle.meaning.specs.Readback.{hasStart, pairTexts, textsOf}
-use Rattle.meaning.proofs.Judge.Valid.{RowOk, done, absent, plain, word, name, without, along, noLine, line, ObjectOk, Place, Rest, finished, topicOut, topicIn, topicEnd, tableOut, tableIn, object, tableEnd, Valid}
-use Rattle.meaning.proofs.Judge.EqualTables.{start-zero, start-plain, start-word, reference-start, TablesAlike}
+use Rattle.meaning.proofs.Judge.Valid.{RowOk, done, absent, plain, word, name, without, along, noLine, line, Place, Rest, finished, topicOut, topicIn, topicEnd, tableOut, tableIn, object, tableEnd, Valid}
+use Rattle.meaning.proofs.Judge.EqualTables.{start-zero, start-plain, reference-start, TablesAlike}
 
 module _ (text zs : List ℕ) where
   -- a stretch of which no byte is missing

@@ -1,15 +1,15 @@
 -- What was written, read and written again gives the same bytes. Assumes nothing.
-use Prim.Native.Nat.{ℕ, _+_, _*_, _-_, _≤_}
+use Prim.Native.Nat.{ℕ, _+_, _*_, _-_}
 use native.Mathlib.Omega.{arith}
-use mathlib.Core.Path.{_≡_, refl, sym, ap, ap₂, subst, _∙_}
-use mathlib.Core.Bool.{Bool, true, not}
-use mathlib.Core.List.{List, _++_}
+use mathlib.Core.Path.{_≡_, sym, ap, subst, _∙_}
+use mathlib.Core.Bool.{true}
+use mathlib.Core.List.{List}
 use lib.Dec.{leb}
 use lib.IntN.{ℤ, pos}
 use lib.ListN.{length, take, replicate, length-append}
 use lib.Seq.{take-at, length-take-le}
 use borrow.Author.Tests.{leb-true, le-leb}
-use Rattle.meaning.specs.Bytes.{refuse, allOf}
+use Rattle.meaning.specs.Bytes.{allOf}
 use Rattle.meaning.specs.Model.{Model}
 use Rattle.meaning.specs.Check.{good, checkModel, GoodModel}
 use Rattle.meaning.specs.Answer.{accepted, filled}
@@ -17,8 +17,8 @@ use Rattle.meaning.specs.Reading.{Content, Rooms}
 use Rattle.meaning.specs.Table.{Result, acceptedWith, read}
 use Rattle.meaning.specs.Writing.{Lent, markCount, countsFit, contentOf, linesOf}
 use Rattle.meaning.specs.Readback.{cellsWithoutStarts, textsOf, isTable}
-use Rattle.meaning.specs.Width.{cutLines, Written, writingRefused, writeBytes, writeChecked, write}
-use Rattle.meaning.specs.WritingClaims.{Enough, ReadBack, resolvedTable, lentAgain}
+use Rattle.meaning.specs.Width.{writeChecked, write}
+use Rattle.meaning.specs.WritingClaims.{Enough, resolvedTable, lentAgain}
 use Rattle.meaning.proofs.Tests.Refuse.{holds}
 use Rattle.meaning.proofs.Model.GoodModels.{checked-good}
 use Rattle.meaning.proofs.Judge.Valid.{Valid}

@@ -11,7 +11,7 @@ use Rattle.model_records.proofs.count_components.Tie as tie
 
 shared-slice-read-read-dimension : tie.Need-shared-slice-read-read-dimension
 shared-slice-read-read-dimension c = let a = c .before .before .before in
-    omega (arith, line-size (a .args .q .now) (a .args .t) (c .before .match .keys4) (a .pre))
+    omega (arith, line-size (a .args .parameters .now) (a .args .kind) (c .before .match .keys4) (a .pre))
 
 read-dimension-requires : tie.Need-read-dimension-requires
 read-dimension-requires c κs = search needs
@@ -34,7 +34,7 @@ returns-4 c = rw (c .before .before .match .keys4) (c .read-dimension .ensures)
 
 returns-5 : tie.Need-returns-5
 unfolding countOf choose
-returns-5 c = let t = c .before .before .args .t in
+returns-5 c = let t = c .before .before .args .kind in
     let r = c .match .rest in
     rw (ne-eqb t 2 (r .0 .0 .0 .1), ne-eqb t 3 (r .0 .0 .1), ne-eqb t 4 (r .0 .1), ne-eqb t 8 (r .1))
 

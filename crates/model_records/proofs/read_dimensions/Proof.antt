@@ -17,26 +17,26 @@ skip-forms-requires c κs = search needs
 
 sub-read-components : tie.Need-sub-read-components
 sub-read-components c = let a = c .before .before .before in
-    omega (arith, c .skip-forms .ensures, components-fit (a .args .q .now) (a .args .t) (a .pre) .0)
+    omega (arith, c .skip-forms .ensures, components-fit (a .args .parameters .now) (a .args .kind) (a .pre) .0)
 
 part-read-components-start : tie.Need-part-read-components-start
 part-read-components-start c = let a = c .before .before .before in
-    omega (arith, c .skip-forms .ensures, components-fit (a .args .q .now) (a .args .t) (a .pre) .0)
+    omega (arith, c .skip-forms .ensures, components-fit (a .args .parameters .now) (a .args .kind) (a .pre) .0)
 
 part-read-components-end : tie.Need-part-read-components-end
 part-read-components-end c = search needs
 
 read-components-requires : tie.Need-read-components-requires
 read-components-requires c κs = let a = c .before .before .before .before in
-    let q = a .args .q .now in
-    let f = components-fit q (a .args .t) (a .pre) in
+    let q = a .args .parameters .now in
+    let f = components-fit q (a .args .kind) (a .pre) in
     let n = c .before .before .count-components .ensures in
     let s = c .before .skip-forms .ensures in
     (omega (arith, n, f .1), rw (to-end q (c .before .skip-forms .result), length-drop) (omega (arith, n, s, f .0)))
 
 returns : tie.Need-returns
 returns c = let a = c .before .before .before .before .before in
-    let q = a .args .q .now in
+    let q = a .args .parameters .now in
     let e = to-end q (c .before .before .skip-forms .result) ∙ ap (λ (s : ℕ). drop s q) (c .before .before .skip-forms .ensures) in
     let h = c .read-components .ensures in
     rw (e, c .before .before .before .count-components .ensures) at h

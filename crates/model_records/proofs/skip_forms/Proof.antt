@@ -11,7 +11,7 @@ returns c = rw (c .if1 .taken)
 
 returns-2 : tie.Need-returns-2
 unfolding startOf choose
-returns-2 c = rw (ne-eqb (c .before .args .t) 8 (c .if1 .left))
+returns-2 c = rw (ne-eqb (c .before .args .kind) 8 (c .if1 .left))
 
 pub skip-forms-spec : {M : Type 1} → statement M
 skip-forms-spec = tie.close (tie.spec returns returns-2)

@@ -40,13 +40,13 @@ returns : tie.Need-returns
 returns c =
     let q = c .before .before .before .before .before .before .before .before .before .before .before in
     let g = q .args in
-    let l = g .l .now in
+    let l = g .line .now in
     let h = c .before .before .before .before .before .before .before .before .head-of in
     let a = c .before .before .before .before .before .before .before .attribute-at in
     let n = c .before .before .before .before .before .before .name-code in
     let m = rw (to-end l (h .result .behind)) at (c .before .before .move-line .ensures) in
     λ rooms text start er.
-    due-line (g .model .now) (a .result) (g .u) (g .s) (q .pre .line) (a .ensures) rooms text l (fieldsOf start l) _ _ _ _ _
+    due-line (g .model .now) (a .result) (g .polyline) (g .state) (q .pre .line) (a .ensures) rooms text l (fieldsOf start l) _ _ _ _ _
     (m rooms text (fieldsOf start l) (start + h .result .behind) er (h .ensures .others start) (code-meant l (h .result) (h .ensures) start ∙ sym (n .ensures)))
 
 pub attribute-line-spec : {M : Type 1} → statement M

@@ -46,18 +46,18 @@ returns c =
     let g = c .before .before .before .before .before .args in
     let e = sym (ap moveOf (c .enum-told .given .1)) ∙ c .before .before .step .ensures in
     λ rooms text fs start er dr co.
-    by-move (g .model .now) (g .u) (g .s) (modelAt (g .model .now)) rooms text (wayOf (g .model .now) (g .a) (g .u)) fs _ _ _ _ meaning.unexpected _ (rw co e)
+    by-move (g .model .now) (g .polyline) (g .state) (modelAt (g .model .now)) rooms text (wayOf (g .model .now) (g .attribute) (g .polyline)) fs _ _ _ _ meaning.unexpected _ (rw co e)
     _
-    (refused-here (g .model .now) (g .u) (g .s) _ _ _ 7 1 (λ x. unexpected-line (modelAt (g .model .now)) rooms text (wayOf (g .model .now) (g .a) (g .u)) fs x))
+    (refused-here (g .model .now) (g .polyline) (g .state) _ _ _ 7 1 (λ x. unexpected-line (modelAt (g .model .now)) rooms text (wayOf (g .model .now) (g .attribute) (g .polyline)) fs x))
 
 returns-2 : tie.Need-returns-2
 returns-2 c =
     let g = c .before .before .before .before .before .before .args in
     let e = sym (ap moveOf (c .before .enum-told2 .given .1)) ∙ c .before .before .before .step .ensures in
     λ rooms text fs start er dr co.
-    by-move (g .model .now) (g .u) (g .s) (modelAt (g .model .now)) rooms text (wayOf (g .model .now) (g .a) (g .u)) fs _ _ _ _ meaning.undefinedLine _ (rw co e)
+    by-move (g .model .now) (g .polyline) (g .state) (modelAt (g .model .now)) rooms text (wayOf (g .model .now) (g .attribute) (g .polyline)) fs _ _ _ _ meaning.undefinedLine _ (rw co e)
     _
-    (c .undefined-line .ensures (g .a) rooms text fs start _ _ refl dr)
+    (c .undefined-line .ensures (g .attribute) rooms text fs start _ _ refl dr)
 
 same-length : tie.Need-same-length
 same-length c = search needs
@@ -68,9 +68,9 @@ returns-3 c =
     let g = q .args in
     let e = sym (ap moveOf (c .before .before .before .enum-told3 .given .1)) ∙ c .before .before .before .before .before .step .ensures in
     λ rooms text fs start er dr co.
-    by-move (g .model .now) (g .u) (g .s) (modelAt (g .model .now)) rooms text (wayOf (g .model .now) (g .a) (g .u)) fs _ _ _ _ meaning.ended _ (rw co e)
+    by-move (g .model .now) (g .polyline) (g .state) (modelAt (g .model .now)) rooms text (wayOf (g .model .now) (g .attribute) (g .polyline)) fs _ _ _ _ meaning.ended _ (rw co e)
     _
-    (c .before .end-line .ensures (g .a) rooms text fs start _ (q .pre .0 .pointsFit) dr)
+    (c .before .end-line .ensures (g .attribute) rooms text fs start _ (q .pre .0 .pointsFit) dr)
 
 same-length-2 : tie.Need-same-length-2
 same-length-2 c = search needs
@@ -82,7 +82,7 @@ returns-4 c =
     let k = c .before .before .before .before .kind .given in
     let e = sym (ap moveOf (k .1)) ∙ c .before .before .before .before .before .before .step .ensures in
     λ rooms text fs start er dr co.
-    by-move (g .model .now) (g .u) (g .s) (modelAt (g .model .now)) rooms text (wayOf (g .model .now) (g .a) (g .u)) fs _ _ _ _ (meaning.point (k .0 .0) (lineStateOf (k .0 .1 .0))) _ (rw co e)
+    by-move (g .model .now) (g .polyline) (g .state) (modelAt (g .model .now)) rooms text (wayOf (g .model .now) (g .attribute) (g .polyline)) fs _ _ _ _ (meaning.point (k .0 .0) (lineStateOf (k .0 .1 .0))) _ (rw co e)
     _
     (c .before .point-line .ensures (g .model .now) text rooms fs start _ (q .pre .1) (q .pre .0 .line) (q .pre .0 .undefinedByte) er dr co)
 

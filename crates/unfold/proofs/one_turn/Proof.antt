@@ -6,7 +6,7 @@ use mathlib.Core.List.{List}
 use lib.ListN.{drop}
 use Rattle.meaning.specs.Unfold.{next}
 use Rattle.base.proofs.Fill.{to-end}
-use Rattle.unfold.specs.Step.{Stepped, Parted}
+use Rattle.unfold.specs.LinePart.{Stepped, Parted}
 use Rattle.unfold.proofs.Flat.{ended, part-is, Fitting, fitting}
 use Rattle.unfold.proofs.Kept.{put-both, goes-on, done, refused}
 use borrow.Author.Needs.{needs}
@@ -15,28 +15,28 @@ use denote.Ref.{now}
 use Rattle.unfold.proofs.one_turn.Statement.{statement}
 use Rattle.unfold.proofs.one_turn.Tie as tie
 
-stepped : (c : tie.After-over-line) → let g = c .before .before .before .before .args in Stepped (g .mark) (g .s .continues) (drop (g .s .at) (now (g .file))) (c .over-line .result)
+stepped : (c : tie.After-over-line) → let g = c .before .before .before .before .args in Stepped (g .mark) (g .cursor .continues) (drop (g .cursor .at) (now (g .file))) (c .over-line .result)
 stepped c =
     let g = c .before .before .before .before .args in
-    subst (λ (l : List ℕ). Stepped (g .mark) (g .s .continues) l (c .over-line .result)) (to-end (now (g .file)) (g .s .at)) (c .over-line .ensures)
+    subst (λ (l : List ℕ). Stepped (g .mark) (g .cursor .continues) l (c .over-line .result)) (to-end (now (g .file)) (g .cursor .at)) (c .over-line .ensures)
 
 more : (c : tie.After-step2) → let g = c .before .before .before .before .before .before .args in let v = c .step2 .given .0 in
-    Parted (g .mark) (g .s .continues) true (drop (g .s .at) (now (g .file))) (v .0) (v .1 .0) (v .1 .1 .0)
+    Parted (g .mark) (g .cursor .continues) true (drop (g .cursor .at) (now (g .file))) (v .0) (v .1 .0) (v .1 .1 .0)
 more c = subst (Stepped _ _ _) (c .step2 .given .1) (stepped (c .before .before))
 
-more-fits : (c : tie.After-step2) → let g = c .before .before .before .before .before .before .args in let v = c .step2 .given .0 in Fitting (now (g .file)) (g .s .at) (v .0) (v .1 .0) (v .1 .1 .0)
+more-fits : (c : tie.After-step2) → let g = c .before .before .before .before .before .before .args in let v = c .step2 .given .0 in Fitting (now (g .file)) (g .cursor .at) (v .0) (v .1 .0) (v .1 .1 .0)
 more-fits c =
     let g = c .before .before .before .before .before .before .args in
-    fitting _ _ _ (now (g .file)) (g .s .at) _ _ _ (more c)
+    fitting _ _ _ (now (g .file)) (g .cursor .at) _ _ _ (more c)
 
 last : (c : tie.After-step3) → let g = c .before .before .before .before .before .before .args in let v = c .step3 .given .0 in
-    Parted (g .mark) (g .s .continues) false (drop (g .s .at) (now (g .file))) (v .0) (v .1 .0) (v .1 .1 .0)
+    Parted (g .mark) (g .cursor .continues) false (drop (g .cursor .at) (now (g .file))) (v .0) (v .1 .0) (v .1 .1 .0)
 last c = subst (Stepped _ _ _) (c .step3 .given .1) (stepped (c .before .before))
 
-last-fits : (c : tie.After-step3) → let g = c .before .before .before .before .before .before .args in let v = c .step3 .given .0 in Fitting (now (g .file)) (g .s .at) (v .0) (v .1 .0) (v .1 .1 .0)
+last-fits : (c : tie.After-step3) → let g = c .before .before .before .before .before .before .args in let v = c .step3 .given .0 in Fitting (now (g .file)) (g .cursor .at) (v .0) (v .1 .0) (v .1 .1 .0)
 last-fits c =
     let g = c .before .before .before .before .before .before .args in
-    fitting _ _ _ (now (g .file)) (g .s .at) _ _ _ (last c)
+    fitting _ _ _ (now (g .file)) (g .cursor .at) _ _ _ (last c)
 
 sub-over-line : tie.Need-sub-over-line
 sub-over-line c = search needs
@@ -144,7 +144,7 @@ returns-3 c =
     let s = c .before .before .before .before .before .before .before .before .before .before .before .before in
     let q = more (c .before .before .before .before .before .before) in
     let put = c .before .before .put-part in
-    let part = part-is _ 0 _ _ (now (s .args .file)) (s .args .s .at) _ _ _ q in
+    let part = part-is _ 0 _ _ (now (s .args .file)) (s .args .cursor .at) _ _ _ q in
     (omega (arith, q .inside), goes-on _ _ _ _ (s .pre) true _ _ _ _ _ q (put .kept .1 .0) (rw part at (put .ensures)))
 
 same-length-4 : tie.Need-same-length-4
@@ -157,7 +157,7 @@ returns-4 c =
     let q = last (c .before .before .before .before .before .before .before .before .before .before) in
     let put = c .before .before .before .before .before .before .put-part2 in
     let end = c .before .before .put-line-end in
-    let part = part-is _ 0 _ _ (now (s .args .file)) (s .args .s .at) _ _ _ q in
+    let part = part-is _ 0 _ _ (now (s .args .file)) (s .args .cursor .at) _ _ _ q in
     let both = put-both _ _ _ _ _ _ _ _ (put .kept .1 .0) (rw part at (put .ensures)) (end .ensures) in
     (omega (arith, q .inside), goes-on _ _ _ _ (s .pre) false _ _ _ _ _ q (end .kept .0 ∙ put .kept .1 .0) both)
 

@@ -1,9 +1,9 @@
--- `unfold::unfold_with` meets its contract: the loop keeps `Ready`. Assumes nothing.
+-- `unfold::unfold_with` meets its contract: the loop keeps `TurnReady`. Assumes nothing.
 use Prim.Native.Nat.{_-_}
 use mathlib.Core.Path.{_≡_, refl, subst, _∙_}
 use lib.ListN.{length}
 use Rattle.meaning.specs.Unfold.{unfoldFile}
-use Rattle.unfold.specs.Turn.{Ready, Turned}
+use Rattle.unfold.specs.Turn.{TurnReady, Turned}
 use Rattle.unfold.proofs.Flat.{prepend-nil}
 use borrow.Author.Needs.{needs}
 use native.Mathlib.Omega.{arith}
@@ -11,7 +11,7 @@ use Rattle.unfold.proofs.unfold_with.Statement.{statement}
 use Rattle.unfold.proofs.unfold_with.Tie as tie
 
 abbrev Inv-loop : tie.InvT-loop
-Inv-loop file mark text₀ s₀ text s = (length text ≡ length text₀) × Ready mark file text s
+Inv-loop file mark text₀ s₀ text s = (length text ≡ length text₀) × TurnReady mark file text s
 
 abbrev μ-loop : tie.MeasureT-loop
 μ-loop file mark text₀ s₀ text s = length file - s .at

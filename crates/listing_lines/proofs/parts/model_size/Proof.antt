@@ -12,9 +12,9 @@ use Rattle.listing_lines.proofs.parts.model_size.Statement.{statement}
 use Rattle.listing_lines.proofs.parts.model_size.Tie as tie
 use Rattle.listing_lines.proofs.parts.model_size.Reads as reads
 use Rattle.listing_lines.proofs.parts.model_size.Lts as lts
-use Rattle.model_check.proofs.records.fits_at.Reads as fits-at-reads
-use Rattle.model_check.proofs.records.kind_at.Reads as kind-at-reads
-use Rattle.model_check.proofs.records.next_at.Reads as next-at-reads
+use Rattle.model_records.proofs.fits_at.Reads as fits-at-reads
+use Rattle.model_records.proofs.kind_at.Reads as kind-at-reads
+use Rattle.model_records.proofs.next_at.Reads as next-at-reads
 
 abbrev Inv-loop : tie.InvT-loop
 Inv-loop input at₀ at = (at ≤ length input) × (modelSize (length input) (recordsAt input at) ≡ modelSize (length input) (recordsAt input 0))
@@ -33,10 +33,10 @@ fits : (c : lts.Then1 (fits-at-reads.Asked, fits-at-reads.Learnt, kind-at-reads.
 fits c = leb-true (nextAt (c .before .before .before .before .args .input .now) (c .before .before .loop .at)) (length (c .before .before .before .before .args .input .now)) (sym (c .before .fits-at .ensures) ∙ c .if1 .taken)
 
 kind-at-requires : tie.Need-kind-at-requires Inv-loop μ-loop
-kind-at-requires c κs = fits c
+kind-at-requires c κs = omega (arith, fits c)
 
 next-at-requires : tie.Need-next-at-requires Inv-loop μ-loop
-next-at-requires c κs = fits (c .before)
+next-at-requires c κs = omega (arith, fits (c .before))
 
 returns : tie.Need-returns Inv-loop μ-loop
 returns c =

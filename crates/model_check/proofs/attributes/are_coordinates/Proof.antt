@@ -18,7 +18,7 @@ both-requires c κs = search needs
 returns : tie.Need-returns
 unfolding allOf
 returns c = let s = c .before .before .before in
-    rw (and-true, held-length (s .args .c) (s .pre .0) (s .pre .1), c .both .ensures, c .before .are-components .ensures, c .before .before .is-dimension .ensures)
+    rw (and-true, held-length (s .args .components) (s .pre .0) (s .pre .1), c .both .ensures, c .before .are-components .ensures, c .before .before .is-dimension .ensures)
 
 pub are-coordinates-spec : {M : Type 1} → statement M
 are-coordinates-spec =

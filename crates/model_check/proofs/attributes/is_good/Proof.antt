@@ -3,7 +3,7 @@ use native.Mathlib.Omega.{arith}
 use borrow.Author.Needs.{needs}
 use Rattle.meaning.specs.Check.{goodType}
 use Rattle.meaning.specs.Bytes.{choose, allOf}
-use Rattle.model_check.specs.Attributes.{typeMeant}
+use Rattle.model_records.specs.Attributes.{typeOf}
 use Rattle.model_check.proofs.Types.{good-coordinate, good-line}
 use Rattle.model_check.proofs.attributes.is_good.Statement.{statement}
 use Rattle.model_check.proofs.attributes.is_good.Tie as tie
@@ -27,34 +27,34 @@ is-line-requires-2 : tie.Need-is-line-requires-2
 is-line-requires-2 c κs = search needs
 
 returns : tie.Need-returns
-unfolding goodType typeMeant choose allOf
+unfolding goodType typeOf choose allOf
 returns c = rw (c .before .before .match .keys1, c .is-line .ensures, c .before .are-coordinates .ensures)
 
 returns-2 : tie.Need-returns-2
-unfolding goodType typeMeant choose
+unfolding goodType typeOf choose
 returns-2 c = rw (c .match .keys2)
 
 returns-3 : tie.Need-returns-3
-unfolding goodType typeMeant choose
+unfolding goodType typeOf choose
 returns-3 c = rw (c .before .match .keys3) (c .is-first .ensures)
 
 returns-4 : tie.Need-returns-4
-unfolding goodType typeMeant choose
+unfolding goodType typeOf choose
 returns-4 c = rw (c .match .keys4)
 
 returns-5 : tie.Need-returns-5
-unfolding goodType typeMeant choose
+unfolding goodType typeOf choose
 returns-5 c = rw (c .match .keys5)
 
 returns-6 : tie.Need-returns-6
-unfolding goodType typeMeant choose
+unfolding goodType typeOf choose
 returns-6 c = rw (c .match .keys6)
 
 returns-7 : tie.Need-returns-7
-returns-7 c = rw (good-coordinate (c .before .before .before .before .args .a) (omega arith) (omega arith)) (c .are-coordinates2 .ensures)
+returns-7 c = rw (good-coordinate (c .before .before .before .before .args .attribute) (omega arith) (omega arith)) (c .are-coordinates2 .ensures)
 
 returns-8 : tie.Need-returns-8
-returns-8 c = rw (good-line (c .before .before .before .before .before .args .a) (omega arith), c .is-line2 .ensures, c .before .are-coordinates3 .ensures)
+returns-8 c = rw (good-line (c .before .before .before .before .before .args .attribute) (omega arith), c .is-line2 .ensures, c .before .are-coordinates3 .ensures)
 
 pub is-good-spec : {M : Type 1} → statement M
 is-good-spec =

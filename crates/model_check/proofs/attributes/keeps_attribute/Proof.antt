@@ -18,7 +18,7 @@ parameters-end-requires c κs = search needs
 
 returns : tie.Need-returns
 returns c = let s = c .before .before .before .before .before in
-    sym (short-attribute (s .args .p .now) _ (omega (arith, c .if1 .taken, c .before .parameters-end .ensures)))
+    sym (short-attribute (s .args .payload .now) _ (omega (arith, c .if1 .taken, c .before .parameters-end .ensures)))
 
 sub-is-free : tie.Need-sub-is-free
 sub-is-free c = search needs
@@ -47,7 +47,7 @@ both-requires-2 c κs = search needs
 returns-2 : tie.Need-returns-2
 unfolding keepsAttribute attributeOf allOf
 returns-2 c = let a = c .before .before .before .before .before .before .before .before .before .before .before .args in
-    let p = a .p .now in
+    let p = a .payload .now in
     let n = names-length (a .model .now) (take (a .count) (a .seen .now)) ∙ length-take-le (a .count) (a .seen .now) (omega arith) in
     let e = c .before .before .before .before .before .before .before .parameters-end .ensures in
     rw (c .both2 .ensures, c .before .both .ensures, c .before .before .is-type .ensures, c .before .before .before .is-flag .ensures, n, ← e, ← to-end p (c .before .before .before .before .before .before .before .parameters-end .result), c .before .before .before .before .is-free .ensures)

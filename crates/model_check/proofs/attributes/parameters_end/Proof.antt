@@ -16,16 +16,16 @@ byte-at-requires c κs = search needs
 byte-at-requires-2 : tie.Need-byte-at-requires-2
 byte-at-requires-2 c κs = search needs
 
-count-components-requires : tie.Need-count-components-requires
-count-components-requires c κs = search needs
+read-dimension-requires : tie.Need-read-dimension-requires
+read-dimension-requires c κs = search needs
 
 mul-result : tie.Need-mul-result
-mul-result c = let p = c .before .before .before .before .before .args .p .now in
-    let e = c .count-components .ensures in
+mul-result c = let p = c .before .before .before .before .before .args .payload .now in
+    let e = c .read-dimension .ensures in
     omega (arith, e, dimension-bounds (eqb (c .before .byte-at2 .result) 3) .1)
 
 add-result : tie.Need-add-result
-add-result c = let e = c .count-components .ensures in
+add-result c = let e = c .read-dimension .ensures in
     omega (arith, e, dimension-bounds (eqb (c .before .byte-at2 .result) 3) .1)
 
 returns : tie.Need-returns
@@ -45,8 +45,8 @@ unfolding parametersSize choose
 returns-4 c = rw (← c .before .byte-at .ensures, c .match .keys4)
 
 returns-5 : tie.Need-returns-5
-returns-5 c = let p = c .before .before .before .before .before .args .p .now in
-    rw (c .count-components .ensures, c .before .byte-at2 .ensures, size-line (byteAt p 1) p (sym (c .before .before .before .byte-at .ensures) ∙ c .before .before .match .keys5)) (omega arith)
+returns-5 c = let p = c .before .before .before .before .before .args .payload .now in
+    rw (c .read-dimension .ensures, c .before .byte-at2 .ensures, size-line (byteAt p 1) p (sym (c .before .before .before .byte-at .ensures) ∙ c .before .before .match .keys5)) (omega arith)
 
 returns-6 : tie.Need-returns-6
 unfolding parametersSize choose
@@ -59,7 +59,7 @@ parameters-end-spec =
     (tie.spec
     byte-at-requires
     byte-at-requires-2
-    count-components-requires
+    read-dimension-requires
     mul-result
     add-result
     returns

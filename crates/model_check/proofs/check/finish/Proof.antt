@@ -7,7 +7,7 @@ use Rattle.model_check.proofs.check.finish.Tie as tie
 
 returns : tie.Need-returns
 unfolding checkedMeant
-returns c = let s = c .before .before .before .before in no-end (s .args .model .now) (s .args .w) (s .args .places .now) (s .pre) (c .if1 .taken)
+returns c = let s = c .before .before .before .before in no-end (s .args .model .now) (s .args .walker) (s .args .places .now) (s .pre) (c .if1 .taken)
 
 first-outside-requires : tie.Need-first-outside-requires
 first-outside-requires c κs = c .before .before .before .before .pre .room
@@ -20,11 +20,11 @@ enum-told c = search needs
 
 returns-2 : tie.Need-returns-2
 unfolding checkedMeant
-returns-2 c = let s = c .before .before .before .before .before .before .before .before in outside (s .args .model .now) (s .args .w) (s .args .places .now) (s .pre) (c .before .before .before .before .if1 .left) (c .before .before .before .first-outside .result) (c .before .before .before .first-outside .ensures) _ (c .before .at .given .1)
+returns-2 c = let s = c .before .before .before .before .before .before .before .before in outside (s .args .model .now) (s .args .walker) (s .args .places .now) (s .pre) (c .before .before .before .before .if1 .left) (c .before .before .before .first-outside .result) (c .before .before .before .first-outside .ensures) _ (c .before .at .given .1)
 
 returns-3 : tie.Need-returns-3
 unfolding checkedMeant
-returns-3 c = let s = c .before .before .before .before .before .before .before in good-model (s .args .model .now) (s .args .w) (s .args .places .now) (s .pre) (c .before .before .before .if1 .left) (c .before .before .first-outside .result) (c .before .before .first-outside .ensures) (c .enum-told .given .1)
+returns-3 c = let s = c .before .before .before .before .before .before .before in good-model (s .args .model .now) (s .args .walker) (s .args .places .now) (s .pre) (c .before .before .before .if1 .left) (c .before .before .first-outside .result) (c .before .before .first-outside .ensures) (c .enum-told .given .1)
 
 pub finish-spec : {M : Type 1} → statement M
 finish-spec =

@@ -13,7 +13,7 @@ use Rattle.model_check.proofs.check.keeps_table.Tie as tie
 
 returns : tie.Need-returns
 unfolding keepsTable isFlag
-returns c = let p = c .before .before .before .before .args .p .now in
+returns c = let p = c .before .before .before .before .args .payload .now in
     sym (fails-here _ _ (rw (lt-leb 1 (length p) (omega arith))))
 
 sub-is-free : tie.Need-sub-is-free
@@ -36,7 +36,7 @@ both-requires c κs = search needs
 
 returns-2 : tie.Need-returns-2
 unfolding keepsTable allOf
-returns-2 c = let p = c .before .before .before .before .before .before .before .before .args .p .now in
+returns-2 c = let p = c .before .before .before .before .before .before .before .before .args .payload .now in
     rw (c .both .ensures, c .before .is-flag .ensures, ← to-end p 1, c .before .before .is-free .ensures)
 
 pub keeps-table-spec : {M : Type 1} → statement M

@@ -14,15 +14,19 @@ fits-at-requires : tie.Need-fits-at-requires
 fits-at-requires c κs = search needs
 
 kind-at-requires : tie.Need-kind-at-requires
-kind-at-requires c κs = leb-true _ _ (sym (c .before .fits-at .ensures) ∙ c .if1 .taken)
+kind-at-requires c κs = let a = c .before .before .before .before .before .before .args in
+    let h : nextAt (a .model .now) (a .walker .at) ≤ length (a .model .now) = leb-true _ _ (sym (c .before .fits-at .ensures) ∙ c .if1 .taken) in
+    omega arith
 
 add-start : tie.Need-add-start
 add-start c = let a = c .before .before .before .before .before .before .before .args in
-    let h : nextAt (a .model .now) (a .w .at) ≤ length (a .model .now) = leb-true _ _ (sym (c .before .before .fits-at .ensures) ∙ c .before .if1 .taken) in
+    let h : nextAt (a .model .now) (a .walker .at) ≤ length (a .model .now) = leb-true _ _ (sym (c .before .before .fits-at .ensures) ∙ c .before .if1 .taken) in
     omega arith
 
 next-at-requires : tie.Need-next-at-requires
-next-at-requires c κs = leb-true _ _ (sym (c .before .before .fits-at .ensures) ∙ c .before .if1 .taken)
+next-at-requires c κs = let a = c .before .before .before .before .before .before .before .args in
+    let h : nextAt (a .model .now) (a .walker .at) ≤ length (a .model .now) = leb-true _ _ (sym (c .before .before .fits-at .ensures) ∙ c .before .if1 .taken) in
+    omega arith
 
 sub-keeps-rules : tie.Need-sub-keeps-rules
 sub-keeps-rules c = search needs
@@ -32,7 +36,7 @@ part-keeps-rules-start c = search needs
 
 part-keeps-rules-end : tie.Need-part-keeps-rules-end
 part-keeps-rules-end c = let a = c .before .before .before .before .before .before .before .before .args in
-    let h : nextAt (a .model .now) (a .w .at) ≤ length (a .model .now) = leb-true _ _ (sym (c .before .before .before .fits-at .ensures) ∙ c .before .before .if1 .taken) in
+    let h : nextAt (a .model .now) (a .walker .at) ≤ length (a .model .now) = leb-true _ _ (sym (c .before .before .before .fits-at .ensures) ∙ c .before .before .if1 .taken) in
     omega (arith, c .next-at .ensures)
 
 keeps-rules-requires : tie.Need-keeps-rules-requires
@@ -46,7 +50,7 @@ both-requires c κs = search needs
 
 returns : tie.Need-returns
 returns c = let a = c .before .before .before .before .before .before .before .before .before .before .before .before .args in
-    rw (← c .before .before .before .before .before .before .before .fits-at .ensures, c .before .before .before .before .before .before .if1 .taken, c .both .ensures, c .before .may-follow .ensures, c .before .before .keeps-rules .ensures, part-payload (a .model .now) (a .w .at) _ (c .before .before .before .before .next-at .ensures), c .before .before .before .before .before .kind-at .ensures)
+    rw (← c .before .before .before .before .before .before .before .fits-at .ensures, c .before .before .before .before .before .before .if1 .taken, c .both .ensures, c .before .may-follow .ensures, c .before .before .keeps-rules .ensures, part-payload (a .model .now) (a .walker .at) _ (c .before .before .before .before .next-at .ensures), c .before .before .before .before .before .kind-at .ensures)
 
 returns-2 : tie.Need-returns-2
 returns-2 c = rw (← c .before .fits-at .ensures, c .if1 .left)

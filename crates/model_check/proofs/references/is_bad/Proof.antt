@@ -36,7 +36,7 @@ refers-outside-requires c κs = search needs
 
 returns-2 : tie.Need-returns-2
 returns-2 c = λ ts e. let a = c .before .before .before .before .before .before .before .before .before .args in
-    rw (eq-eqb _ _ (sym (c .before .before .before .before .before .before .kind-at .ensures) ∙ c .before .before .before .before .before .if1 .left), c .before .before .before .before .if2 .taken) (c .refers-outside .ensures ts e ∙ rw (part-payload (a .model .now) (a .j .at) _ (c .before .before .before .next-at .ensures), c .before .less-one .ensures) refl)
+    rw (eq-eqb _ _ (sym (c .before .before .before .before .before .before .kind-at .ensures) ∙ c .before .before .before .before .before .if1 .left), c .before .before .before .before .if2 .taken) (c .refers-outside .ensures ts e ∙ rw (part-payload (a .model .now) (a .judge .at) _ (c .before .before .before .next-at .ensures), c .before .less-one .ensures) refl)
 
 returns-3 : tie.Need-returns-3
 returns-3 c = λ ts e. rw (c .if2 .left, and-false)

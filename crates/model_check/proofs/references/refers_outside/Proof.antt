@@ -11,7 +11,7 @@ byte-at-requires : tie.Need-byte-at-requires
 byte-at-requires c κs = search needs
 
 returns : tie.Need-returns
-returns c = λ ts e. sym (no-target ts _ (c .before .before .before .before .args .p .now) (λ k. c .if1 .taken (c .before .byte-at .ensures ∙ k)))
+returns c = λ ts e. sym (no-target ts _ (c .before .before .before .before .args .payload .now) (λ k. c .if1 .taken (c .before .byte-at .ensures ∙ k)))
 
 byte-at-requires-2 : tie.Need-byte-at-requires-2
 byte-at-requires-2 c κs = search needs
@@ -35,7 +35,7 @@ is-foreign-requires : tie.Need-is-foreign-requires
 is-foreign-requires c κs = search needs
 
 returns-2 : tie.Need-returns-2
-returns-2 c = λ ts e. c .is-foreign .ensures ts e ∙ ap (λ (f : Found). isOutside ts (c .before .before .before .before .before .before .before .args .topic) f) (target (c .before .before .before .before .before .before .before .args .p .now) _ _ (sym (c .before .before .before .before .byte-at .ensures) ∙ c .before .before .before .if1 .left) (c .before .before .byte-at2 .ensures) (c .before .byte-at3 .ensures))
+returns-2 c = λ ts e. c .is-foreign .ensures ts e ∙ ap (λ (f : Found). isOutside ts (c .before .before .before .before .before .before .before .args .topic) f) (target (c .before .before .before .before .before .before .before .args .payload .now) _ _ (sym (c .before .before .before .before .byte-at .ensures) ∙ c .before .before .before .if1 .left) (c .before .before .byte-at2 .ensures) (c .before .byte-at3 .ensures))
 
 pub refers-outside-spec : {M : Type 1} → statement M
 refers-outside-spec =

@@ -42,7 +42,7 @@ loop-less c = omega arith
 
 loop-again : tie.Need-loop-again Inv-loop μ-loop
 loop-again c = let at = c .before .before .before .before in
-    let a = at .before .before .args .c in
+    let a = at .before .before .args .components in
     let none : Component = record { decimals = 0; least = pos 0; greatest = pos 0 } in
     let n = length-take-le (a .count) (a .items) (omega arith) in
     let g = getD-take (a .count) (a .items) (at .loop .i) none (omega arith) in
@@ -50,7 +50,7 @@ loop-again c = let at = c .before .before .before .before in
 
 returns : tie.Need-returns Inv-loop μ-loop
 returns c = let at = c .before in
-    let a = at .before .before .args .c in
+    let a = at .before .before .args .components in
     good-end _ (at .loop .i) (at .loop .all) _ (omega (arith, length-take-le (a .count) (a .items) (omega arith))) (at .loop .inv .1)
 
 pub are-components-spec : {M : Type 1} → statement M

@@ -28,7 +28,7 @@ both-requires-3 c κs = search needs
 
 returns : tie.Need-returns
 unfolding goodComponent allOf
-returns c = let a = c .before .before .before .before .before .before .before .before .before .before .before .args .c in
+returns c = let a = c .before .before .before .before .before .before .before .before .before .before .before .args .component in
     let t = c .before .before .before .struct-told4 .given in
     let l = toZ-ofZ w64 (a .least) (record { sfits = t .1 .0 .1 }) in
     let g = toZ-ofZ w64 (a .greatest) (record { sfits = t .1 .1 .0 .1 }) in

@@ -12,11 +12,11 @@ shared-slice-read-result c = search needs
 
 returns : tie.Need-returns
 unfolding isFlag
-returns c = rw (lt-leb 1 (length (c .before .args .p .now)) (omega arith))
+returns c = rw (lt-leb 1 (length (c .before .args .payload .now)) (omega arith))
 
 returns-2 : tie.Need-returns-2
 unfolding isFlag
-returns-2 c = rw (le-leb 1 (length (c .before .before .args .p .now)) (omega arith))
+returns-2 c = rw (le-leb 1 (length (c .before .before .args .payload .now)) (omega arith))
 
 pub is-flag-spec : {M : Type 1} → statement M
 is-flag-spec = tie.close (tie.spec shared-slice-read-result returns returns-2)

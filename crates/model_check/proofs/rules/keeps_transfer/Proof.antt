@@ -8,7 +8,7 @@ use Rattle.model_check.proofs.rules.keeps_transfer.Statement.{statement
 use Rattle.model_check.proofs.rules.keeps_transfer.Tie as tie
 
 returns : tie.Need-returns
-returns c = sym (short-transfer (c .before .before .args .p .now) (c .if1 .taken))
+returns c = sym (short-transfer (c .before .before .args .payload .now) (c .if1 .taken))
 
 sub-is-name : tie.Need-sub-is-name
 sub-is-name c = search needs
@@ -51,7 +51,7 @@ are-special-requires c κs = search needs
 
 returns-2 : tie.Need-returns-2
 unfolding keepsTransfer
-returns-2 c = let p = c .before .before .before .before .before .before .before .before .before .before .before .before .before .args .p .now in
+returns-2 c = let p = c .before .before .before .before .before .before .before .before .before .before .before .before .before .args .payload .now in
     rw (c .are-special .ensures, c .before .before .before .before .both .ensures, c .before .before .before .before .before .are-different .ensures, c .before .before .before .before .before .before .before .before .before .is-name .ensures, to-end p 3) (transfer-tests _ _ _ _ _ _ _)
 
 pub keeps-transfer-spec : {M : Type 1} → statement M

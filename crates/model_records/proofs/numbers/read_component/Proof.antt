@@ -14,7 +14,7 @@ i64-at-requires-2 : tie.Need-i64-at-requires-2
 i64-at-requires-2 c κs = search needs
 
 returns : tie.Need-returns
-returns c = component-read (c .before .before .before .before .args .p .now) (c .before .i64-at .result) (c .i64-at2 .result) (record { sfits = c .before .i64-at .ok }) (record { sfits = c .i64-at2 .ok }) (c .before .i64-at .ensures) (c .i64-at2 .ensures)
+returns c = component-read (c .before .before .before .before .args .parameters .now) (c .before .i64-at .result) (c .i64-at2 .result) (record { sfits = c .before .i64-at .ok }) (record { sfits = c .i64-at2 .ok }) (c .before .i64-at .ensures) (c .i64-at2 .ensures)
 
 pub read-component-spec : {M : Type 1} → statement M
 read-component-spec =

@@ -37,7 +37,7 @@ part-read-component-end : tie.Need-part-read-component-end Inv-loop μ-loop
 part-read-component-end c = search needs
 
 read-component-requires : tie.Need-read-component-requires Inv-loop μ-loop
-read-component-requires c κs = let p = c .before .before .before .before .args .p .now in
+read-component-requires c κs = let p = c .before .before .before .before .args .parameters .now in
     rw (to-end p (17 * c .before .before .loop .i), length-drop) (omega arith)
 
 mul-items : tie.Need-mul-items Inv-loop μ-loop
@@ -55,7 +55,7 @@ loop-less c = omega arith
 loop-again : tie.Need-loop-again Inv-loop μ-loop
 unfolding itemsOf
 loop-again c = let l = c .before .before .before .loop in
-    let p = c .before .before .before .before .before .args .p .now in
+    let p = c .before .before .before .before .before .args .parameters .now in
     let r = c .read-component .ensures ∙ ap (λ (s : List ℕ). declaredOf (meaning.componentOf s)) (to-end p (17 * l .i)) in
     (omega arith, rw add-one (cc))
 
@@ -63,7 +63,7 @@ returns : tie.Need-returns Inv-loop μ-loop
 returns c = let l = c .before .loop in
     let a = c .before .before .before .args in
     let e : l .i ≡ a .n = omega arith in
-    record { count = refl; room = rw (l .inv .1) (items-length (a .p .now) (l .i)); meant = rw (l .inv .1, e) (read (a .p .now) (a .n) (omega arith)) }
+    record { count = refl; room = rw (l .inv .1) (items-length (a .parameters .now) (l .i)); meant = rw (l .inv .1, e) (read (a .parameters .now) (a .n) (omega arith)) }
 
 pub read-components-spec : {M : Type 1} → statement M
 read-components-spec =

@@ -11,7 +11,7 @@ table-at-requires c κs = let q = c .before .before .pre in (q .0 .noted .room, 
 next-at-requires : tie.Need-next-at-requires
 next-at-requires c κs =
     let a = c .before .before .before in
-    let r = a .pre .0 .noted .table (a .args .t) (a .pre .1) in
+    let r = a .pre .0 .noted .table (a .args .table) (a .pre .1) in
     rw (c .table-at .ensures) (omega (arith, r .fits, r .flag))
 
 returns : tie.Need-returns

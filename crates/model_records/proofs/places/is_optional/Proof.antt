@@ -13,13 +13,13 @@ table-at-requires c κs = let q = c .before .before .pre in (q .0 .noted .room, 
 optional-at-requires : tie.Need-optional-at-requires
 optional-at-requires c κs =
     let a = c .before .before .before in
-    let r = a .pre .0 .noted .table (a .args .t) (a .pre .1) in
+    let r = a .pre .0 .noted .table (a .args .table) (a .pre .1) in
     rw (c .table-at .ensures) (r .flag, r .fits)
 
 returns : tie.Need-returns
 returns c =
     let a = c .before .before .before .before in
-    let r = a .pre .0 .noted .table (a .args .t) (a .pre .1) in
+    let r = a .pre .0 .noted .table (a .args .table) (a .pre .1) in
     c .optional-at .ensures ∙ ap (λ (x : ℕ). flagOf (payloadAt (a .args .model .now) x)) (c .before .table-at .ensures) ∙ r .optional
 
 pub is-optional-spec : {M : Type 1} → statement M

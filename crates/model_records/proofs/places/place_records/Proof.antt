@@ -1,12 +1,12 @@
 -- `model_records::place_records` meets its contract. Assumes nothing.
 use Prim.Native.Nat.{_-_}
 use native.Mathlib.Omega.{arith}
-use mathlib.Core.Path.{_≡_, refl, sym, _∙_}
+use mathlib.Core.Path.{sym, _∙_}
 use lib.ListN.{length}
 use Rattle.meaning.proofs.Model.GoodModels.{checked-good}
-use Rattle.model_records.specs.Records.{modelAt, nextAt}
+use Rattle.model_records.specs.Records.{modelAt}
 use Rattle.model_records.specs.AtRecord.{AtRecord}
-use Rattle.model_records.specs.Places.{Noted}
+use Rattle.model_records.specs.Places.{RecordsNoted}
 use Rattle.model_records.proofs.AtRecord.{here, end-here, beginning, start}
 use Rattle.model_records.proofs.Noting.{topic-room, table-room, noted-on}
 use Rattle.model_records.proofs.places.place_records.Statement.{statement}
@@ -14,7 +14,7 @@ use Rattle.model_records.proofs.places.place_records.Tie as tie
 
 abbrev Inv-loop : tie.InvT-loop
 Inv-loop model places₀ here₀ places here =
-    AtRecord (modelAt model) model (here .at) (here .topics) (here .tables) × Noted (modelAt model) model places (here .topics) (here .tables)
+    AtRecord (modelAt model) model (here .at) (here .topics) (here .tables) × RecordsNoted (modelAt model) model places (here .topics) (here .tables)
 
 abbrev μ-loop : tie.MeasureT-loop
 μ-loop model places₀ here₀ places here = length model - here .at

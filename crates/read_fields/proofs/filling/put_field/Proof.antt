@@ -5,7 +5,7 @@ use mathlib.Core.Bool.{true, false}
 use mathlib.Core.List.{[]}
 use lib.ListN.{drop}
 use Rattle.meaning.specs.Field.{fieldsOf}
-use Rattle.read_fields.specs.Taken.{FieldTaken, TwiceTaken}
+use Rattle.read_fields.specs.FieldForm.{FieldTaken, TwiceTaken}
 use Rattle.read_fields.proofs.Stores.{part-size}
 use Rattle.read_fields.proofs.Due.{Found, found, taken, missing, twice-needed, twice-covers, undefined-needed, undefined-filled, defined-forbidden, defined-filled}
 use borrow.Author.Needs.{needs}
@@ -14,26 +14,26 @@ use Rattle.read_fields.proofs.filling.put_field.Tie as tie
 
 -- ## The field by its cases, and its room
 
-none : (c : tie.After-enum-told) → let a = c .before .before .before .before .before .args in (n : ℕ) → fieldsOf n (drop (a .s .at) (a .rest .now)) ≡ []
-none c = let a = c .before .before .before .before .before .args in taken (a .undefined) (a .rest .now) (a .s .at) (c .enum-told .given .1) (c .before .before .take-field .ensures)
+none : (c : tie.After-enum-told) → let a = c .before .before .before .before .before .args in (n : ℕ) → fieldsOf n (drop (a .cursor .at) (a .rest .now)) ≡ []
+none c = let a = c .before .before .before .before .before .args in taken (a .undefined) (a .rest .now) (a .cursor .at) (c .enum-told .given .1) (c .before .before .take-field .ensures)
 
-defined : (c : tie.After-from) → let a = c .before .before .before .before .before .args in FieldTaken (a .undefined) (drop (a .s .at) (a .rest .now)) (c .from .given .0 .0) (c .from .given .0 .1 .0) false
-defined c = let a = c .before .before .before .before .before .args in taken (a .undefined) (a .rest .now) (a .s .at) (c .from .given .1) (c .before .before .take-field .ensures)
+defined : (c : tie.After-from) → let a = c .before .before .before .before .before .args in FieldTaken (a .undefined) (drop (a .cursor .at) (a .rest .now)) (c .from .given .0 .0) (c .from .given .0 .1 .0) false
+defined c = let a = c .before .before .before .before .before .args in taken (a .undefined) (a .rest .now) (a .cursor .at) (c .from .given .1) (c .before .before .take-field .ensures)
 
-defined-room : (c : tie.After-from) → let a = c .before .before .before .before .before .args in Found (a .start) (a .rest .now) (a .s) (c .from .given .0 .0) (c .from .given .0 .1 .0)
-defined-room c = let s = c .before .before .before .before .before in found (s .args .start) (s .args .rest .now) (s .args .s) (c .from .given .0 .0) (c .from .given .0 .1 .0) (s .pre) (defined c .first)
+defined-room : (c : tie.After-from) → let a = c .before .before .before .before .before .args in Found (a .start) (a .rest .now) (a .cursor) (c .from .given .0 .0) (c .from .given .0 .1 .0)
+defined-room c = let s = c .before .before .before .before .before in found (s .args .start) (s .args .rest .now) (s .args .cursor) (c .from .given .0 .0) (c .from .given .0 .1 .0) (s .pre) (defined c .first)
 
-undefined : (c : tie.After-from2) → let a = c .before .before .before .before .before .args in FieldTaken (a .undefined) (drop (a .s .at) (a .rest .now)) (c .from2 .given .0 .0) (c .from2 .given .0 .1 .0) true
-undefined c = let a = c .before .before .before .before .before .args in taken (a .undefined) (a .rest .now) (a .s .at) (c .from2 .given .1) (c .before .before .take-field .ensures)
+undefined : (c : tie.After-from2) → let a = c .before .before .before .before .before .args in FieldTaken (a .undefined) (drop (a .cursor .at) (a .rest .now)) (c .from2 .given .0 .0) (c .from2 .given .0 .1 .0) true
+undefined c = let a = c .before .before .before .before .before .args in taken (a .undefined) (a .rest .now) (a .cursor .at) (c .from2 .given .1) (c .before .before .take-field .ensures)
 
-undefined-room : (c : tie.After-from2) → let a = c .before .before .before .before .before .args in Found (a .start) (a .rest .now) (a .s) (c .from2 .given .0 .0) (c .from2 .given .0 .1 .0)
-undefined-room c = let s = c .before .before .before .before .before in found (s .args .start) (s .args .rest .now) (s .args .s) (c .from2 .given .0 .0) (c .from2 .given .0 .1 .0) (s .pre) (undefined c .first)
+undefined-room : (c : tie.After-from2) → let a = c .before .before .before .before .before .args in Found (a .start) (a .rest .now) (a .cursor) (c .from2 .given .0 .0) (c .from2 .given .0 .1 .0)
+undefined-room c = let s = c .before .before .before .before .before in found (s .args .start) (s .args .rest .now) (s .args .cursor) (c .from2 .given .0 .0) (c .from2 .given .0 .1 .0) (s .pre) (undefined c .first)
 
-twice : (c : tie.After-from3) → let a = c .before .before .before .before .before .args in TwiceTaken (a .undefined) (drop (a .s .at) (a .rest .now)) (c .from3 .given .0 .0) (c .from3 .given .0 .1 .0)
-twice c = let a = c .before .before .before .before .before .args in taken (a .undefined) (a .rest .now) (a .s .at) (c .from3 .given .1) (c .before .before .take-field .ensures)
+twice : (c : tie.After-from3) → let a = c .before .before .before .before .before .args in TwiceTaken (a .undefined) (drop (a .cursor .at) (a .rest .now)) (c .from3 .given .0 .0) (c .from3 .given .0 .1 .0)
+twice c = let a = c .before .before .before .before .before .args in taken (a .undefined) (a .rest .now) (a .cursor .at) (c .from3 .given .1) (c .before .before .take-field .ensures)
 
-twice-room : (c : tie.After-from3) → let a = c .before .before .before .before .before .args in Found (a .start) (a .rest .now) (a .s) (c .from3 .given .0 .0) (c .from3 .given .0 .1 .0)
-twice-room c = let s = c .before .before .before .before .before in found (s .args .start) (s .args .rest .now) (s .args .s) (c .from3 .given .0 .0) (c .from3 .given .0 .1 .0) (s .pre) (twice c .first)
+twice-room : (c : tie.After-from3) → let a = c .before .before .before .before .before .args in Found (a .start) (a .rest .now) (a .cursor) (c .from3 .given .0 .0) (c .from3 .given .0 .1 .0)
+twice-room c = let s = c .before .before .before .before .before in found (s .args .start) (s .args .rest .now) (s .args .cursor) (c .from3 .given .0 .0) (c .from3 .given .0 .1 .0) (s .pre) (twice c .first)
 
 sub-take-field : tie.Need-sub-take-field
 sub-take-field c = search needs
@@ -54,7 +54,7 @@ enum-known-from : tie.Need-enum-known-from
 enum-known-from c = search needs
 
 returns : tie.Need-returns
-returns c = defined-forbidden (c .before .before .before .before .before .before .before .args .undefined) (c .before .before .before .before .before .before .before .args .start) (c .before .before .before .before .before .before .before .args .rest .now) (c .before .before .before .before .before .before .before .args .asked) (c .before .before .before .before .before .before .before .args .s) (c .before .before .before .before .before .before .before .pre) (c .before .before .from .given .0 .0) (c .before .before .from .given .0 .1 .0) false (defined (c .before .before)) refl (c .if1 .taken)
+returns c = defined-forbidden (c .before .before .before .before .before .before .before .args .undefined) (c .before .before .before .before .before .before .before .args .start) (c .before .before .before .before .before .before .before .args .rest .now) (c .before .before .before .before .before .before .before .args .asked) (c .before .before .before .before .before .before .before .args .cursor) (c .before .before .before .before .before .before .before .pre) (c .before .before .from .given .0 .0) (c .before .before .from .given .0 .1 .0) false (defined (c .before .before)) refl (c .if1 .taken)
 
 add-a : tie.Need-add-a
 add-a c = record { fits = defined-room (c .before .before) .begins }
@@ -84,7 +84,7 @@ enum-known-from-2 : tie.Need-enum-known-from-2
 enum-known-from-2 c = search needs
 
 returns-2 : tie.Need-returns-2
-returns-2 c = undefined-needed (c .before .before .before .before .before .before .before .args .undefined) (c .before .before .before .before .before .before .before .args .start) (c .before .before .before .before .before .before .before .args .rest .now) (c .before .before .before .before .before .before .before .args .asked) (c .before .before .before .before .before .before .before .args .s) (c .before .before .before .before .before .before .before .pre) (c .before .before .from2 .given .0 .0) (c .before .before .from2 .given .0 .1 .0) true (undefined (c .before .before)) refl (c .if2 .taken)
+returns-2 c = undefined-needed (c .before .before .before .before .before .before .before .args .undefined) (c .before .before .before .before .before .before .before .args .start) (c .before .before .before .before .before .before .before .args .rest .now) (c .before .before .before .before .before .before .before .args .asked) (c .before .before .before .before .before .before .before .args .cursor) (c .before .before .before .before .before .before .before .pre) (c .before .before .from2 .given .0 .0) (c .before .before .from2 .given .0 .1 .0) true (undefined (c .before .before)) refl (c .if2 .taken)
 
 add-behind : tie.Need-add-behind
 add-behind c = record { fits = undefined-room (c .before .before .before) .begins }
@@ -102,7 +102,7 @@ enum-known-from-3 : tie.Need-enum-known-from-3
 enum-known-from-3 c = search needs
 
 returns-3 : tie.Need-returns-3
-returns-3 c = twice-needed (c .before .before .before .before .before .before .before .args .undefined) (c .before .before .before .before .before .before .before .args .start) (c .before .before .before .before .before .before .before .args .rest .now) (c .before .before .before .before .before .before .before .args .asked) (c .before .before .before .before .before .before .before .args .s) (c .before .before .before .before .before .before .before .pre) (c .before .before .from3 .given .0 .0) (c .before .before .from3 .given .0 .1 .0) (c .if3 .taken) (twice (c .before .before))
+returns-3 c = twice-needed (c .before .before .before .before .before .before .before .args .undefined) (c .before .before .before .before .before .before .before .args .start) (c .before .before .before .before .before .before .before .args .rest .now) (c .before .before .before .before .before .before .before .args .asked) (c .before .before .before .before .before .before .before .args .cursor) (c .before .before .before .before .before .before .before .pre) (c .before .before .from3 .given .0 .0) (c .before .before .from3 .given .0 .1 .0) (c .if3 .taken) (twice (c .before .before))
 
 add-behind-3 : tie.Need-add-behind-3
 add-behind-3 c = record { fits = twice-room (c .before .before) .begins }
@@ -114,7 +114,7 @@ behind-requires-3 : tie.Need-behind-requires-3
 behind-requires-3 c κs = search needs
 
 returns-4 : tie.Need-returns-4
-returns-4 c = missing (c .before .before .before .before .before .args .undefined) (c .before .before .before .before .before .args .start) (c .before .before .before .before .before .args .rest .now) (c .before .before .before .before .before .args .asked) (c .before .before .before .before .before .args .s) (c .before .before .before .before .before .pre) (none c)
+returns-4 c = missing (c .before .before .before .before .before .args .undefined) (c .before .before .before .before .before .args .start) (c .before .before .before .before .before .args .rest .now) (c .before .before .before .before .before .args .asked) (c .before .before .before .before .before .args .cursor) (c .before .before .before .before .before .pre) (none c)
 
 same-length : tie.Need-same-length
 same-length c = search needs
@@ -123,8 +123,8 @@ returns-5 : tie.Need-returns-5
 returns-5 c =
     let r = c .before .put-defined .result in
     let x = c .before .put-defined .last .1 .1 .1 .0 in
-    let p = rw (part-size (c .before .before .before .before .before .before .before .before .before .before .before .before .args .s .at + c .before .before .before .before .before .before .before .from .given .0 .0) (c .before .before .before .before .before .before .before .from .given .0 .1 .0), c .before .before .behind .ensures) at (c .before .put-defined .ensures) in
-    defined-filled (c .before .before .before .before .before .before .before .before .before .before .before .before .args .undefined) (c .before .before .before .before .before .before .before .before .before .before .before .before .args .start) (c .before .before .before .before .before .before .before .before .before .before .before .before .args .rest .now) (c .before .before .before .before .before .before .before .before .before .before .before .before .args .asked) (c .before .before .before .before .before .before .before .before .before .before .before .before .args .s) (c .before .before .before .before .before .before .before .before .before .before .before .before .pre) (c .before .before .before .before .before .before .before .from .given .0 .0) (c .before .before .before .before .before .before .before .from .given .0 .1 .0) false (defined (c .before .before .before .before .before .before .before)) refl (c .before .before .before .before .before .if1 .left) (c .before .before .before .before .before .before .before .before .before .before .before .before .args .cells .now) x r p
+    let p = rw (part-size (c .before .before .before .before .before .before .before .before .before .before .before .before .args .cursor .at + c .before .before .before .before .before .before .before .from .given .0 .0) (c .before .before .before .before .before .before .before .from .given .0 .1 .0), c .before .before .behind .ensures) at (c .before .put-defined .ensures) in
+    defined-filled (c .before .before .before .before .before .before .before .before .before .before .before .before .args .undefined) (c .before .before .before .before .before .before .before .before .before .before .before .before .args .start) (c .before .before .before .before .before .before .before .before .before .before .before .before .args .rest .now) (c .before .before .before .before .before .before .before .before .before .before .before .before .args .asked) (c .before .before .before .before .before .before .before .before .before .before .before .before .args .cursor) (c .before .before .before .before .before .before .before .before .before .before .before .before .pre) (c .before .before .before .before .before .before .before .from .given .0 .0) (c .before .before .before .before .before .before .before .from .given .0 .1 .0) false (defined (c .before .before .before .before .before .before .before)) refl (c .before .before .before .before .before .if1 .left) (c .before .before .before .before .before .before .before .before .before .before .before .before .args .cells .now) x r p
 
 same-length-2 : tie.Need-same-length-2
 same-length-2 c = search needs
@@ -134,11 +134,11 @@ returns-6 c =
     let x = c .before .put-undefined .last .0 in
     let p = rw (c .before .before .behind2 .ensures) at (c .before .put-undefined .ensures .1) in
     let q = rw (c .before .before .behind2 .ensures) at (c .before .put-undefined .ensures .0) in
-    rw q (undefined-filled (c .before .before .before .before .before .before .before .before .before .before .before .args .undefined) (c .before .before .before .before .before .before .before .before .before .before .before .args .start) (c .before .before .before .before .before .before .before .before .before .before .before .args .rest .now) (c .before .before .before .before .before .before .before .before .before .before .before .args .asked) (c .before .before .before .before .before .before .before .before .before .before .before .args .s) (c .before .before .before .before .before .before .before .before .before .before .before .pre) (c .before .before .before .before .before .before .from2 .given .0 .0) (c .before .before .before .before .before .before .from2 .given .0 .1 .0) true (undefined (c .before .before .before .before .before .before)) refl (c .before .before .before .before .if2 .left) (c .before .before .before .before .before .before .before .before .before .before .before .args .cells .now) x p)
+    rw q (undefined-filled (c .before .before .before .before .before .before .before .before .before .before .before .args .undefined) (c .before .before .before .before .before .before .before .before .before .before .before .args .start) (c .before .before .before .before .before .before .before .before .before .before .before .args .rest .now) (c .before .before .before .before .before .before .before .before .before .before .before .args .asked) (c .before .before .before .before .before .before .before .before .before .before .before .args .cursor) (c .before .before .before .before .before .before .before .before .before .before .before .pre) (c .before .before .before .before .before .before .from2 .given .0 .0) (c .before .before .before .before .before .before .from2 .given .0 .1 .0) true (undefined (c .before .before .before .before .before .before)) refl (c .before .before .before .before .if2 .left) (c .before .before .before .before .before .before .before .before .before .before .before .args .cells .now) x p)
 
 returns-7 : tie.Need-returns-7
 returns-7 c =
-    rw (c .behind3 .ensures) (twice-covers (c .before .before .before .before .before .before .before .before .args .undefined) (c .before .before .before .before .before .before .before .before .args .start) (c .before .before .before .before .before .before .before .before .args .rest .now) (c .before .before .before .before .before .before .before .before .args .asked) (c .before .before .before .before .before .before .before .before .args .s) (c .before .before .before .before .before .before .before .before .pre) (c .before .before .before .from3 .given .0 .0) (c .before .before .before .from3 .given .0 .1 .0) (c .before .before .before .before .before .before .before .before .args .cells .now) (c .before .if3 .left) (twice (c .before .before .before)))
+    rw (c .behind3 .ensures) (twice-covers (c .before .before .before .before .before .before .before .before .args .undefined) (c .before .before .before .before .before .before .before .before .args .start) (c .before .before .before .before .before .before .before .before .args .rest .now) (c .before .before .before .before .before .before .before .before .args .asked) (c .before .before .before .before .before .before .before .before .args .cursor) (c .before .before .before .before .before .before .before .before .pre) (c .before .before .before .from3 .given .0 .0) (c .before .before .before .from3 .given .0 .1 .0) (c .before .before .before .before .before .before .before .before .args .cells .now) (c .before .if3 .left) (twice (c .before .before .before)))
 
 pub put-field-spec : {M : Type 1} → statement M
 put-field-spec =

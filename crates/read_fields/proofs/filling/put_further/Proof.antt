@@ -4,15 +4,15 @@ use borrow.Author.Needs.{needs}
 use native.Mathlib.Omega.{arith}
 use mathlib.Core.Path.{_≡_, _∙_, subst}
 use lib.ListN.{length}
-use Rattle.read_fields.specs.Filled.{Steps, Fills, due}
-use Rattle.read_fields.proofs.Steps.{none, wider}
-use Rattle.read_fields.proofs.Steps as steps
+use Rattle.read_fields.specs.RowProgress.{RowFilled, Fills, due}
+use Rattle.read_fields.proofs.RowFilled.{none, wider}
+use Rattle.read_fields.proofs.RowFilled as steps
 use Rattle.read_fields.proofs.Coordinates.{fromComponent, component-on, component-rest, component-no, components-end}
 use Rattle.read_fields.proofs.filling.put_further.Statement.{statement}
 use Rattle.read_fields.proofs.filling.put_further.Tie as tie
 
 abbrev Inv-loop : tie.InvT-loop
-Inv-loop rest start undefined cells₀ count items t₀ i₀ cells t i = ((1 ≤ i) × (i ≤ 3)) × (length items ≡ 3) × Steps rest (2 * (i - 1)) (fromComponent undefined start rest count items 1 t₀) (fromComponent undefined start rest count items i t) t₀ t cells₀ cells
+Inv-loop rest start undefined cells₀ count items t₀ i₀ cells t i = ((1 ≤ i) × (i ≤ 3)) × (length items ≡ 3) × RowFilled rest (2 * (i - 1)) (fromComponent undefined start rest count items 1 t₀) (fromComponent undefined start rest count items i t) t₀ t cells₀ cells
 
 abbrev μ-loop : tie.MeasureT-loop
 μ-loop rest start undefined cells₀ count items t₀ i₀ cells t i = count - i

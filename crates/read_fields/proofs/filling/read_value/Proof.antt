@@ -2,7 +2,7 @@
 use borrow.Author.Tests.{eq-eqb, ne-eqb}
 use Rattle.meaning.specs.Bytes.{choose}
 use Rattle.meaning.specs.Value.{valueOf}
-use Rattle.read_fields.specs.Filled.{typeAsked}
+use Rattle.read_fields.specs.RowProgress.{typeAsked}
 use borrow.Author.Needs.{needs}
 use Rattle.read_fields.proofs.filling.read_value.Statement.{statement}
 use Rattle.read_fields.proofs.filling.read_value.Tie as tie

@@ -3,7 +3,7 @@ use Prim.Native.Nat.{_≤_, _-_}
 use native.Mathlib.Omega.{arith}
 use mathlib.Core.Path.{_≡_, refl}
 use lib.Seq.{sets}
-use Rattle.read_fields.specs.Filled.{zeros}
+use Rattle.read_fields.specs.RowProgress.{zeros}
 use Rattle.read_fields.proofs.Stores.{zeros-turn, same-sets}
 use Rattle.read_fields.proofs.storing.put_zeros.Statement.{statement}
 use Rattle.read_fields.proofs.storing.put_zeros.Tie as tie

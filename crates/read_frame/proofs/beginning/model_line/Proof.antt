@@ -5,8 +5,8 @@ use Rattle.read_frame.specs.Moves.{MovedHolds}
 use Rattle.model_records.proofs.Types.{payload-part}
 use Rattle.model_records.proofs.AtRecord.{beginning}
 use Rattle.model_records.specs.Records.{payloadAt, nextAt, modelAt}
-use Rattle.read_state.specs.declared.Moved.the-variants.{No}
-use Rattle.read_state.specs.declared.Moved.{Moved}
+use Rattle.read_state.specs.declared.NextDue.the-variants.{No}
+use Rattle.read_state.specs.declared.NextDue.{NextDue}
 use Rattle.base.proofs.Fill.{to-end}
 use lib.ListN.{take, drop}
 use Prim.Native.Nat.{ℕ, _+_, _-_}
@@ -22,7 +22,7 @@ head-of-requires c κs = search needs
 returns : tie.Need-returns
 returns c = let a = c .before .before .before .before .before .args in
     let h = c .before .before .head-of in
-    ((λ rooms text s x. model-other _ rooms text (a .model .now) (a .l .now) (h .result) (h .ensures) (No 7 1) x s (c .if1 .taken)), tt)
+    ((λ rooms text s x. model-other _ rooms text (a .model .now) (a .line .now) (h .result) (h .ensures) (No 7 1) x s (c .if1 .taken)), tt)
 
 next-at-requires : tie.Need-next-at-requires
 next-at-requires c κs = let g = beginning (modelAt (c .before .before .before .before .before .args .model .now)) (c .before .before .before .before .before .args .model .now) (c .before .before .before .before .before .pre) in
@@ -66,9 +66,9 @@ returns-2 c = let g = beginning (modelAt (c .before .before .before .before .bef
     let q = c .before .before .before .before .next-at .ensures in
     let p = c .before .before .before .next-at2 .ensures in
     let n = ap (λ (x : ℕ). take (x - (c .before .before .before .before .next-at .result + 4)) (drop (c .before .before .before .before .next-at .result + 4) b)) p ∙ payload-part b (c .before .before .before .before .next-at .result) 0 _ (omega arith) ∙ ap (payloadAt b) q ∙ g .name in
-    let k = rw (to-end (a .l .now) (h .result .behind), n) at (c .named-line .ensures) in (
-      (λ rooms text s x. model-named _ rooms text _ (a .l .now) (h .result) (h .ensures) _ x s (c .before .before .before .before .before .if1 .left) k),
-      subst (λ (x : Moved). MovedHolds (modelAt b) b x) (sym (k 0)) (named-holds _ nothing-read _ _ _ _ (λ rows n used points. omega arith)),
+    let k = rw (to-end (a .line .now) (h .result .behind), n) at (c .named-line .ensures) in (
+      (λ rooms text s x. model-named _ rooms text _ (a .line .now) (h .result) (h .ensures) _ x s (c .before .before .before .before .before .if1 .left) k),
+      subst (λ (x : NextDue). MovedHolds (modelAt b) b x) (sym (k 0)) (named-holds _ nothing-read _ _ _ _ (λ rows n used points. omega arith)),
     )
 
 pub model-line-spec : {M : Type 1} → statement M

@@ -5,8 +5,8 @@ use Rattle.read_frame.specs.Moves.{MovedHolds}
 use Rattle.model_records.proofs.Types.{payload-part}
 use Rattle.model_records.proofs.AtRecord.{beginning}
 use Rattle.model_records.specs.Records.{modelAt}
-use Rattle.read_state.specs.declared.Moved.the-variants.{No}
-use Rattle.read_state.specs.declared.Moved.{Moved}
+use Rattle.read_state.specs.declared.NextDue.the-variants.{No}
+use Rattle.read_state.specs.declared.NextDue.{NextDue}
 use Rattle.base.proofs.Fill.{to-end}
 use lib.ListN.{take, drop}
 use Prim.Native.Nat.{ℕ, _-_}
@@ -52,21 +52,21 @@ returns c = let g = beginning (modelAt (c .before .before .before .before .befor
     let a = c .before .before .before .before .before .before .before .before .args in
     let h = c .before .before .before .before .before .head-of in
     let n = ap (λ (x : ℕ). take (x - 7) (drop 7 (a .model .now))) (c .before .before .before .before .next-at .ensures) ∙ payload-part (a .model .now) 0 3 7 refl ∙ g .transfer in
-    let k = rw (to-end (a .l .now) (h .result .behind), n) at (c .named-line .ensures) in (
-      (λ rooms text s x. transfer-named _ rooms text _ (a .l .now) (h .result) (h .ensures) _ x s (c .before .before .before .match .keys1) k),
-      subst (λ (x : Moved). MovedHolds (modelAt (a .model .now)) (a .model .now) x) (sym (k 0)) (named-holds _ nothing-read _ _ _ _ (λ rows n used points. tt)),
+    let k = rw (to-end (a .line .now) (h .result .behind), n) at (c .named-line .ensures) in (
+      (λ rooms text s x. transfer-named _ rooms text _ (a .line .now) (h .result) (h .ensures) _ x s (c .before .before .before .match .keys1) k),
+      subst (λ (x : NextDue). MovedHolds (modelAt (a .model .now)) (a .model .now) x) (sym (k 0)) (named-holds _ nothing-read _ _ _ _ (λ rows n used points. tt)),
     )
 
 returns-2 : tie.Need-returns-2
 returns-2 c = let a = c .before .before .before .before .before .args in
     let h = c .before .before .head-of in
-    ((λ rooms text s x. transfer-motr _ rooms text (a .model .now) (a .l .now) (h .result) (h .ensures) (No 8 1) x s (c .match .keys2)), tt)
+    ((λ rooms text s x. transfer-motr _ rooms text (a .model .now) (a .line .now) (h .result) (h .ensures) (No 8 1) x s (c .match .keys2)), tt)
 
 returns-3 : tie.Need-returns-3
 returns-3 c = let a = c .before .before .before .before .before .args in
     let h = c .before .before .head-of in
     let r = c .match .rest in
-    ((λ rooms text s x. transfer-other _ rooms text (a .model .now) (a .l .now) (h .result) (h .ensures) (No 7 1) x s (r .0 .1) (r .1)), tt)
+    ((λ rooms text s x. transfer-other _ rooms text (a .model .now) (a .line .now) (h .result) (h .ensures) (No 7 1) x s (r .0 .1) (r .1)), tt)
 
 pub transfer-line-spec : {M : Type 1} → statement M
 transfer-line-spec =

@@ -15,7 +15,7 @@ enum-known-next : tie.Need-enum-known-next
 enum-known-next c = search needs
 
 add-end : tie.Need-add-end
-add-end c = let f = subst (NextField (c .before .before .before .before .before .args .l .now)) (c .before .next .given .1) (c .before .before .before .next-field .ensures) in
+add-end c = let f = subst (NextField (c .before .before .before .before .before .args .line .now)) (c .before .next .given .1) (c .before .before .before .next-field .ensures) in
     omega (arith, f .within)
 
 sub-read-code : tie.Need-sub-read-code
@@ -25,7 +25,7 @@ part-read-code-start : tie.Need-part-read-code-start
 part-read-code-start c = search needs
 
 part-read-code-end : tie.Need-part-read-code-end
-part-read-code-end c = let f = subst (NextField (c .before .before .before .before .before .args .l .now)) (c .before .next .given .1) (c .before .before .before .next-field .ensures) in
+part-read-code-end c = let f = subst (NextField (c .before .before .before .before .before .args .line .now)) (c .before .next .given .1) (c .before .before .before .next-field .ensures) in
     f .within
 
 read-code-requires : tie.Need-read-code-requires
@@ -35,12 +35,12 @@ enum-told : tie.Need-enum-told
 enum-told c = search needs
 
 returns : tie.Need-returns
-returns c = let f = subst (NextField (c .before .before .before .before .before .before .before .args .l .now)) (c .before .before .before .next .given .1) (c .before .before .before .before .before .next-field .ensures) in
+returns c = let f = subst (NextField (c .before .before .before .before .before .before .before .args .line .now)) (c .before .before .before .next .given .1) (c .before .before .before .before .before .next-field .ensures) in
     let e : (c .before .before .before .next .given .0 .0 + c .before .before .before .next .given .0 .1 .0) - c .before .before .before .next .given .0 .0 ≡ c .before .before .before .next .given .0 .1 .0 = omega arith in
     head-field _ _ _ f _ (rw e at (c .read-code .ensures)) refl
 
 returns-2 : tie.Need-returns-2
-returns-2 c = let f = subst (NextField (c .before .before .before .before .args .l .now)) (c .enum-told .given .1) (c .before .before .next-field .ensures) in
+returns-2 c = let f = subst (NextField (c .before .before .before .before .args .line .now)) (c .enum-told .given .1) (c .before .before .next-field .ensures) in
     head-none _ f _ refl refl
 
 pub head-of-spec : {M : Type 1} → statement M

@@ -13,7 +13,7 @@ head-of-requires c κs = search needs
 returns : tie.Need-returns
 returns c = let a = c .before .before .before .before in
     let h = c .before .before .head-of in
-    λ s i e. other-code (a .args .l .now) (h .result) (h .ensures) i (omega (arith, a .pre)) (a .args .due) (λ q. c .if1 .taken (q ∙ sym e)) s
+    λ s i e. other-code (a .args .line .now) (h .result) (h .ensures) i (omega (arith, a .pre)) (a .args .due) (λ q. c .if1 .taken (q ∙ sym e)) s
 
 sub-end-line : tie.Need-sub-end-line
 sub-end-line c = search needs
@@ -30,7 +30,7 @@ end-line-requires c κs = search needs
 returns-2 : tie.Need-returns-2
 returns-2 c = let a = c .before .before .before .before .before .before in
     let h = c .before .before .before .before .head-of in
-    let l = a .args .l .now in
+    let l = a .args .line .now in
     let g = rw (to-end l (h .result .behind)) at (c .end-line .ensures) in
     λ s i e. this-code l (h .result) (h .ensures) i (omega (arith, a .pre)) (a .args .due) _ (c .before .before .if1 .left ∙ e) g s
 

@@ -3,7 +3,7 @@ use Rattle.read_frame.proofs.TableLines.{table-closed, closed-holds}
 use Rattle.read_frame.proofs.Moves.{nothing-read}
 use Rattle.read_frame.specs.Moves.{MovedHolds}
 use Rattle.read_state.specs.Meaning.{movedOf}
-use Rattle.read_state.specs.declared.Moved.{Moved}
+use Rattle.read_state.specs.declared.NextDue.{NextDue}
 use Rattle.meaning.specs.Field.{fieldsOf}
 use Rattle.model_records.specs.Records.{modelAt}
 use mathlib.Core.Path.{refl, sym, ap, subst, _∙_}
@@ -25,12 +25,12 @@ returns : tie.Need-returns
 returns c =
     let a = c .before .before .before .before .before in
     let b = a .args .model .now in
-    let l = a .args .l .now in
+    let l = a .args .line .now in
     let e = c .alone-line .ensures in
     let o = c .before .topic-of .ensures ∙ a .pre .0 .noted .owner _ (a .pre .1) in
     let s = a .pre .0 .noted .table _ (a .pre .1) .standing in (
-      (λ rooms text s x. ap (λ (y : Moved). movedOf b y x) (e s 12 refl) ∙ table-closed _ b _ _ (fieldsOf s l) x o rooms text),
-      subst (λ (y : Moved). MovedHolds (modelAt b) b y) (sym (e 0 12 refl))
+      (λ rooms text s x. ap (λ (y : NextDue). movedOf b y x) (e s 12 refl) ∙ table-closed _ b _ _ (fieldsOf s l) x o rooms text),
+      subst (λ (y : NextDue). MovedHolds (modelAt b) b y) (sym (e 0 12 refl))
           (closed-holds _ b _ _ (fieldsOf 0 l) nothing-read (omega (arith, o, s .topicCount)) (omega (arith, a .pre .1, a .pre .0 .tables))),
     )
 

@@ -1,6 +1,6 @@
 -- `read_frame::table_line` meets its contract. Assumes nothing.
 use Rattle.read_frame.proofs.TableLines.{topic-closed, table-opened, table-other}
-use Rattle.read_state.specs.declared.Moved.the-variants.{No}
+use Rattle.read_state.specs.declared.NextDue.the-variants.{No}
 use Rattle.base.proofs.Fill.{to-end}
 use borrow.Author.Needs.{needs}
 use Rattle.read_frame.proofs.tables.table_line.Statement.{statement}
@@ -36,20 +36,20 @@ begin-table-requires c κs = search needs
 returns : tie.Need-returns
 returns c = let a = c .before .before .before .before .before .before .before .args in
     let h = c .before .before .before .head-of in
-    let k = rw (to-end (a .l .now) (h .result .behind)) at (c .end-topic .ensures .0) in
-    ((λ rooms text s x. topic-closed _ rooms text (a .model .now) _ _ (a .l .now) (h .result) (h .ensures) (c .end-topic .result) x s (c .before .before .match .keys1) k), c .end-topic .ensures .1)
+    let k = rw (to-end (a .line .now) (h .result .behind)) at (c .end-topic .ensures .0) in
+    ((λ rooms text s x. topic-closed _ rooms text (a .model .now) _ _ (a .line .now) (h .result) (h .ensures) (c .end-topic .result) x s (c .before .before .match .keys1) k), c .end-topic .ensures .1)
 
 returns-2 : tie.Need-returns-2
 returns-2 c = let a = c .before .before .before .before .before .before .before .args in
     let h = c .before .before .before .head-of in
-    let k = rw (to-end (a .l .now) (h .result .behind)) at (c .begin-table .ensures .0) in
-    ((λ rooms text s x. table-opened _ rooms text (a .model .now) _ _ (a .l .now) (h .result) (h .ensures) (c .begin-table .result) x s (c .before .before .match .keys2) k), c .begin-table .ensures .1)
+    let k = rw (to-end (a .line .now) (h .result .behind)) at (c .begin-table .ensures .0) in
+    ((λ rooms text s x. table-opened _ rooms text (a .model .now) _ _ (a .line .now) (h .result) (h .ensures) (c .begin-table .result) x s (c .before .before .match .keys2) k), c .begin-table .ensures .1)
 
 returns-3 : tie.Need-returns-3
 returns-3 c = let a = c .before .before .before .before .before .args in
     let h = c .before .head-of in
     let r = c .match .rest in
-    ((λ rooms text s x. table-other _ rooms text (a .model .now) _ _ (a .l .now) (h .result) (h .ensures) (No 7 1) x s (r .0 .1) (r .1)), tt)
+    ((λ rooms text s x. table-other _ rooms text (a .model .now) _ _ (a .line .now) (h .result) (h .ensures) (No 7 1) x s (r .0 .1) (r .1)), tt)
 
 pub table-line-spec : {M : Type 1} → statement M
 table-line-spec =

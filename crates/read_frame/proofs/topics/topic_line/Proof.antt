@@ -3,8 +3,8 @@ use Rattle.read_frame.proofs.TopicLines.{model-closed, topic-opened, to
 use Rattle.read_frame.proofs.Moves.{holds-refuse}
 use Rattle.read_frame.specs.Moves.{endIn, MovedHolds}
 use Rattle.model_records.specs.Records.{modelAt}
-use Rattle.read_state.specs.declared.Moved.the-variants.{No}
-use Rattle.read_state.specs.declared.Moved.{Moved}
+use Rattle.read_state.specs.declared.NextDue.the-variants.{No}
+use Rattle.read_state.specs.declared.NextDue.{NextDue}
 use Rattle.base.proofs.Fill.{to-end}
 use mathlib.Core.Path.{sym, subst}
 use borrow.Author.Needs.{needs}
@@ -42,22 +42,22 @@ returns : tie.Need-returns
 unfolding endIn
 returns c = let a = c .before .before .before .before .before .before .before .args in
     let h = c .before .before .before .head-of in
-    let k = rw (to-end (a .l .now) (h .result .behind)) at (c .end-line .ensures) in (
-      (λ rooms text s x. model-closed _ rooms text _ _ (a .l .now) (h .result) (h .ensures) _ x s (c .before .before .match .keys1) k),
-      subst (λ (x : Moved). MovedHolds (modelAt (a .model .now)) (a .model .now) x) (sym (k 0)) (holds-refuse _ _ _ _ _ tt (λ rows n used points. tt)),
+    let k = rw (to-end (a .line .now) (h .result .behind)) at (c .end-line .ensures) in (
+      (λ rooms text s x. model-closed _ rooms text _ _ (a .line .now) (h .result) (h .ensures) _ x s (c .before .before .match .keys1) k),
+      subst (λ (x : NextDue). MovedHolds (modelAt (a .model .now)) (a .model .now) x) (sym (k 0)) (holds-refuse _ _ _ _ _ tt (λ rows n used points. tt)),
     )
 
 returns-2 : tie.Need-returns-2
 returns-2 c = let a = c .before .before .before .before .before .before .before .args in
     let h = c .before .before .before .head-of in
-    let k = rw (to-end (a .l .now) (h .result .behind)) at (c .begin-topic .ensures .0) in
-    ((λ rooms text s x. topic-opened _ rooms text (a .model .now) _ (a .l .now) (h .result) (h .ensures) (c .begin-topic .result) x s (c .before .before .match .keys2) k), c .begin-topic .ensures .1)
+    let k = rw (to-end (a .line .now) (h .result .behind)) at (c .begin-topic .ensures .0) in
+    ((λ rooms text s x. topic-opened _ rooms text (a .model .now) _ (a .line .now) (h .result) (h .ensures) (c .begin-topic .result) x s (c .before .before .match .keys2) k), c .begin-topic .ensures .1)
 
 returns-3 : tie.Need-returns-3
 returns-3 c = let a = c .before .before .before .before .before .args in
     let h = c .before .head-of in
     let r = c .match .rest in
-    ((λ rooms text s x. topic-other _ rooms text (a .model .now) _ (a .l .now) (h .result) (h .ensures) (No 7 1) x s (r .0 .1) (r .1)), tt)
+    ((λ rooms text s x. topic-other _ rooms text (a .model .now) _ (a .line .now) (h .result) (h .ensures) (No 7 1) x s (r .0 .1) (r .1)), tt)
 
 pub topic-line-spec : {M : Type 1} → statement M
 topic-line-spec =

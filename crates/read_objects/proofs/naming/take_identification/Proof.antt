@@ -2,7 +2,7 @@
 use Prim.Native.Nat.{_+_, _-_}
 use native.Mathlib.Omega.{arith}
 use mathlib.Core.Path.{_≡_, sym, _∙_, subst}
-use Rattle.read_fields.specs.Taken.{Takes}
+use Rattle.read_fields.specs.FieldForm.{Takes}
 use Rattle.read_objects.proofs.Names.{none-missing, is-undefined, is-twice, is-shapeless, is-identified}
 use borrow.Author.Needs.{needs}
 use Rattle.read_objects.proofs.naming.take_identification.Statement.{statement}

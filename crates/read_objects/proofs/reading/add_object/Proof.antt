@@ -48,8 +48,8 @@ returns c =
     let a = c .before .before .before .before .before .before .before .before .before .before .before .before .args in
     let p = c .before .before .before .before .before .before .before .before .before .before .before .before .pre in
     let held = p .1 .1 .1 in
-    let used = used-is (a .text .now) (a .seed) (a .s) (stretch (a .text .now) (a .start) (a .size)) (a .rows .now) (a .cells .now) (a .index .now) held (c .before .is-used .result) (rw (part-is (a .text .now) (a .start) (a .size)) at (c .before .is-used .ensures)) in
-    used-before (a .model .now) (a .text .now) (a .seed) (a .s) (stretch (a .text .now) (a .start) (a .size)) (a .rows .now) (a .cells .now) (a .index .now) held _ _ _ _ (used ∙ c .if1 .taken)
+    let used = used-is (a .text .now) (a .seed) (a .state) (stretch (a .text .now) (a .start) (a .size)) (a .rows .now) (a .cells .now) (a .index .now) held (c .before .is-used .result) (rw (part-is (a .text .now) (a .start) (a .size)) at (c .before .is-used .ensures)) in
+    used-before (a .model .now) (a .text .now) (a .seed) (a .state) (stretch (a .text .now) (a .start) (a .size)) (a .rows .now) (a .cells .now) (a .index .now) held _ _ _ _ (used ∙ c .if1 .taken)
 
 store-row-requires : tie.Need-store-row-requires
 store-row-requires c κs =
@@ -70,9 +70,9 @@ returns-2 c =
     let a = c .before .before .before .before .before .before .before .before .before .before .before .before .before .before .before .before .before .before .before .before .before .args in
     let p = c .before .before .before .before .before .before .before .before .before .before .before .before .before .before .before .before .before .before .before .before .before .pre in
     let held = p .1 .1 .1 in
-    let used = used-is (a .text .now) (a .seed) (a .s) (stretch (a .text .now) (a .start) (a .size)) (a .rows .now) (a .cells .now) (a .index .now) held (c .before .before .before .before .before .before .before .before .before .before .is-used .result) (rw (part-is (a .text .now) (a .start) (a .size)) at (c .before .before .before .before .before .before .before .before .before .before .is-used .ensures)) in
+    let used = used-is (a .text .now) (a .seed) (a .state) (stretch (a .text .now) (a .start) (a .size)) (a .rows .now) (a .cells .now) (a .index .now) held (c .before .before .before .before .before .before .before .before .before .before .is-used .result) (rw (part-is (a .text .now) (a .start) (a .size)) at (c .before .before .before .before .before .before .before .before .before .before .is-used .ensures)) in
     let e = used ∙ c .before .before .before .before .before .before .before .before .before .if1 .left in
-    unused (a .model .now) (a .text .now) (a .seed) (a .s) (stretch (a .text .now) (a .start) (a .size)) (a .rows .now) (a .cells .now) (a .index .now) held _ _ _ _ _ e (c .before .before .before .before .before .store-row .ensures (a .seed) (record { held = held; unused = e; hashed = (rw (part-is (a .text .now) (a .start) (a .size)) at (c .before .before .before .before .before .before .before .before .before .before .before .before .before .before .before .hash .ensures .0)) }))
+    unused (a .model .now) (a .text .now) (a .seed) (a .state) (stretch (a .text .now) (a .start) (a .size)) (a .rows .now) (a .cells .now) (a .index .now) held _ _ _ _ _ e (c .before .before .before .before .before .store-row .ensures (a .seed) (record { held = held; unused = e; hashed = (rw (part-is (a .text .now) (a .start) (a .size)) at (c .before .before .before .before .before .before .before .before .before .before .before .before .before .before .before .hash .ensures .0)) }))
 
 pub add-object-spec : {M : Type 1} → statement M
 add-object-spec =

@@ -49,7 +49,7 @@ returns c =
     let g = c .before .before .before .before .before .before .before .before .before .args in
     let p = c .before .before .before .before .before .before .before .before .before .pre in
     let w = c .before .k .given in
-    unnamed (g .model .now) (g .text .now) (g .seed) (g .here) (g .s) (g .at) (g .end) (g .behind) (g .undefined) (g .rows .now) _ (g .cells .now) _ (g .index .now) _ (p .1 .1 .0 .1) (p .1 .1 .1 .0 .0) (p .1 .1 .1 .0 .1) (w .0 .0) (c .before .before .before .take-identification .result) (w .1) (c .before .before .before .take-identification .ensures)
+    unnamed (g .model .now) (g .text .now) (g .seed) (g .here) (g .state) (g .at) (g .end) (g .behind) (g .undefined) (g .rows .now) _ (g .cells .now) _ (g .index .now) _ (p .1 .1 .0 .1) (p .1 .1 .1 .0 .0) (p .1 .1 .1 .0 .1) (w .0 .0) (c .before .before .before .take-identification .result) (w .1) (c .before .before .before .take-identification .ensures)
 
 same-length : tie.Need-same-length
 same-length c = search needs
@@ -66,7 +66,7 @@ returns-2 c =
     let p = c .before .before .before .before .before .before .before .before .before .before .before .before .before .before .before .before .before .before .pre in
     let w = c .before .before .before .before .before .before .before .before .before .before .a .given in
     let i = identified (g .undefined) (stretch (g .text .now) (g .at + g .behind) (g .end - (g .at + g .behind))) (c .before .before .before .before .before .before .before .before .before .before .before .before .take-identification .result) (w .0 .0) (w .0 .1 .0) (w .1) (c .before .before .before .before .before .before .before .before .before .before .before .before .take-identification .ensures) in
-    named (g .model .now) (g .text .now) (g .seed) (g .here) (g .s) (g .at) (g .end) (g .behind) (g .undefined) (g .rows .now) _ (g .cells .now) _ (g .index .now) _ (p .1 .1 .0 .1) (p .1 .1 .1 .0 .0) (p .1 .1 .1 .0 .1) (w .0 .0) (w .0 .1 .0) i (p .1 .0 .0) (p .1 .0 .1) (p .0) _ (c .before .before .before .before .before .add-object .ensures)
+    named (g .model .now) (g .text .now) (g .seed) (g .here) (g .state) (g .at) (g .end) (g .behind) (g .undefined) (g .rows .now) _ (g .cells .now) _ (g .index .now) _ (p .1 .1 .0 .1) (p .1 .1 .1 .0 .0) (p .1 .1 .1 .0 .1) (w .0 .0) (w .0 .1 .0) i (p .1 .0 .0) (p .1 .0 .1) (p .0) _ (c .before .before .before .before .before .add-object .ensures)
 
 pub object-fields-spec : {M : Type 1} → statement M
 object-fields-spec =

@@ -27,10 +27,10 @@ enum-told : tie.Need-enum-told
 enum-told c = search needs
 
 returns : tie.Need-returns
-returns c = field-left (c .before .before .before .before .before .before .args .rest .now) (c .before .before .before .before .before .before .args .s) (c .before .start .given .0 .0) (c .before .start .given .0 .1 .0) (subst (NextField (drop (c .before .before .before .before .before .before .args .s .at) (c .before .before .before .before .before .before .args .rest .now))) (c .before .start .given .1) (rw (to-end (c .before .before .before .before .before .before .args .rest .now) (c .before .before .before .before .before .before .args .s .at)) at (c .before .before .before .next-field .ensures)))
+returns c = field-left (c .before .before .before .before .before .before .args .rest .now) (c .before .before .before .before .before .before .args .cursor) (c .before .start .given .0 .0) (c .before .start .given .0 .1 .0) (subst (NextField (drop (c .before .before .before .before .before .before .args .cursor .at) (c .before .before .before .before .before .before .args .rest .now))) (c .before .start .given .1) (rw (to-end (c .before .before .before .before .before .before .args .rest .now) (c .before .before .before .before .before .before .args .cursor .at)) at (c .before .before .before .next-field .ensures)))
 
 returns-2 : tie.Need-returns-2
-returns-2 c = (refl, nothing-left (c .before .before .before .before .before .args .rest .now) (c .before .before .before .before .before .args .s) (subst (NextField (drop (c .before .before .before .before .before .args .s .at) (c .before .before .before .before .before .args .rest .now))) (c .enum-told .given .1) (rw (to-end (c .before .before .before .before .before .args .rest .now) (c .before .before .before .before .before .args .s .at)) at (c .before .before .next-field .ensures))))
+returns-2 c = (refl, nothing-left (c .before .before .before .before .before .args .rest .now) (c .before .before .before .before .before .args .cursor) (subst (NextField (drop (c .before .before .before .before .before .args .cursor .at) (c .before .before .before .before .before .args .rest .now))) (c .enum-told .given .1) (rw (to-end (c .before .before .before .before .before .args .rest .now) (c .before .before .before .before .before .args .cursor .at)) at (c .before .before .next-field .ensures))))
 
 pub end-row-spec : {M : Type 1} → statement M
 end-row-spec =

@@ -8,18 +8,18 @@ use lib.ListN.{length}
 use Rattle.meaning.specs.Field.{fieldsOf}
 use Rattle.meaning.specs.Row.{pairCells}
 use Rattle.model_records.specs.Records.{modelAt, pairsAt}
-use Rattle.read_fields.specs.Filled.{Steps, Fills, goingOver}
+use Rattle.read_fields.specs.RowProgress.{RowFilled, Fills, goingOver}
 use Rattle.model_records.specs.AtRecord.{AttributesHere}
 use Rattle.read_objects.specs.Fields.{recordPairs}
-use Rattle.read_fields.proofs.Steps.{wider}
-use Rattle.read_fields.proofs.Steps as steps
+use Rattle.read_fields.proofs.RowFilled.{wider}
+use Rattle.read_fields.proofs.RowFilled as steps
 use Rattle.read_objects.proofs.Records.{record-here, good-here, next-from}
 use Rattle.read_objects.proofs.Ends.{fromRecord, row-start, row-end, row-on, row-rest, row-no}
 use Rattle.read_objects.proofs.rows.row_fields.Statement.{statement}
 use Rattle.read_objects.proofs.rows.row_fields.Tie as tie
 
 abbrev Inv-loop : tie.InvT-loop
-Inv-loop model at rest start undefined cells₀ here₀ s₀ cells here s = AttributesHere (modelAt model) model here × (at ≤ here) × Steps rest (2 * (here - at)) (λ ps. pairCells undefined true 3 (pairsAt model at) (fieldsOf start rest)) (fromRecord undefined start rest model here s) s₀ s cells₀ cells
+Inv-loop model at rest start undefined cells₀ here₀ s₀ cells here s = AttributesHere (modelAt model) model here × (at ≤ here) × RowFilled rest (2 * (here - at)) (λ ps. pairCells undefined true 3 (pairsAt model at) (fieldsOf start rest)) (fromRecord undefined start rest model here s) s₀ s cells₀ cells
 
 abbrev μ-loop : tie.MeasureT-loop
 μ-loop model at rest start undefined cells₀ here₀ s₀ cells here s = length model - here

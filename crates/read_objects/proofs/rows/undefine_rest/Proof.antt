@@ -15,7 +15,7 @@ has-mandatory-requires : tie.Need-has-mandatory-requires
 has-mandatory-requires c κs = search needs
 
 returns : tie.Need-returns
-returns c = covers-mandatory (c .before .before .before .before .args .rest .now) (c .before .before .before .before .args .s) (c .before .before .before .before .args .left) (pairsAt (c .before .before .before .before .args .model .now) (c .before .before .before .before .args .at)) (sym (c .before .has-mandatory .ensures) ∙ c .if1 .taken)
+returns c = covers-mandatory (c .before .before .before .before .args .rest .now) (c .before .before .before .before .args .cursor) (c .before .before .before .before .args .left) (pairsAt (c .before .before .before .before .args .model .now) (c .before .before .before .before .args .at)) (sym (c .before .has-mandatory .ensures) ∙ c .if1 .taken)
 
 sub-next-field : tie.Need-sub-next-field
 sub-next-field c = search needs
@@ -54,14 +54,14 @@ add-t23 : tie.Need-add-t23
 add-t23 c = search needs
 
 returns-2 : tie.Need-returns-2
-returns-2 c = covers-field (c .before .before .before .before .before .before .before .before .before .before .args .rest .now) (c .before .before .before .before .before .before .before .before .before .before .args .s) (c .before .before .before .before .before .before .before .before .before .before .args .left) (pairsAt (c .before .before .before .before .before .before .before .before .before .before .args .model .now) (c .before .before .before .before .before .before .before .before .before .before .args .at)) (sym (c .before .before .before .before .before .before .before .has-mandatory .ensures) ∙ c .before .before .before .before .before .before .if1 .left) (c .before .before .start .given .0 .0) (c .before .before .start .given .0 .1 .0) (subst (NextField (drop (c .before .before .before .before .before .before .before .before .before .before .args .s .at) (c .before .before .before .before .before .before .before .before .before .before .args .rest .now))) (c .before .before .start .given .1) (rw (to-end (c .before .before .before .before .before .before .before .before .before .before .args .rest .now) (c .before .before .before .before .before .before .before .before .before .before .args .s .at)) at (c .before .before .before .before .next-field .ensures)))
+returns-2 c = covers-field (c .before .before .before .before .before .before .before .before .before .before .args .rest .now) (c .before .before .before .before .before .before .before .before .before .before .args .cursor) (c .before .before .before .before .before .before .before .before .before .before .args .left) (pairsAt (c .before .before .before .before .before .before .before .before .before .before .args .model .now) (c .before .before .before .before .before .before .before .before .before .before .args .at)) (sym (c .before .before .before .before .before .before .before .has-mandatory .ensures) ∙ c .before .before .before .before .before .before .if1 .left) (c .before .before .start .given .0 .0) (c .before .before .start .given .0 .1 .0) (subst (NextField (drop (c .before .before .before .before .before .before .before .before .before .before .args .cursor .at) (c .before .before .before .before .before .before .before .before .before .before .args .rest .now))) (c .before .before .start .given .1) (rw (to-end (c .before .before .before .before .before .before .before .before .before .before .args .rest .now) (c .before .before .before .before .before .before .before .before .before .before .args .cursor .at)) at (c .before .before .before .before .next-field .ensures)))
 
 same-length : tie.Need-same-length
 same-length c = search needs
 
 returns-3 : tie.Need-returns-3
 returns-3 c =
-    zeros-end (c .before .before .before .before .before .before .before .before .before .before .before .before .before .args .rest .now) (c .before .before .before .before .before .before .before .before .before .before .before .before .before .args .s) (c .before .before .before .before .before .before .before .before .before .before .before .before .before .args .left) (pairsAt (c .before .before .before .before .before .before .before .before .before .before .before .before .before .args .model .now) (c .before .before .before .before .before .before .before .before .before .before .before .before .before .args .at)) (2 * length (c .before .before .before .before .before .before .before .before .before .before .before .before .before .args .model .now)) (c .before .before .before .before .count-pairs .result) (c .before .before .before .before .before .before .before .before .before .before .before .before .before .args .cells .now) (c .before .before .put-zeros .last .0) (sym (c .before .before .before .before .before .before .before .before .before .before .has-mandatory .ensures) ∙ c .before .before .before .before .before .before .before .before .before .if1 .left) (subst (NextField (drop (c .before .before .before .before .before .before .before .before .before .before .before .before .before .args .s .at) (c .before .before .before .before .before .before .before .before .before .before .before .before .before .args .rest .now))) (c .before .before .before .before .before .enum-told .given .1) (rw (to-end (c .before .before .before .before .before .before .before .before .before .before .before .before .before .args .rest .now) (c .before .before .before .before .before .before .before .before .before .before .before .before .before .args .s .at)) at (c .before .before .before .before .before .before .before .next-field .ensures)))
+    zeros-end (c .before .before .before .before .before .before .before .before .before .before .before .before .before .args .rest .now) (c .before .before .before .before .before .before .before .before .before .before .before .before .before .args .cursor) (c .before .before .before .before .before .before .before .before .before .before .before .before .before .args .left) (pairsAt (c .before .before .before .before .before .before .before .before .before .before .before .before .before .args .model .now) (c .before .before .before .before .before .before .before .before .before .before .before .before .before .args .at)) (2 * length (c .before .before .before .before .before .before .before .before .before .before .before .before .before .args .model .now)) (c .before .before .before .before .count-pairs .result) (c .before .before .before .before .before .before .before .before .before .before .before .before .before .args .cells .now) (c .before .before .put-zeros .last .0) (sym (c .before .before .before .before .before .before .before .before .before .before .has-mandatory .ensures) ∙ c .before .before .before .before .before .before .before .before .before .if1 .left) (subst (NextField (drop (c .before .before .before .before .before .before .before .before .before .before .before .before .before .args .cursor .at) (c .before .before .before .before .before .before .before .before .before .before .before .before .before .args .rest .now))) (c .before .before .before .before .before .enum-told .given .1) (rw (to-end (c .before .before .before .before .before .before .before .before .before .before .before .before .before .args .rest .now) (c .before .before .before .before .before .before .before .before .before .before .before .before .before .args .cursor .at)) at (c .before .before .before .before .before .before .before .next-field .ensures)))
     (c .before .before .before .before .count-pairs .ensures .0) (omega (arith, c .before .before .before .before .count-pairs .ensures .1, c .before .before .before .before .before .before .before .before .before .before .before .before .before .pre .1)) (c .before .before .put-zeros .ensures)
 
 pub undefine-rest-spec : {M : Type 1} → statement M

@@ -40,7 +40,7 @@ add-lacks-room c =
     let p = c .before .before .before .before .before .before .before .before .before .before .before .before .pre in
     let r = c .before .before .before .before .fill-row in
     let g = c .before .n .given in
-    let f = full-row (fieldCells (a .model .now) (a .text .now) (a .undefined) (a .here .at) (a .name .start + a .name .size) (a .end)) (2 * length (a .model .now)) (a .s .cells + 3) (a .cells .now) (r .last .1 .1 .1 .1 .1 .0) (r .result) (g .0 .0) (g .1) (r .ensures) in
+    let f = full-row (fieldCells (a .model .now) (a .text .now) (a .undefined) (a .here .at) (a .name .start + a .name .size) (a .end)) (2 * length (a .model .now)) (a .state .cells + 3) (a .cells .now) (r .last .1 .1 .1 .1 .1 .0) (r .result) (g .0 .0) (g .1) (r .ensures) in
     record { fits = omega (arith, f .few, p .1 .1 .0) }
 
 add-lacks-room-2 : tie.Need-add-lacks-room-2
@@ -49,7 +49,7 @@ add-lacks-room-2 c =
     let p = c .before .before .before .before .before .before .before .before .before .before .before .before .before .pre in
     let r = c .before .before .before .before .before .fill-row in
     let g = c .before .before .n .given in
-    let f = full-row (fieldCells (a .model .now) (a .text .now) (a .undefined) (a .here .at) (a .name .start + a .name .size) (a .end)) (2 * length (a .model .now)) (a .s .cells + 3) (a .cells .now) (r .last .1 .1 .1 .1 .1 .0) (r .result) (g .0 .0) (g .1) (r .ensures) in
+    let f = full-row (fieldCells (a .model .now) (a .text .now) (a .undefined) (a .here .at) (a .name .start + a .name .size) (a .end)) (2 * length (a .model .now)) (a .state .cells + 3) (a .cells .now) (r .last .1 .1 .1 .1 .1 .0) (r .result) (g .0 .0) (g .1) (r .ensures) in
     record { fits = omega (arith, f .few, p .1 .1 .0, p .1 .1 .1, c .before .before .before .before .before .before .before .before .before .before .before .before .before .good) }
 
 lacks-room-requires : tie.Need-lacks-room-requires
@@ -64,9 +64,9 @@ returns c =
     let p = c .before .before .before .before .before .before .before .before .before .before .before .before .before .before .before .pre in
     let r = c .before .before .before .before .before .before .before .fill-row in
     let g = c .before .before .before .before .n .given in
-    let f = full-row (fieldCells (a .model .now) (a .text .now) (a .undefined) (a .here .at) (a .name .start + a .name .size) (a .end)) (2 * length (a .model .now)) (a .s .cells + 3) (a .cells .now) (r .last .1 .1 .1 .1 .1 .0) (r .result) (g .0 .0) (g .1) (r .ensures) in
+    let f = full-row (fieldCells (a .model .now) (a .text .now) (a .undefined) (a .here .at) (a .name .start + a .name .size) (a .end)) (2 * length (a .model .now)) (a .state .cells + 3) (a .cells .now) (r .last .1 .1 .1 .1 .1 .0) (r .result) (g .0 .0) (g .1) (r .ensures) in
     let q : length (r .last .1 .1 .1 .1 .1 .0) ≡ length (a .cells .now) = c .before .before .before .before .before .before .cells .given in
-    λ seed new. lacks (a .model .now) (a .text .now) seed (a .here) (a .s) (a .name .start) (a .name .size) (a .undefined) (fieldsOf (a .name .start + a .name .size) (stretch (a .text .now) (a .name .start + a .name .size) (a .end - (a .name .start + a .name .size)))) (a .rows .now) (a .cells .now) (a .index .now) (new .held) _ _ _ f _ _ _ (length (r .last .1 .1 .1 .1 .1 .0)) q (sym (c .before .lacks-room .ensures) ∙ c .if1 .taken)
+    λ seed new. lacks (a .model .now) (a .text .now) seed (a .here) (a .state) (a .name .start) (a .name .size) (a .undefined) (fieldsOf (a .name .start + a .name .size) (stretch (a .text .now) (a .name .start + a .name .size) (a .end - (a .name .start + a .name .size)))) (a .rows .now) (a .cells .now) (a .index .now) (new .held) _ _ _ f _ _ _ (length (r .last .1 .1 .1 .1 .1 .0)) q (sym (c .before .lacks-room .ensures) ∙ c .if1 .taken)
 
 add-row-requires : tie.Need-add-row-requires
 add-row-requires c κs =
@@ -74,9 +74,9 @@ add-row-requires c κs =
     let p = c .before .before .before .before .before .before .before .before .before .before .before .before .before .before .before .before .before .before .pre in
     let r = c .before .before .before .before .before .before .before .before .before .before .fill-row in
     let g = c .before .before .before .before .before .before .before .n .given in
-    let f = full-row (fieldCells (a .model .now) (a .text .now) (a .undefined) (a .here .at) (a .name .start + a .name .size) (a .end)) (2 * length (a .model .now)) (a .s .cells + 3) (a .cells .now) (r .last .1 .1 .1 .1 .1 .0) (r .result) (g .0 .0) (g .1) (r .ensures) in
+    let f = full-row (fieldCells (a .model .now) (a .text .now) (a .undefined) (a .here .at) (a .name .start + a .name .size) (a .end)) (2 * length (a .model .now)) (a .state .cells + 3) (a .cells .now) (r .last .1 .1 .1 .1 .1 .0) (r .result) (g .0 .0) (g .1) (r .ensures) in
     let e = sym (c .before .before .before .before .lacks-room .ensures) ∙ c .before .before .before .if1 .left in
-    ((room-rows (length (a .rows .now)) (a .s .rows) (length (r .last .1 .1 .1 .1 .1 .0)) (a .s .cells + (3 + g .0 .0)) e, omega (arith, room-cells (length (a .rows .now)) (a .s .rows) (length (r .last .1 .1 .1 .1 .1 .0)) (a .s .cells + (3 + g .0 .0)) e)), (omega (arith, table-small _ _ _ (p .0), p .1 .1 .0), omega (arith, p .1 .0), omega (arith, p .1 .0), p .1 .1 .2))
+    ((room-rows (length (a .rows .now)) (a .state .rows) (length (r .last .1 .1 .1 .1 .1 .0)) (a .state .cells + (3 + g .0 .0)) e, omega (arith, room-cells (length (a .rows .now)) (a .state .rows) (length (r .last .1 .1 .1 .1 .1 .0)) (a .state .cells + (3 + g .0 .0)) e)), (omega (arith, table-small _ _ _ (p .0), p .1 .1 .0), omega (arith, p .1 .0), omega (arith, p .1 .0), p .1 .1 .2))
 
 add-state-behind : tie.Need-add-state-behind
 add-state-behind c =
@@ -84,7 +84,7 @@ add-state-behind c =
     let p = c .before .before .before .before .before .before .before .before .before .before .before .before .before .before .before .before .before .before .before .before .before .before .before .before .pre in
     let r = c .before .before .before .before .before .before .before .before .before .before .before .before .before .before .before .before .fill-row in
     let g = c .before .before .before .before .before .before .before .before .before .before .before .before .before .n .given in
-    let f = full-row (fieldCells (a .model .now) (a .text .now) (a .undefined) (a .here .at) (a .name .start + a .name .size) (a .end)) (2 * length (a .model .now)) (a .s .cells + 3) (a .cells .now) (r .last .1 .1 .1 .1 .1 .0) (r .result) (g .0 .0) (g .1) (r .ensures) in
+    let f = full-row (fieldCells (a .model .now) (a .text .now) (a .undefined) (a .here .at) (a .name .start + a .name .size) (a .end)) (2 * length (a .model .now)) (a .state .cells + 3) (a .cells .now) (r .last .1 .1 .1 .1 .1 .0) (r .result) (g .0 .0) (g .1) (r .ensures) in
     record { fits = omega (arith, f .few, p .1 .1 .0) }
 
 state-behind-requires : tie.Need-state-behind-requires
@@ -93,10 +93,10 @@ state-behind-requires c κs =
     let p = c .before .before .before .before .before .before .before .before .before .before .before .before .before .before .before .before .before .before .before .before .before .before .before .before .pre in
     let r = c .before .before .before .before .before .before .before .before .before .before .before .before .before .before .before .before .fill-row in
     let g = c .before .before .before .before .before .before .before .before .before .before .before .before .before .n .given in
-    let f = full-row (fieldCells (a .model .now) (a .text .now) (a .undefined) (a .here .at) (a .name .start + a .name .size) (a .end)) (2 * length (a .model .now)) (a .s .cells + 3) (a .cells .now) (r .last .1 .1 .1 .1 .1 .0) (r .result) (g .0 .0) (g .1) (r .ensures) in
+    let f = full-row (fieldCells (a .model .now) (a .text .now) (a .undefined) (a .here .at) (a .name .start + a .name .size) (a .end)) (2 * length (a .model .now)) (a .state .cells + 3) (a .cells .now) (r .last .1 .1 .1 .1 .1 .0) (r .result) (g .0 .0) (g .1) (r .ensures) in
     let e = sym (c .before .before .before .before .before .before .before .before .before .before .lacks-room .ensures) ∙ c .before .before .before .before .before .before .before .before .before .if1 .left in
     let z = f .size ∙ row-size _ true 3 (pairsAt (a .model .now) (a .here .at)) _ (f .values) (f .meaning) in
-    (p .0, (omega (arith, room-rows (length (a .rows .now)) (a .s .rows) (length (r .last .1 .1 .1 .1 .1 .0)) (a .s .cells + (3 + g .0 .0)) e, c .before .before .before .before .before .before .before .before .before .before .before .before .before .before .before .before .before .before .before .before .before .before .before .before .good), omega (arith, f .few, p .1 .1 .0, p .1 .1 .1, c .before .before .before .before .before .before .before .before .before .before .before .before .before .before .before .before .before .before .before .before .before .before .before .before .good), omega (arith, z)))
+    (p .0, (omega (arith, room-rows (length (a .rows .now)) (a .state .rows) (length (r .last .1 .1 .1 .1 .1 .0)) (a .state .cells + (3 + g .0 .0)) e, c .before .before .before .before .before .before .before .before .before .before .before .before .before .before .before .before .before .before .before .before .before .before .before .before .good), omega (arith, f .few, p .1 .1 .0, p .1 .1 .1, c .before .before .before .before .before .before .before .before .before .before .before .before .before .before .before .before .before .before .before .before .before .before .before .before .good), omega (arith, z)))
 
 same-length-2 : tie.Need-same-length-2
 same-length-2 c = search needs
@@ -106,8 +106,8 @@ returns-2 c =
     let a = c .before .before .before .before .before .before .before .before .before .before .before .before .args in
     let r = c .before .before .before .before .fill-row in
     let g = c .before .k .given in
-    let e = refused-row (fieldCells (a .model .now) (a .text .now) (a .undefined) (a .here .at) (a .name .start + a .name .size) (a .end)) (2 * length (a .model .now)) (a .s .cells + 3) (a .cells .now) (r .last .1 .1 .1 .1 .1 .0) (r .result) (g .0 .0) (g .0 .1 .0) (g .1) (r .ensures) in
-    λ seed new. fields-refused (a .model .now) (a .text .now) seed (a .here) (a .s) (a .name .start) (a .name .size) (a .undefined) (fieldsOf (a .name .start + a .name .size) (stretch (a .text .now) (a .name .start + a .name .size) (a .end - (a .name .start + a .name .size)))) (a .rows .now) (a .cells .now) (a .index .now) (new .held) _ _ _ _ _ e
+    let e = refused-row (fieldCells (a .model .now) (a .text .now) (a .undefined) (a .here .at) (a .name .start + a .name .size) (a .end)) (2 * length (a .model .now)) (a .state .cells + 3) (a .cells .now) (r .last .1 .1 .1 .1 .1 .0) (r .result) (g .0 .0) (g .0 .1 .0) (g .1) (r .ensures) in
+    λ seed new. fields-refused (a .model .now) (a .text .now) seed (a .here) (a .state) (a .name .start) (a .name .size) (a .undefined) (fieldsOf (a .name .start + a .name .size) (stretch (a .text .now) (a .name .start + a .name .size) (a .end - (a .name .start + a .name .size)))) (a .rows .now) (a .cells .now) (a .index .now) (new .held) _ _ _ _ _ e
 
 same-length-3 : tie.Need-same-length-3
 same-length-3 c = search needs
@@ -124,11 +124,11 @@ returns-3 c =
     let p = c .before .before .before .before .before .before .before .before .before .before .before .before .before .before .before .before .before .before .before .before .before .before .before .before .before .pre in
     let r = c .before .before .before .before .before .before .before .before .before .before .before .before .before .before .before .before .before .fill-row in
     let g = c .before .before .before .before .before .before .before .before .before .before .before .before .before .before .n .given in
-    let f = full-row (fieldCells (a .model .now) (a .text .now) (a .undefined) (a .here .at) (a .name .start + a .name .size) (a .end)) (2 * length (a .model .now)) (a .s .cells + 3) (a .cells .now) (r .last .1 .1 .1 .1 .1 .0) (r .result) (g .0 .0) (g .1) (r .ensures) in
+    let f = full-row (fieldCells (a .model .now) (a .text .now) (a .undefined) (a .here .at) (a .name .start + a .name .size) (a .end)) (2 * length (a .model .now)) (a .state .cells + 3) (a .cells .now) (r .last .1 .1 .1 .1 .1 .0) (r .result) (g .0 .0) (g .1) (r .ensures) in
     let q : length (r .last .1 .1 .1 .1 .1 .0) ≡ length (a .cells .now) = c .before .before .before .before .before .before .before .before .before .before .before .before .before .before .before .before .cells .given in
     let e = sym (c .before .before .before .before .before .before .before .before .before .before .before .lacks-room .ensures) ∙ c .before .before .before .before .before .before .before .before .before .before .if1 .left in
     let w = c .before .before .before .before .before .before .add-row .ensures in
-    λ seed new. joins (a .model .now) (a .text .now) seed (a .here) (a .s) (a .name .start) (a .name .size) (a .undefined) (fieldsOf (a .name .start + a .name .size) (stretch (a .text .now) (a .name .start + a .name .size) (a .end - (a .name .start + a .name .size)))) (a .rows .now) (a .cells .now) (a .index .now) (new .held) _ _ _ f _ _ _ (a .name .hash) _ (p .0) (room-rows (length (a .rows .now)) (a .s .rows) (length (r .last .1 .1 .1 .1 .1 .0)) (a .s .cells + (3 + g .0 .0)) e) (omega (arith, q, room-cells (length (a .rows .now)) (a .s .rows) (length (r .last .1 .1 .1 .1 .1 .0)) (a .s .cells + (3 + g .0 .0)) e)) (omega (arith, p .1 .0)) (w .0) (w .1 .0) (w .1 .1) (c .state-behind .ensures) (new .unused) (new .hashed)
+    λ seed new. joins (a .model .now) (a .text .now) seed (a .here) (a .state) (a .name .start) (a .name .size) (a .undefined) (fieldsOf (a .name .start + a .name .size) (stretch (a .text .now) (a .name .start + a .name .size) (a .end - (a .name .start + a .name .size)))) (a .rows .now) (a .cells .now) (a .index .now) (new .held) _ _ _ f _ _ _ (a .name .hash) _ (p .0) (room-rows (length (a .rows .now)) (a .state .rows) (length (r .last .1 .1 .1 .1 .1 .0)) (a .state .cells + (3 + g .0 .0)) e) (omega (arith, q, room-cells (length (a .rows .now)) (a .state .rows) (length (r .last .1 .1 .1 .1 .1 .0)) (a .state .cells + (3 + g .0 .0)) e)) (omega (arith, p .1 .0)) (w .0) (w .1 .0) (w .1 .1) (c .state-behind .ensures) (new .unused) (new .hashed)
 
 pub store-row-spec : {M : Type 1} → statement M
 store-row-spec =

@@ -14,7 +14,7 @@ returns : tie.Need-returns
 returns c =
     let i = c .before .is-bare .ensures in
     let g = c .before .before .before .before .args in
-    λ a rooms text fs start points fits d. refused-here _ _ _ _ _ points 11 2 (λ x. ended-extra _ rooms text (wayOf (g .model .now) a (g .u)) fs x _ start d _ (i start) (not-true _ (c .if1 .taken)))
+    λ a rooms text fs start points fits d. refused-here _ _ _ _ _ points 11 2 (λ x. ended-extra _ rooms text (wayOf (g .model .now) a (g .polyline)) fs x _ start d _ (i start) (not-true _ (c .if1 .taken)))
 
 sub-put-line : tie.Need-sub-put-line
 sub-put-line c = omega (arith, c .before .before .before .before .before .before .before .pre .0 .line .first)
@@ -38,8 +38,8 @@ returns-2 c =
     let g = c .before .before .before .before .before .before .before .before .before .before .args in
     λ a rooms text fs start points fits d.
     rw (c .before .before .put-line .ensures)
-    (behind-pair (g .model .now) a (g .u) (g .s) _ (c .behind-line .ensures) _ _ points (omega (arith, next-fits _ _ _ _ _ _ _ (p .0 .line))) fits
-    (λ x. ended-next _ rooms text (wayOf (g .model .now) a (g .u)) fs x _ start d _ (i start) (not-false _ (c .before .before .before .before .before .before .if1 .left))))
+    (behind-pair (g .model .now) a (g .polyline) (g .state) _ (c .behind-line .ensures) _ _ points (omega (arith, next-fits _ _ _ _ _ _ _ (p .0 .line))) fits
+    (λ x. ended-next _ rooms text (wayOf (g .model .now) a (g .polyline)) fs x _ start d _ (i start) (not-false _ (c .before .before .before .before .before .before .if1 .left))))
 
 pub end-line-spec : {M : Type 1} → statement M
 end-line-spec =

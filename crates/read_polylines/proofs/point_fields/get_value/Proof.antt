@@ -5,7 +5,7 @@ use mir.Syntax.{w64}
 use mir.ValLaws.{toZ-ofZ}
 use Rattle.model_records.specs.Components.{componentOf}
 use Rattle.value_read.specs.Meant.{valueMeant}
-use Rattle.read_fields.specs.Taken.{Takes}
+use Rattle.read_fields.specs.FieldForm.{Takes}
 use Rattle.read_fields.proofs.Stores.{part-size}
 use Rattle.read_polylines.proofs.PointFields.{value-missing, value-twice, value-undefined, value-wrong, value-got}
 use borrow.Author.Needs.{needs}

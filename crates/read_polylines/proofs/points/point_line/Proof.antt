@@ -20,8 +20,8 @@ returns c =
     let g = c .before .before .before .args in
     let e = sym (c .before .forbids .ensures) ∙ c .if1 .taken in
     λ b text rooms fs start cells d l un er dr co.
-    refused-here b (g .u) (g .s) _ cells _ 18 1
-    (λ x. forbidden-point (modelAt b) rooms text (wayOf b (g .a) (g .u)) fs x (g .kind) (lineStateOf (g .next)) (rw co e))
+    refused-here b (g .polyline) (g .state) _ cells _ 18 1
+    (λ x. forbidden-point (modelAt b) rooms text (wayOf b (g .attribute) (g .polyline)) fs x (g .kind) (lineStateOf (g .next)) (rw co e))
 
 read-point-requires : tie.Need-read-point-requires
 read-point-requires c κs = search needs
@@ -35,9 +35,9 @@ returns-2 c =
     let g = q .args in
     let e = sym (c .before .before .before .before .before .forbids .ensures) ∙ c .before .before .before .before .if1 .left in
     λ b text rooms fs start cells d l un er dr co.
-    does-same b (g .u) (g .s) _ _ cells _ cells _ _
-    (λ x. permitted-point (modelAt b) rooms text (wayOf b (g .a) (g .u)) fs x (g .kind) (lineStateOf (g .next)) (rw co e))
-    (joined b (g .u) (g .s) (g .next) (g .a) d l rooms text (g .kind) cells (g .points .now) er (q .pre .1) (componentValues (modelAt b .undefined) 2 (componentsOf (g .a .components)) (drop 1 fs)) _ _
+    does-same b (g .polyline) (g .state) _ _ cells _ cells _ _
+    (λ x. permitted-point (modelAt b) rooms text (wayOf b (g .attribute) (g .polyline)) fs x (g .kind) (lineStateOf (g .next)) (rw co e))
+    (joined b (g .polyline) (g .state) (g .next) (g .attribute) d l rooms text (g .kind) cells (g .points .now) er (q .pre .1) (componentValues (modelAt b .undefined) 2 (componentsOf (g .attribute .components)) (drop 1 fs)) _ _
     (rw (un, dr) (c .before .read-point .ensures start)))
 
 pub point-line-spec : {M : Type 1} → statement M

@@ -88,7 +88,7 @@ returns c =
     let b = a .model .now in
     let m = c .before .opening-line in
     let p = c .plain-step in
-    plain-frame b (a .s) (a .l .now) (a .marks .now) (a .due) frame.Opening (c .before .before .enum-told .given .1) (m .result) (p .result) (m .ensures .1 (modelAt b) b) (p .ensures .0 b) (p .ensures .1 b)
+    plain-frame b (a .state) (a .line .now) (a .marks .now) (a .due) frame.Opening (c .before .before .enum-told .given .1) (m .result) (p .result) (m .ensures .1 (modelAt b) b) (p .ensures .0 b) (p .ensures .1 b)
     (λ rooms text start x. m .ensures .0 (modelAt b) rooms text b start x)
 
 returns-2 : tie.Need-returns-2
@@ -98,7 +98,7 @@ returns-2 c =
     let b = a .model .now in
     let m = c .before .description-line in
     let p = c .plain-step2 in
-    plain-frame b (a .s) (a .l .now) (a .marks .now) (a .due) frame.Description (c .before .before .enum-told2 .given .1) (m .result) (p .result) (m .ensures .1 (modelAt b) b) (p .ensures .0 b) (p .ensures .1 b)
+    plain-frame b (a .state) (a .line .now) (a .marks .now) (a .due) frame.Description (c .before .before .enum-told2 .given .1) (m .result) (p .result) (m .ensures .1 (modelAt b) b) (p .ensures .0 b) (p .ensures .1 b)
     (λ rooms text start x. m .ensures .0 (modelAt b) rooms text b start x)
 
 returns-3 : tie.Need-returns-3
@@ -108,7 +108,7 @@ returns-3 c =
     let b = a .model .now in
     let m = c .before .transfer-line in
     let p = c .plain-step3 in
-    plain-frame b (a .s) (a .l .now) (a .marks .now) (a .due) frame.Transfer (c .before .before .enum-told3 .given .1) (m .result) (p .result) (m .ensures .1) (p .ensures .0 b) (p .ensures .1 b)
+    plain-frame b (a .state) (a .line .now) (a .marks .now) (a .due) frame.Transfer (c .before .before .enum-told3 .given .1) (m .result) (p .result) (m .ensures .1) (p .ensures .0 b) (p .ensures .1 b)
     (λ rooms text start x. m .ensures .0 rooms text start x)
 
 returns-4 : tie.Need-returns-4
@@ -118,7 +118,7 @@ returns-4 c =
     let b = a .model .now in
     let m = c .before .model-line in
     let p = c .plain-step4 in
-    plain-frame b (a .s) (a .l .now) (a .marks .now) (a .due) frame.ModelName (c .before .before .enum-told4 .given .1) (m .result) (p .result) (m .ensures .1) (p .ensures .0 b) (p .ensures .1 b)
+    plain-frame b (a .state) (a .line .now) (a .marks .now) (a .due) frame.ModelName (c .before .before .enum-told4 .given .1) (m .result) (p .result) (m .ensures .1) (p .ensures .0 b) (p .ensures .1 b)
     (λ rooms text start x. m .ensures .0 rooms text start x)
 
 same-length : tie.Need-same-length
@@ -133,7 +133,7 @@ returns-5 c =
     let e = c .before .before .before .before .before .before .due .given in
     let m = c .before .before .before .topic-line in
     let p = c .before .before .marked-step in
-    marked-frame b (a .s) (a .l .now) (a .marks .now) (a .due) (frame.Topic (e .0 .0)) (e .1) (m .result) (p .result) (m .ensures .1) _ (a .shape .topics) (q .pre .0 .placed .topics) (p .ensures .0 b) (p .ensures .1 b)
+    marked-frame b (a .state) (a .line .now) (a .marks .now) (a .due) (frame.Topic (e .0 .0)) (e .1) (m .result) (p .result) (m .ensures .1) _ (a .shape .topics) (q .pre .0 .placed .topics) (p .ensures .0 b) (p .ensures .1 b)
     (m .ensures .0)
 
 same-length-2 : tie.Need-same-length-2
@@ -148,7 +148,7 @@ returns-6 c =
     let e = c .before .before .before .before .before .before .due2 .given in
     let m = c .before .before .before .table-line in
     let p = c .before .before .marked-step2 in
-    marked-frame b (a .s) (a .l .now) (a .marks .now) (a .due) (frame.Table (e .0 .0) (e .0 .1 .0)) (e .1) (m .result) (p .result) (m .ensures .1) _ (a .shape .topics) (q .pre .0 .placed .topics) (p .ensures .0 b) (p .ensures .1 b)
+    marked-frame b (a .state) (a .line .now) (a .marks .now) (a .due) (frame.Table (e .0 .0) (e .0 .1 .0)) (e .1) (m .result) (p .result) (m .ensures .1) _ (a .shape .topics) (q .pre .0 .placed .topics) (p .ensures .0 b) (p .ensures .1 b)
     (m .ensures .0)
 
 returns-7 : tie.Need-returns-7
@@ -158,14 +158,14 @@ returns-7 c =
     let b = a .model .now in
     let m = c .before .closing-line in
     let p = c .plain-step5 in
-    plain-frame b (a .s) (a .l .now) (a .marks .now) (a .due) frame.Closing (c .before .before .enum-told5 .given .1) (m .result) (p .result) (m .ensures .1 (modelAt b) b) (p .ensures .0 b) (p .ensures .1 b)
+    plain-frame b (a .state) (a .line .now) (a .marks .now) (a .due) frame.Closing (c .before .before .enum-told5 .given .1) (m .result) (p .result) (m .ensures .1 (modelAt b) b) (p .ensures .0 b) (p .ensures .1 b)
     (λ rooms text start x. m .ensures .0 (modelAt b) rooms text b start x)
 
 returns-8 : tie.Need-returns-8
 unfolding lineDue frameDueOf
 returns-8 c =
     let a = c .before .before .before .before .before .before .args in
-    ((λ rooms text start rows cells points. by-frame (modelAt (a .model .now)) rooms text (a .due) frame.Nothing (a .l .now) _ _ _ (c .enum-told6 .given .1) refl), (λ text seed rows cells points index h. tt))
+    ((λ rooms text start rows cells points. by-frame (modelAt (a .model .now)) rooms text (a .due) frame.Nothing (a .line .now) _ _ _ (c .enum-told6 .given .1) refl), (λ text seed rows cells points index h. tt))
 
 pub frame-line-spec : {M : Type 1} → statement M
 frame-line-spec =

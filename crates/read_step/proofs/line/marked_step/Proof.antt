@@ -23,15 +23,15 @@ returns c =
     let a = c .before .before .before .before .before .before .before .before .args in
     let e = c .before .before .before .before .before .moved .given in
     let m = c .before .before .mark-due in (
-      (λ b rows cells points. marked-to (a .topics) (e .0 .0) (a .marks .now) (m .last .0) (m .ensures) b (a .moved) (e .1) (a .s) rows cells points),
-      (λ b text seed rows cells points index d h. next-holds b text seed (a .s) (a .moved) (e .0 .0) (a .marks .now) (m .last .0) rows cells points index (e .1) (marks-kept (a .topics) (e .0 .0) (a .marks .now) (m .last .0) (m .ensures)) d h),
+      (λ b rows cells points. marked-to (a .topics) (e .0 .0) (a .marks .now) (m .last .0) (m .ensures) b (a .moved) (e .1) (a .state) rows cells points),
+      (λ b text seed rows cells points index d h. next-holds b text seed (a .state) (a .moved) (e .0 .0) (a .marks .now) (m .last .0) rows cells points index (e .1) (marks-kept (a .topics) (e .0 .0) (a .marks .now) (m .last .0) (m .ensures)) d h),
     )
 
 returns-2 : tie.Need-returns-2
 returns-2 c =
     let a = c .before .before .before .before .args in
     let e = c .before .moved2 .given in
-    ((λ b rows cells points. marked-no b (a .topics) (a .moved) (e .0 .0) (e .0 .1 .0) (contentOf (length (a .marks .now)) (a .s) (a .marks .now) rows cells points) (e .1)), (λ b text seed rows cells points index d h. tt))
+    ((λ b rows cells points. marked-no b (a .topics) (a .moved) (e .0 .0) (e .0 .1 .0) (contentOf (length (a .marks .now)) (a .state) (a .marks .now) rows cells points) (e .1)), (λ b text seed rows cells points index d h. tt))
 
 pub marked-step-spec : {M : Type 1} → statement M
 marked-step-spec =

@@ -46,7 +46,7 @@ returns c =
     let m = c .before .behind-objects in
     record {
       step = λ k rooms marks points er ec fits.
-          let x = contentOf k (a .s) marks (a .rows .now) (a .cells .now) points in
+          let x = contentOf k (a .state) marks (a .rows .now) (a .cells .now) points in
           c .plain-step .ensures .0 b k marks (a .rows .now) (a .cells .now) points
           ∙ m .ensures .0 rooms (a .text .now) (a .at) x
           ∙ object-none (modelAt b) rooms (a .text .now) l (q .head-of .result) (q .head-of .ensures) (a .table) (a .at) x (c .before .before .before .if1 .taken);
@@ -91,7 +91,7 @@ returns-2 c =
     let b = a .model .now in
     let l = stretch (a .text .now) (a .at) (a .end - a .at) in
     let h = q .head-of in
-    adds-as b (a .text .now) (a .seed) (a .s) _ _ (a .rows .now) _ (a .cells .now) _ (a .index .now) _ _
+    adds-as b (a .text .now) (a .seed) (a .state) _ _ (a .rows .now) _ (a .cells .now) _ (a .index .now) _ _
     (λ rooms x. object-here (modelAt b) rooms (a .text .now) l (h .result) (h .ensures) (a .table) (a .at) x (c .before .before .before .before .before .before .before .before .before .before .if1 .left))
     (c .before .before .before .before .before .object-fields .ensures)
 

@@ -16,15 +16,15 @@ returns : tie.Need-returns
 returns c =
     let a = c .before .before .before .args in
     let e = c .before .moved .given in (
-      (λ b k marks rows cells points. moved-to b (a .moved) (e .0 .0) (contentOf k (a .s) marks rows cells points) (e .1)),
-      (λ b text seed marks rows cells points index m h. next-holds b text seed (a .s) (a .moved) (e .0 .0) marks marks rows cells points index (e .1) refl m h),
+      (λ b k marks rows cells points. moved-to b (a .moved) (e .0 .0) (contentOf k (a .state) marks rows cells points) (e .1)),
+      (λ b text seed marks rows cells points index m h. next-holds b text seed (a .state) (a .moved) (e .0 .0) marks marks rows cells points index (e .1) refl m h),
     )
 
 returns-2 : tie.Need-returns-2
 returns-2 c =
     let a = c .before .before .before .args in
     let e = c .before .moved2 .given in
-    ((λ b k marks rows cells points. moved-no b (a .moved) (e .0 .0) (e .0 .1 .0) (contentOf k (a .s) marks rows cells points) (e .1)), (λ b text seed marks rows cells points index m h. tt))
+    ((λ b k marks rows cells points. moved-no b (a .moved) (e .0 .0) (e .0 .1 .0) (contentOf k (a .state) marks rows cells points) (e .1)), (λ b text seed marks rows cells points index m h. tt))
 
 pub plain-step-spec : {M : Type 1} → statement M
 plain-step-spec = tie.close (tie.spec enum-known-moved enum-known-moved-2 returns returns-2)

@@ -20,7 +20,7 @@ object-line-requires c κs =
     let b = a .model .now in
     let h = q .pre .1 .1 in
     let p = q .pre .0 .placed in
-    let d = subst (DueHolds (modelAt b) b (a .rows .now) (a .s .rows) (a .s .cells) (a .s .points)) (c .before .before .before .before .due .given .1) (h .due) in
+    let d = subst (DueHolds (modelAt b) b (a .rows .now) (a .state .rows) (a .state .cells) (a .state .points)) (c .before .before .before .before .due .given .1) (h .due) in
     (p, (omega (arith, d, p .tables), (q .pre .1 .0, h .objects)))
 
 enum-known-due-2 : tie.Need-enum-known-due-2
@@ -40,7 +40,7 @@ attribute-line-requires c κs =
     let q = c .before .before .before .before .before .before .before .before .before .before .before .before in
     let a = q .args in
     let e = c .before .before .before .before .due2 .given in
-    given (a .model .now) (a .text .now) (a .seed) (a .s) (a .marks .now) (a .rows .now) (a .cells .now) (a .points .now) (a .index .now) (e .0 .0) (a .shape .undefined) (e .1)
+    given (a .model .now) (a .text .now) (a .seed) (a .state) (a .marks .now) (a .rows .now) (a .cells .now) (a .points .now) (a .index .now) (e .0 .0) (a .shape .undefined) (e .1)
     (sym (q .pre .0 .placed .undefined)) (q .pre .1 .1)
 
 enum-known-due-3 : tie.Need-enum-known-due-3
@@ -60,7 +60,7 @@ frame-line-requires c κs =
     let q = c .before .before .before .before .before .before .before .before .before .before .before in
     let a = q .args in
     let b = a .model .now in
-    (q .pre .0, subst (DueHolds (modelAt b) b (a .rows .now) (a .s .rows) (a .s .cells) (a .s .points)) (c .before .before .before .due3 .given .1) (q .pre .1 .1 .due))
+    (q .pre .0, subst (DueHolds (modelAt b) b (a .rows .now) (a .state .rows) (a .state .cells) (a .state .points)) (c .before .before .before .due3 .given .1) (q .pre .1 .1 .due))
 
 same-length : tie.Need-same-length
 same-length c = search needs
@@ -76,7 +76,7 @@ returns c =
     let q = c .before .before .before .before .before .before .before .before .before .before .before .before .before .before .before .before .before .before in
     let a = q .args in
     let e = c .before .before .before .before .before .before .before .before .before .before .due .given in
-    object-steps (a .model .now) (a .text .now) (a .seed) (a .s) (a .at) (a .end - a .at) (a .marks .now) (a .rows .now) (a .cells .now) (a .points .now) (a .index .now) (q .pre .1 .1) (e .0 .0) _ _ _ _ (e .1)
+    object-steps (a .model .now) (a .text .now) (a .seed) (a .state) (a .at) (a .end - a .at) (a .marks .now) (a .rows .now) (a .cells .now) (a .points .now) (a .index .now) (q .pre .1 .1) (e .0 .0) _ _ _ _ (e .1)
     (c .before .before .before .before .before .object-line .ensures)
 
 same-length-4 : tie.Need-same-length-4
@@ -90,7 +90,7 @@ returns-2 c =
     let q = c .before .before .before .before .before .before .before .before .before .before .before .before .before .before .before in
     let a = q .args in
     let e = c .before .before .before .before .before .before .before .due2 .given in
-    line-steps (a .model .now) (a .text .now) (a .seed) (a .s) (a .at) (a .end - a .at) (a .marks .now) (a .rows .now) (a .cells .now) (a .points .now) (a .index .now) (q .pre .1 .1) (e .0 .0) _ _ _ (e .1)
+    line-steps (a .model .now) (a .text .now) (a .seed) (a .state) (a .at) (a .end - a .at) (a .marks .now) (a .rows .now) (a .cells .now) (a .points .now) (a .index .now) (q .pre .1 .1) (e .0 .0) _ _ _ (e .1)
     (c .before .before .attribute-line .ensures)
 
 same-length-6 : tie.Need-same-length-6
@@ -102,7 +102,7 @@ returns-3 c =
     let a = q .args in
     let e = c .before .before .before .before .before .before .due3 .given in
     let f = c .before .before .frame-line in
-    frame-steps (a .model .now) (a .text .now) (a .seed) (a .s) (a .at) (a .end - a .at) (a .marks .now) (a .rows .now) (a .cells .now) (a .points .now) (a .index .now) (q .pre .1 .1) (e .0 .0) _ (f .result) (e .1)
+    frame-steps (a .model .now) (a .text .now) (a .seed) (a .state) (a .at) (a .end - a .at) (a .marks .now) (a .rows .now) (a .cells .now) (a .points .now) (a .index .now) (q .pre .1 .1) (e .0 .0) _ (f .result) (e .1)
     (f .ensures)
 
 pub step-line-spec : {M : Type 1} → statement M

@@ -16,7 +16,7 @@ slice-relend-prefix-resolve-references c = search needs
 slice-aggregate-resolve-references : tie.Need-slice-aggregate-resolve-references
 slice-aggregate-resolve-references c =
     let q = c .before .before .before .before .before .before in
-    sym (length-take-le (q .args .s .cells) (q .args .cells .now) (q .pre .0 .cells-in))
+    sym (length-take-le (q .args .state .cells) (q .args .cells .now) (q .pre .0 .cells-in))
 
 resolve-references-requires : tie.Need-resolve-references-requires
 resolve-references-requires c κs =
@@ -25,8 +25,8 @@ resolve-references-requires c κs =
     let h = q .pre .0 in (
       q .pre .1 .1,
       (
-        first-held (a .seed) (a .text .now) (a .s .rows) (a .s .cells) (a .rows .now) (a .cells .now) (a .index .now) h,
-        first-laid (a .seed) (a .text .now) (a .s .rows) (a .s .cells) (a .rows .now) (a .cells .now) (a .index .now) h (modelAt (a .model .now)) (q .pre .1 .0),
+        first-held (a .seed) (a .text .now) (a .state .rows) (a .state .cells) (a .rows .now) (a .cells .now) (a .index .now) h,
+        first-laid (a .seed) (a .text .now) (a .state .rows) (a .state .cells) (a .rows .now) (a .cells .now) (a .index .now) h (modelAt (a .model .now)) (q .pre .1 .0),
       ),
     )
 
@@ -48,8 +48,8 @@ returns c =
     let lent = r .last .1 .1 .1 .1 .1 .0 in
     let k = r .kept .1 .1 .1 .1 .1 .0 in
     let e = sym (ap (λ (d : Resolved). resolvedOf d lent) (c .enum-told .given .1)) ∙ r .ensures in (
-      λ rooms marks points p. resolved-read (modelAt (a .model .now)) rooms (a .text .now) marks (a .rows .now) (a .cells .now) points (a .s .rows) (a .s .cells) (a .s .points) lent k (h .cells-in) e,
-      λ points p. resolved-fits (a .rows .now) (a .cells .now) lent points (a .s .rows) (a .s .cells) (a .s .points) (h .known .listed .in-rows) (h .cells-in) p k,
+      λ rooms marks points p. resolved-read (modelAt (a .model .now)) rooms (a .text .now) marks (a .rows .now) (a .cells .now) points (a .state .rows) (a .state .cells) (a .state .points) lent k (h .cells-in) e,
+      λ points p. resolved-fits (a .rows .now) (a .cells .now) lent points (a .state .rows) (a .state .cells) (a .state .points) (h .known .listed .in-rows) (h .cells-in) p k,
     )
 
 same-length-2 : tie.Need-same-length-2
@@ -60,7 +60,7 @@ returns-2 c =
     let a = c .before .before .before .before .before .before .before .before .before .before .before .args in
     let r = c .before .before .before .before .resolve-references in
     let e = sym (ap (λ (d : Resolved). resolvedOf d (r .last .1 .1 .1 .1 .1 .0)) (c .before .done .given .1)) ∙ r .ensures in (
-      λ rooms marks points p. unresolved-read (modelAt (a .model .now)) rooms (a .text .now) marks (a .rows .now) (a .cells .now) points (a .s .rows) (a .s .cells) (a .s .points) _ _ e,
+      λ rooms marks points p. unresolved-read (modelAt (a .model .now)) rooms (a .text .now) marks (a .rows .now) (a .cells .now) points (a .state .rows) (a .state .cells) (a .state .points) _ _ e,
       λ points p. tt,
     )
 

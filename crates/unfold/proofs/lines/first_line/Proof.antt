@@ -14,11 +14,11 @@ use denote.Ref.{now}
 use Rattle.unfold.proofs.lines.first_line.Statement.{statement}
 use Rattle.unfold.proofs.lines.first_line.Tie as tie
 
-ends-at : (c : tie.After-end-len) → c .end-len .result ≡ endLen (drop (c .before .before .permitted-run .result) (now (c .before .before .before .before .args .f)))
-ends-at c = c .end-len .ensures ∙ ap endLen (to-end (now (c .before .before .before .before .args .f)) (c .before .before .permitted-run .result))
+ends-at : (c : tie.After-end-len) → c .end-len .result ≡ endLen (drop (c .before .before .permitted-run .result) (now (c .before .before .before .before .args .rest)))
+ends-at c = c .end-len .ensures ∙ ap endLen (to-end (now (c .before .before .before .before .args .rest)) (c .before .before .permitted-run .result))
 
-found : (c : tie.Else1) → let f = now (c .before .before .before .before .before .args .f) in let n = c .before .before .before .permitted-run .result in LineOf f n (n + c .before .end-len .result) × (every permitted (take n f) ≡ true)
-found c = line-permitted (now (c .before .before .before .before .before .args .f)) (c .before .before .before .permitted-run .result) (c .before .end-len .result) (c .before .before .before .permitted-run .ensures) (ends-at (c .before)) (c .if1 .left)
+found : (c : tie.Else1) → let f = now (c .before .before .before .before .before .args .rest) in let n = c .before .before .before .permitted-run .result in LineOf f n (n + c .before .end-len .result) × (every permitted (take n f) ≡ true)
+found c = line-permitted (now (c .before .before .before .before .before .args .rest)) (c .before .before .before .permitted-run .result) (c .before .end-len .result) (c .before .before .before .permitted-run .ensures) (ends-at (c .before)) (c .if1 .left)
 
 permitted-run-requires : tie.Need-permitted-run-requires
 permitted-run-requires c κs = search needs

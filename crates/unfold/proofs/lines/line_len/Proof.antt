@@ -24,7 +24,7 @@ shared-slice-read-if1 c = omega arith
 returns : tie.Need-returns Inv-loop μ-loop
 returns c =
     let at = c .before .before .before in
-    omega (arith, leading-stop noLf (at .before .args .f .now) (at .loop .i) (c .before .before .loop-test .taken) (rw (eq-eqb _ _ (c .if1 .taken))))
+    omega (arith, leading-stop noLf (at .before .args .rest .now) (at .loop .i) (c .before .before .loop-test .taken) (rw (eq-eqb _ _ (c .if1 .taken))))
 
 add-i : tie.Need-add-i Inv-loop μ-loop
 add-i c = omega arith
@@ -35,10 +35,10 @@ loop-less c = omega arith
 loop-again : tie.Need-loop-again Inv-loop μ-loop
 loop-again c =
     let at = c .before .before .before in
-    omega (arith, leading-on noLf (at .before .args .f .now) (at .loop .i) (c .before .before .loop-test .taken) (rw (ne-eqb _ _ (c .if1 .left))))
+    omega (arith, leading-on noLf (at .before .args .rest .now) (at .loop .i) (c .before .before .loop-test .taken) (rw (ne-eqb _ _ (c .if1 .left))))
 
 returns-2 : tie.Need-returns-2 Inv-loop μ-loop
-returns-2 c = omega (arith, leading-end noLf (c .before .before .args .f .now) (c .before .loop .i) (c .loop-test .left))
+returns-2 c = omega (arith, leading-end noLf (c .before .before .args .rest .now) (c .before .loop .i) (c .loop-test .left))
 
 pub line-len-spec : {M : Type 1} → statement M
 line-len-spec = tie.close (tie.spec Inv-loop μ-loop loop-holds shared-slice-read-if1 returns add-i loop-less loop-again returns-2)

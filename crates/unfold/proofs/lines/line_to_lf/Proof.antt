@@ -31,7 +31,7 @@ returns-3 : tie.Need-returns-3
 returns-3 c =
     let at = c .before .before .before .before in
     let s = at .before .before .before in
-    line-not-permitted (s .args .f .now) (at .line-len .result) _ (s .pre) (at .line-len .ensures) (omega arith) (rw (← (c .before .ends-in .ensures)) (c .without-last .ensures))
+    line-not-permitted (s .args .rest .now) (at .line-len .result) _ (s .pre) (at .line-len .ensures) (omega arith) (rw (← (c .before .ends-in .ensures)) (c .without-last .ensures))
 
 pub line-to-lf-spec : {M : Type 1} → statement M
 line-to-lf-spec = tie.close (tie.spec returns line-len-requires returns-2 slice-aggregate-raw ends-in-requires without-last-requires add-t5 returns-3)

@@ -50,7 +50,7 @@ loop-less c = omega arith
 loop-again : tie.Need-loop-again Inv-loop μ-loop
 loop-again c =
     let at = c .before .before .before .before in
-    (omega arith, omega (arith, leading-over permitted (at .before .before .args .f .now) (at .loop .i) 16 (omega arith) (sym (c .before .every-permitted .ensures) ∙ not-false _ (c .if1 .left))))
+    (omega arith, omega (arith, leading-over permitted (at .before .before .args .rest .now) (at .loop .i) 16 (omega arith) (sym (c .before .every-permitted .ensures) ∙ not-false _ (c .if1 .left))))
 
 returns-2 : tie.Need-returns-2 Inv-loop μ-loop
 returns-2 c = (omega arith, c .before .loop .inv .1)

@@ -32,7 +32,7 @@ is-permitted-requires c κs = search needs
 returns : tie.Need-returns Inv-loop μ-loop
 returns c =
     let at = c .before .before .before .before in
-    omega (arith, leading-stop permitted (at .before .before .before .args .f .now) (at .loop .i) (omega arith) (sym (c .before .is-permitted .ensures) ∙ not-true _ (c .if1 .taken)))
+    omega (arith, leading-stop permitted (at .before .before .before .args .rest .now) (at .loop .i) (omega arith) (sym (c .before .is-permitted .ensures) ∙ not-true _ (c .if1 .taken)))
 
 add-i : tie.Need-add-i Inv-loop μ-loop
 add-i c = omega arith
@@ -43,10 +43,10 @@ loop-less c = omega arith
 loop-again : tie.Need-loop-again Inv-loop μ-loop
 loop-again c =
     let at = c .before .before .before .before in
-    omega (arith, leading-on permitted (at .before .before .before .args .f .now) (at .loop .i) (omega arith) (sym (c .before .is-permitted .ensures) ∙ not-false _ (c .if1 .left)))
+    omega (arith, leading-on permitted (at .before .before .before .args .rest .now) (at .loop .i) (omega arith) (sym (c .before .is-permitted .ensures) ∙ not-false _ (c .if1 .left)))
 
 returns-2 : tie.Need-returns-2 Inv-loop μ-loop
-returns-2 c = omega (arith, leading-end permitted (c .before .before .before .before .args .f .now) (c .before .loop .i) (c .loop-test .left))
+returns-2 c = omega (arith, leading-end permitted (c .before .before .before .before .args .rest .now) (c .before .loop .i) (c .loop-test .left))
 
 pub permitted-run-spec : {M : Type 1} → statement M
 permitted-run-spec = tie.close (tie.spec Inv-loop μ-loop permitted-blocks-requires loop-holds shared-slice-read-is-permitted is-permitted-requires returns add-i loop-less loop-again returns-2)

@@ -14,16 +14,16 @@ use Rattle.unfold.proofs.steps.judge.Statement.{statement}
 use Rattle.unfold.proofs.steps.judge.Tie as tie
 
 -- the tests that did not refuse
-no-3 : (c : tie.Else1) → let a = c .before .before .before .before .before .args in (ends (a .mark) (take (a .len) (now (a .f))) && eqb (a .after) (length (now (a .f)))) ≡ false
+no-3 : (c : tie.Else1) → let a = c .before .before .before .before .before .args in (ends (a .mark) (take (a .len) (now (a .rest))) && eqb (a .after) (length (now (a .rest)))) ≡ false
 no-3 c = rw (← (c .before .before .ends-in .ensures)) (sym (c .before .both .ensures) ∙ c .if1 .left)
 
-no-5 : (c : tie.Else2) → let a = c .before .before .before .before .before .before .before .args in (a .continues && not (prefix cont (take (a .len) (now (a .f))))) ≡ false
+no-5 : (c : tie.Else2) → let a = c .before .before .before .before .before .before .before .args in (a .continues && not (prefix cont (take (a .len) (now (a .rest))))) ≡ false
 no-5 c = sym (c .before .unled .ensures) ∙ c .if2 .left
 
-within : (c : tie.After-skipped) → let a = c .before .before .before .before .before .before .before .before .before .args in c .skipped .result ≤ length (take (a .len) (now (a .f)))
+within : (c : tie.After-skipped) → let a = c .before .before .before .before .before .before .before .before .before .args in c .skipped .result ≤ length (take (a .len) (now (a .rest)))
 within c =
     let a = c .before .before .before .before .before .before .before .before .before .args in
-    rw (c .skipped .ensures) (skip-within (a .continues) (take (a .len) (now (a .f))) (no-5 (c .before .before)))
+    rw (c .skipped .ensures) (skip-within (a .continues) (take (a .len) (now (a .rest))) (no-5 (c .before .before)))
 
 slice-aggregate-l : tie.Need-slice-aggregate-l
 slice-aggregate-l c = simp length-take (omega (arith, c .before .before .pre .0 .inside, c .before .before .pre .0 .within))

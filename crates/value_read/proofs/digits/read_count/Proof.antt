@@ -15,7 +15,7 @@ read-digits-requires : tie.Need-read-digits-requires
 read-digits-requires c κs = search needs
 
 returns-3 : tie.Need-returns-3
-returns-3 c = digits-read 1 18 (c .before .before .before .before .args .s .now) _ (c .read-digits .result) (omega arith) (omega arith) (c .read-digits .ensures)
+returns-3 c = digits-read 1 18 (c .before .before .before .before .args .field .now) _ (c .read-digits .result) (omega arith) (omega arith) (c .read-digits .ensures)
 
 pub read-count-spec : {M : Type 1} → statement M
 read-count-spec = tie.close (tie.spec returns returns-2 read-digits-requires returns-3)

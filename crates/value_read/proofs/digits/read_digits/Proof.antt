@@ -33,15 +33,15 @@ is-digit-requires c κs = search needs
 returns : tie.Need-returns Inv-loop μ-loop
 returns c =
     let at = c .before .before .before .before in
-    let s = at .before .before .args .s .now in
+    let s = at .before .before .args .field .now in
     let miss : digit (getD s (at .loop .i) 0) ≡ false = sym (c .before .is-digit .ensures) ∙ not-true _ (c .if1 .taken) in
     sym (at .loop .inv .2) ∙ digit-miss s (at .loop .i) (omega arith) miss
 
 -- the byte read in this turn is a digit
-hit : (c : tie.Else1 Inv-loop μ-loop) → digit (getD (c .before .before .before .before .before .before .args .s .now) (c .before .before .before .before .loop .i) 0) ≡ true
+hit : (c : tie.Else1 Inv-loop μ-loop) → digit (getD (c .before .before .before .before .before .before .args .field .now) (c .before .before .before .before .loop .i) 0) ≡ true
 hit c = sym (c .before .is-digit .ensures) ∙ not-false _ (c .if1 .left)
 
-range : (c : tie.Else1 Inv-loop μ-loop) → (0x30 ≤ getD (c .before .before .before .before .before .before .args .s .now) (c .before .before .before .before .loop .i) 0) × (getD (c .before .before .before .before .before .before .args .s .now) (c .before .before .before .before .loop .i) 0 ≤ 0x39)
+range : (c : tie.Else1 Inv-loop μ-loop) → (0x30 ≤ getD (c .before .before .before .before .before .before .args .field .now) (c .before .before .before .before .loop .i) 0) × (getD (c .before .before .before .before .before .before .args .field .now) (c .before .before .before .before .loop .i) 0 ≤ 0x39)
 range c = digit-range _ (hit c)
 
 mul-v : tie.Need-mul-v Inv-loop μ-loop
@@ -65,7 +65,7 @@ loop-less c = omega arith
 loop-again : tie.Need-loop-again Inv-loop μ-loop
 loop-again c =
     let at = c .before .before .before .before in
-    let s = at .before .before .args .s .now in
+    let s = at .before .before .args .field .now in
     let i = at .loop .i in
     let h : i < length s = omega arith in (
       omega arith,
@@ -77,7 +77,7 @@ loop-again c =
 returns-2 : tie.Need-returns-2 Inv-loop μ-loop
 returns-2 c =
     let at = c .before in
-    let s = at .before .before .args .s .now in
+    let s = at .before .before .args .field .now in
     let e : at .loop .i ≡ length s = omega arith in
     (sym (at .loop .inv .2) ∙ every-none digit s (at .loop .i) (omega arith), digit-end s (at .loop .i) _ _ e (at .loop .inv .1))
 

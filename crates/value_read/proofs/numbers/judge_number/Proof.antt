@@ -16,14 +16,14 @@ returns : tie.Need-returns
 unfolding refuse
 returns c =
     let s = c .before .before in
-    let e : c .before .is-within .result ≡ within (componentOf (s .args .c)) (s .args .v) = rw (toZ-ofZ w64 (s .args .v) (s .fits .v)) at (c .before .is-within .ensures) in
+    let e : c .before .is-within .result ≡ within (componentOf (s .args .component)) (s .args .v) = rw (toZ-ofZ w64 (s .args .v) (s .fits .v)) at (c .before .is-within .ensures) in
     rw (toZ-ofZ w64 (s .args .v) (s .fits .v)) (rw (sym e ∙ c .if1 .taken))
 
 returns-2 : tie.Need-returns-2
 unfolding refuse
 returns-2 c =
     let s = c .before .before in
-    let e : c .before .is-within .result ≡ within (componentOf (s .args .c)) (s .args .v) = rw (toZ-ofZ w64 (s .args .v) (s .fits .v)) at (c .before .is-within .ensures) in
+    let e : c .before .is-within .result ≡ within (componentOf (s .args .component)) (s .args .v) = rw (toZ-ofZ w64 (s .args .v) (s .fits .v)) at (c .before .is-within .ensures) in
     rw (sym e ∙ c .if1 .left)
 
 pub judge-number-spec : {M : Type 1} → statement M

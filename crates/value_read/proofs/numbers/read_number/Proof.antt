@@ -40,8 +40,8 @@ with-sign-requires c κs =
     let a = c .before .before .before .before .before .before .before .before .args in
     let s : List ℕ = a .field .now in
     let e = rw (to-end s (c .before .before .before .before .before .before .sign-size .result), c .before .before .before .before .before .before .sign-size .ensures .1) at (c .before .before .before .before .read-unsigned .ensures) in
-    let r = subst (Reads (isNumber (a .c .decimals) (unsigned s)) (digitsValue (numberDigits (a .c .decimals) (unsigned s)))) (c .before .before .n .given .1) e in
-    omega (arith, r .1, number-small (a .c .decimals) (unsigned s) (r .0))
+    let r = subst (Reads (isNumber (a .component .decimals) (unsigned s)) (digitsValue (numberDigits (a .component .decimals) (unsigned s)))) (c .before .before .n .given .1) e in
+    omega (arith, r .1, number-small (a .component .decimals) (unsigned s) (r .0))
 
 judge-number-requires : tie.Need-judge-number-requires
 judge-number-requires c κs = search needs
@@ -54,18 +54,18 @@ returns c =
     let a = c .before .before .before .before .before .before .before .before .before .before .args in
     let s : List ℕ = a .field .now in
     let e = rw (to-end s (c .before .before .before .before .before .before .before .before .sign-size .result), c .before .before .before .before .before .before .before .before .sign-size .ensures .1) at (c .before .before .before .before .before .before .read-unsigned .ensures) in
-    let r = subst (Reads (isNumber (a .c .decimals) (unsigned s)) (digitsValue (numberDigits (a .c .decimals) (unsigned s)))) (c .before .before .before .before .n .given .1) e in
+    let r = subst (Reads (isNumber (a .component .decimals) (unsigned s)) (digitsValue (numberDigits (a .component .decimals) (unsigned s)))) (c .before .before .before .before .n .given .1) e in
     let v = c .before .with-sign .result in
     let w = rw (c .before .before .is-negative .ensures) at (c .before .with-sign .ensures) in
     let j = rw (toZ-ofZ w64 v (record { sfits = c .before .with-sign .ok })) at (c .judge-number .ensures) in
-    j ∙ number-read (componentOf (a .c)) s _ v r w
+    j ∙ number-read (componentOf (a .component)) s _ v r w
 
 returns-2 : tie.Need-returns-2
 returns-2 c =
     let a = c .before .before .before .before .before .before .args in
     let s : List ℕ = a .field .now in
     let e = rw (to-end s (c .before .before .before .before .sign-size .result), c .before .before .before .before .sign-size .ensures .1) at (c .before .before .read-unsigned .ensures) in
-    number-none (componentOf (a .c)) s (subst (Reads (isNumber (a .c .decimals) (unsigned s)) (digitsValue (numberDigits (a .c .decimals) (unsigned s)))) (c .enum-told .given .1) e)
+    number-none (componentOf (a .component)) s (subst (Reads (isNumber (a .component .decimals) (unsigned s)) (digitsValue (numberDigits (a .component .decimals) (unsigned s)))) (c .enum-told .given .1) e)
 
 pub read-number-spec : {M : Type 1} → statement M
 read-number-spec =

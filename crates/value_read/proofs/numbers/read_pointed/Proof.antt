@@ -41,10 +41,10 @@ returns-3 : tie.Need-returns-3
 returns-3 c = pointed-other _ _ (c .before .before .before .before .before .pre .0) (c .if3 .taken)
 
 slice-aggregate-read-digits : tie.Need-slice-aggregate-read-digits
-slice-aggregate-read-digits c = let s = c .before .before .before .before .before .before .args .s .now in sym (length-take-le _ s (omega arith))
+slice-aggregate-read-digits c = let s = c .before .before .before .before .before .before .args .field .now in sym (length-take-le _ s (omega arith))
 
 read-digits-requires : tie.Need-read-digits-requires
-read-digits-requires c κs = let s = c .before .before .before .before .before .before .args .s .now in (omega arith, rw (length-take-le (whole (c .before .before .before .before .before .before .args .decimals) s) s (omega arith)) (omega arith))
+read-digits-requires c κs = let s = c .before .before .before .before .before .before .args .field .now in (omega arith, rw (length-take-le (whole (c .before .before .before .before .before .before .args .decimals) s) s (omega arith)) (omega arith))
 
 enum-known-n : tie.Need-enum-known-n
 enum-known-n c = search needs
@@ -64,7 +64,7 @@ part-read-digits-end c = search needs
 read-digits-requires-2 : tie.Need-read-digits-requires-2
 read-digits-requires-2 c κs =
     let a = c .before .before .before .before .before .before .before .before .before .before .before .args in
-    let s : List ℕ = a .s .now in
+    let s : List ℕ = a .field .now in
     let w : ℕ = whole (a .decimals) s in
     let l : length (take w s) ≡ w = length-take-le w s (omega arith) in
     let r = subst (Reads (every digit (take w s)) (digitsValue (take w s))) (c .before .before .n .given .1) (c .before .before .before .before .read-digits .ensures) in
@@ -77,7 +77,7 @@ enum-told c = search needs
 returns-4 : tie.Need-returns-4
 returns-4 c =
     let a = c .before .before .before .before .before .before .before .before .before .before .before .before .args in
-    let s : List ℕ = a .s .now in
+    let s : List ℕ = a .field .now in
     let w : ℕ = whole (a .decimals) s in
     let r = subst (Reads (every digit (take w s)) (digitsValue (take w s))) (c .before .before .before .n .given .1) (c .before .before .before .before .before .read-digits .ensures) in
     pointed-read (a .decimals) s (c .before .before .before .before .before .before .before .before .before .before .before .before .pre .0) (omega arith) (omega arith) (c .before .before .before .before .before .before .before .if3 .left) _ (c .read-digits2 .result) r (rw (to-end s (w + 1)) at (c .read-digits2 .ensures))
@@ -85,7 +85,7 @@ returns-4 c =
 returns-5 : tie.Need-returns-5
 returns-5 c =
     let a = c .before .before .before .before .before .before .before .before .before .args in
-    let s : List ℕ = a .s .now in
+    let s : List ℕ = a .field .now in
     let w : ℕ = whole (a .decimals) s in
     pointed-none (a .decimals) s (c .before .before .before .before .before .before .before .before .before .pre .0) (omega arith) (omega arith) (c .before .before .before .before .if3 .left)
     (subst (Reads (every digit (take w s)) (digitsValue (take w s))) (c .enum-told .given .1) (c .before .before .read-digits .ensures))

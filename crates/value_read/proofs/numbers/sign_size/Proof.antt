@@ -13,10 +13,10 @@ shared-slice-read-b : tie.Need-shared-slice-read-b
 shared-slice-read-b c = search needs
 
 returns-2 : tie.Need-returns-2
-returns-2 c = (omega arith, unsigned-sign (c .before .before .before .args .s .now) (omega arith) (c .match .keys1))
+returns-2 c = (omega arith, unsigned-sign (c .before .before .before .args .field .now) (omega arith) (c .match .keys1))
 
 returns-3 : tie.Need-returns-3
-returns-3 c = (omega arith, unsigned-plain (c .before .before .before .args .s .now) (omega arith) (λ e. c .match .rest .1 (inl e)) (λ e. c .match .rest .1 (inr e)))
+returns-3 c = (omega arith, unsigned-plain (c .before .before .before .args .field .now) (omega arith) (λ e. c .match .rest .1 (inl e)) (λ e. c .match .rest .1 (inr e)))
 
 pub sign-size-spec : {M : Type 1} → statement M
 sign-size-spec = tie.close (tie.spec returns shared-slice-read-b returns-2 returns-3)

@@ -5,7 +5,7 @@ use mathlib.Core.List.{List}
 use lib.ListN.{length}
 use Rattle.meaning.specs.Model.{tableAt}
 use Rattle.model_records.specs.Records.{modelAt}
-use Rattle.model_records.specs.Places.{Placed}
+use Rattle.model_records.specs.Places.{RecordsPlaced}
 use Rattle.write_file.proofs.Topics.{TopicRun, topic-start, topic-on, topic-stop, topic-end}
 use borrow.Author.Needs.{needs}
 use native.Mathlib.Omega.{arith}
@@ -14,7 +14,7 @@ use Rattle.write_file.proofs.file.behind_topic.Tie as tie
 
 abbrev Inv-loop : tie.InvT-loop
 Inv-loop places shape rows cells p row i₀ i =
-    (b : List ℕ) → Placed b shape places → TopicRun (modelAt b .tables) p cells rows row i
+    (b : List ℕ) → RecordsPlaced b shape places → TopicRun (modelAt b .tables) p cells rows row i
 
 abbrev μ-loop : tie.MeasureT-loop
 μ-loop places shape rows cells p row i₀ i = length rows - i

@@ -10,10 +10,10 @@ topic-of-requires : tie.Need-topic-of-requires
 topic-of-requires c κs = let q = c .before .before .before .pre in (q .0, omega (arith, q .1, c .if1 .taken))
 
 returns : tie.Need-returns
-returns c = λ b h. c .topic-of .ensures ∙ h .noted .owner (c .before .before .before .before .args .t) (c .before .if1 .taken)
+returns c = λ b h. c .topic-of .ensures ∙ h .noted .owner (c .before .before .before .before .args .table) (c .before .if1 .taken)
 
 returns-2 : tie.Need-returns-2
-returns-2 c = λ b h. no-owner (modelAt b .tables) (c .before .before .before .args .t) (omega (arith, h .tables, c .if1 .left))
+returns-2 c = λ b h. no-owner (modelAt b .tables) (c .before .before .before .args .table) (omega (arith, h .tables, c .if1 .left))
 
 pub owner-of-spec : {M : Type 1} → statement M
 owner-of-spec = tie.close (tie.spec topic-of-requires returns returns-2)

@@ -20,7 +20,7 @@ returns c =
     let q = c .before .before .before .before .before .before .before .before .before .pre in
     let a = c .before .before .before .before .before .before .before .before .before .args in
     let n = c .put-nothing in
-    topic-over (modelAt (now (a .model))) (now (a .text)) (contentIn (now (a .marks)) (now (a .rows)) (now (a .cells)) (now (a .points))) (a .style) (a .p) (a .row) (a .put) (now (a .out)) (omega (arith, q .1 .1 .0, q .0 .topics))
+    topic-over (modelAt (now (a .model))) (now (a .text)) (contentIn (now (a .marks)) (now (a .rows)) (now (a .cells)) (now (a .points))) (a .style) (a .topic) (a .row) (a .put) (now (a .out)) (omega (arith, q .1 .1 .0, q .0 .topics))
     (sym (c .before .before .byte-at .ensures) ∙ c .before .if1 .taken) (q .1 .1 .1) (n .result) (n .ensures (now (a .out)))
 
 then-topic-requires : tie.Need-then-topic-requires
@@ -35,7 +35,7 @@ same-length c = search needs
 returns-2 : tie.Need-returns-2
 returns-2 c = let q = c .before .before .before .before .before .before .before .before .before .before .before .before .before .pre in
     let a = c .before .before .before .before .before .before .before .before .before .before .before .before .before .args in
-    topic-begun (modelAt (now (a .model))) (now (a .text)) (contentIn (now (a .marks)) (now (a .rows)) (now (a .cells)) (now (a .points))) (a .style) (a .p) (a .row) (a .put) (now (a .out)) (omega (arith, q .1 .1 .0, q .0 .topics))
+    topic-begun (modelAt (now (a .model))) (now (a .text)) (contentIn (now (a .marks)) (now (a .rows)) (now (a .cells)) (now (a .points))) (a .style) (a .topic) (a .row) (a .put) (now (a .out)) (omega (arith, q .1 .1 .0, q .0 .topics))
     (λ e. c .before .before .before .before .before .if1 .left (c .before .before .before .before .before .before .byte-at .ensures ∙ e)) _ (c .behind-topic .ensures (now (a .model)) (q .0)) (c .before .before .before .then-topic .ensures)
 
 pub pass-topic-spec : {M : Type 1} → statement M

@@ -19,7 +19,7 @@ returns c =
     let a = c .before .before .before .before .before .before .before .before .before .args in
     let d = c .before .before .is-due in
     let n = c .put-nothing in
-    table-over (now (a .model)) (a .shape) (now (a .places)) (now (a .text)) (contentIn (now (a .marks)) (now (a .rows)) (now (a .cells)) (now (a .points))) (a .style) (a .p) (a .t) (a .row) (a .put) (now (a .out)) (q .0) (q .1 .1 .0) (d .result) (d .ensures)
+    table-over (now (a .model)) (a .shape) (now (a .places)) (now (a .text)) (contentIn (now (a .marks)) (now (a .rows)) (now (a .cells)) (now (a .points))) (a .style) (a .topic) (a .table) (a .row) (a .put) (now (a .out)) (q .0) (q .1 .1 .0) (d .result) (d .ensures)
     (not-true _ (c .before .if1 .taken)) (q .1 .1 .1) (n .result) (n .ensures (now (a .out)))
 
 behind-table-requires : tie.Need-behind-table-requires
@@ -35,7 +35,7 @@ returns-2 : tie.Need-returns-2
 returns-2 c = let q = c .before .before .before .before .before .before .before .before .before .before .before .before .before .pre in
     let a = c .before .before .before .before .before .before .before .before .before .before .before .before .before .args in
     let d = c .before .before .before .before .before .before .is-due in
-    table-due (now (a .model)) (a .shape) (now (a .places)) (now (a .text)) (contentIn (now (a .marks)) (now (a .rows)) (now (a .cells)) (now (a .points))) (a .style) (a .p) (a .t) (a .row) (a .put) (now (a .out)) (q .0) (q .1 .1 .0) (d .result) (d .ensures)
+    table-due (now (a .model)) (a .shape) (now (a .places)) (now (a .text)) (contentIn (now (a .marks)) (now (a .rows)) (now (a .cells)) (now (a .points))) (a .style) (a .topic) (a .table) (a .row) (a .put) (now (a .out)) (q .0) (q .1 .1 .0) (d .result) (d .ensures)
     (not-false _ (c .before .before .before .before .before .if1 .left)) _ (c .before .before .before .before .behind-table .ensures) (c .before .before .then-table .ensures (now (a .marks)))
 
 pub pass-table-spec : {M : Type 1} → statement M

@@ -47,7 +47,7 @@ loop-again c =
     let a = c .before .before .before .before .before .before .before .before .before .before .before .before .before .before .before .args in
     let l = c .before .before .before .before .before .before .before .loop in
     let w = c .before .before .before .pass-table in
-    let turn = tables-on (modelAt (now (a .model))) (now (a .text)) (contentIn (now (a .marks)) (now (a .rows)) (now (a .cells)) (now (a .points))) (a .style) (a .p) (l .t) (l .next) _ _ _ (w .result) (w .ensures) in
+    let turn = tables-on (modelAt (now (a .model))) (now (a .text)) (contentIn (now (a .marks)) (now (a .rows)) (now (a .cells)) (now (a .points))) (a .style) (a .topic) (l .t) (l .next) _ _ _ (w .result) (w .ensures) in
     (w .ensures .within, left-on (l .inv .1) _ _ turn _ (w .result .put) (w .ensures .put))
 
 same-length : tie.Need-same-length Inv-loop μ-loop
@@ -59,7 +59,7 @@ returns c =
     let a = s .args in
     let l = c .before .before .loop in
     let n = c .before .before .before .put-nothing in
-    left-end (l .inv .1) (a .put) (tables-end (modelAt (now (a .model))) (now (a .text)) (contentIn (now (a .marks)) (now (a .rows)) (now (a .cells)) (now (a .points))) (a .style) (a .p) (l .t) _ (omega (arith, c .if1 .left, s .pre .0 .tables))) (n .ensures (now (a .out)))
+    left-end (l .inv .1) (a .put) (tables-end (modelAt (now (a .model))) (now (a .text)) (contentIn (now (a .marks)) (now (a .rows)) (now (a .cells)) (now (a .points))) (a .style) (a .topic) (l .t) _ (omega (arith, c .if1 .left, s .pre .0 .tables))) (n .ensures (now (a .out)))
 
 pub then-tables-spec : {M : Type 1} → statement M
 then-tables-spec =

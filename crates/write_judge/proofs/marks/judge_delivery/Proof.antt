@@ -20,7 +20,7 @@ shared-slice-read-is-fine c = let s = c .before .before .before .before .before 
 shared-slice-read-is-fine-2 : tie.Need-shared-slice-read-is-fine-2
 shared-slice-read-is-fine-2 c =
     let s = c .before .before .before .before .before .before .before .before in
-    rw (c .before .before .before .before .topic-of .ensures) (topic-room _ _ _ _ (s .pre .0) (s .args .t) (s .pre .1))
+    rw (c .before .before .before .before .topic-of .ensures) (topic-room _ _ _ _ (s .pre .0) (s .args .table) (s .pre .1))
 
 is-fine-requires : tie.Need-is-fine-requires
 is-fine-requires c κs = search needs
@@ -29,7 +29,7 @@ returns : tie.Need-returns
 returns c =
     let s = c .before .before .before .before .before .before .before .before .before in
     rw (c .is-fine .ensures, c .before .before .before .before .is-optional .ensures, c .before .before .before .before .before .topic-of .ensures)
-    (delivery-turn _ _ _ _ (s .pre .0) (s .args .t) (s .pre .1))
+    (delivery-turn _ _ _ _ (s .pre .0) (s .args .table) (s .pre .1))
 
 pub judge-delivery-spec : {M : Type 1} → statement M
 judge-delivery-spec =

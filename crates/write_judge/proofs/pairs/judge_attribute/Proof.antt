@@ -79,15 +79,15 @@ returns c = λ marks. let s = c .before .before .before .before .before .before 
 returns-2 : tie.Need-returns-2
 returns-2 c = λ marks. let s = c .before .before .before .before .before .before .before .before in
     rw (type-coordinate (s .args .attribute) (omega arith) (omega arith), c .fine-if .ensures)
-    (c .before .judge-coordinate .ensures (s .args .undefined) (s .args .k) (s .args .text .now) (contentIn marks (s .args .rows .now) (s .args .cells .now) (s .args .points .now)))
+    (c .before .judge-coordinate .ensures (s .args .undefined) (s .args .first) (s .args .text .now) (contentIn marks (s .args .rows .now) (s .args .cells .now) (s .args .points .now)))
 
 returns-3 : tie.Need-returns-3
 unfolding judgePair
 returns-3 c = λ marks. let s = c .before .before .before .before .before .before .before .before .before in
     let j = c .before .before .before .before in
     rw (own-pair (s .args .attribute) (s .pre .0) (no-two j) (no-three j) (c .before .before .before .before .before .match .rest .1), c .fine-if2 .ensures)
-    (ap (λ (x : Bool). fineIf x (s .args .k)) (rw (toZ-ofZ w64 (getD (s .args .cells .now) (s .args .cell) (pos 0)) (record { sfits = c .before .before .before .judge-own-arg .given }), toZ-ofZ w64 (getD (s .args .cells .now) (s .args .cell + 1) (pos 0)) (record { sfits = c .before .before .judge-own-arg2 .given })) at (c .before .judge-own .ensures marks (s .args .points .now)))
-    ∙ pair-alone (s .args .undefined) (s .args .text .now) (contentIn marks (s .args .rows .now) (s .args .cells .now) (s .args .points .now)) _ (s .args .k) (OfAttribute _ (typeOf (s .args .attribute))) (s .args .cell) (s .args .cells .now))
+    (ap (λ (x : Bool). fineIf x (s .args .first)) (rw (toZ-ofZ w64 (getD (s .args .cells .now) (s .args .cell) (pos 0)) (record { sfits = c .before .before .before .judge-own-arg .given }), toZ-ofZ w64 (getD (s .args .cells .now) (s .args .cell + 1) (pos 0)) (record { sfits = c .before .before .judge-own-arg2 .given })) at (c .before .judge-own .ensures marks (s .args .points .now)))
+    ∙ pair-alone (s .args .undefined) (s .args .text .now) (contentIn marks (s .args .rows .now) (s .args .cells .now) (s .args .points .now)) _ (s .args .first) (OfAttribute _ (typeOf (s .args .attribute))) (s .args .cell) (s .args .cells .now))
 
 pub judge-attribute-spec : {M : Type 1} → statement M
 judge-attribute-spec =

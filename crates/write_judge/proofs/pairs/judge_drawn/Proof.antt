@@ -73,8 +73,8 @@ returns-4 c = λ marks rows cells. let s = c .before .before .before .before .be
     let t = toZ-ofZ w64 (s .args .a) (s .fits .a) in
     let z = rw t at (c .before .before .before .before .size-of .ensures) in
     rw (c .fine-if .ensures, c .before .judge-points .ensures)
-    (line-drawn (contentIn marks rows cells (s .args .points .now)) (s .args .k) (s .args .forms) _ (s .args .a) (s .args .b) _ (sym (rw t at (c .before .before .before .before .before .before .before .before .is-below .ensures)) ∙ c .before .before .before .before .before .before .before .if1 .left) (sym (rw (toZ-ofZ w64 (s .args .b) (s .fits .b)) at (c .before .before .before .before .before .before .is-number .ensures)) ∙ not-false _ (c .before .before .before .before .before .if2 .left))
-    _ (ap (λ (x : ℕ). x - 1) z) (omega (arith, s .pre .1)) _ (lent-points (s .args .points .now) _) _ (ap (λ (x : ℕ). s .args .k + (x - 1)) z))
+    (line-drawn (contentIn marks rows cells (s .args .points .now)) (s .args .first) (s .args .forms) _ (s .args .a) (s .args .b) _ (sym (rw t at (c .before .before .before .before .before .before .before .before .is-below .ensures)) ∙ c .before .before .before .before .before .before .before .if1 .left) (sym (rw (toZ-ofZ w64 (s .args .b) (s .fits .b)) at (c .before .before .before .before .before .before .is-number .ensures)) ∙ not-false _ (c .before .before .before .before .before .if2 .left))
+    _ (ap (λ (x : ℕ). x - 1) z) (omega (arith, s .pre .1)) _ (lent-points (s .args .points .now) _) _ (ap (λ (x : ℕ). s .args .first + (x - 1)) z))
 
 pub judge-drawn-spec : {M : Type 1} → statement M
 judge-drawn-spec =
