@@ -57,7 +57,8 @@ fn is_dimension(n: usize) -> bool
 fn are_coordinates(components: Components) -> bool
     requires { ⌜ components .count ≤ 3 ⌝ }
     requires { ⌜ length (components .items) ≡ 3 ⌝ }
-    ensures { λ r. ⌜ r ≡ allOf (isDimension (length (componentsOf components)) ∷ goodComponents (componentsOf components) ∷ []) ⌝ }
+    ensures { λ r. ⌜ (let cs = componentsOf components in
+        r ≡ allOf (isDimension (length cs) ∷ goodComponents cs ∷ [])) ⌝ }
 {
     bools::both(
         is_dimension(components.count),

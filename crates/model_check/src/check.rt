@@ -44,7 +44,8 @@ pub struct Walker {
 fn keeps_topic(model: &[u8], payload: &[u8], seen: &[usize], count: usize) -> bool
     requires { ⌜ count ≤ length (now seen) ⌝ }
     ensures { λ r. ⌜ r
-        ≡ keepsTopic (now (payload .entry)) (topicsSeen (namesOf (now (model .entry)) (take count (now (seen .entry))))) ⌝ }
+        ≡ keepsTopic (now (payload .entry))
+        (topicsSeen (namesOf (now (model .entry)) (take count (now (seen .entry))))) ⌝ }
 {
     names::is_free(model, payload, seen, count, count, 64)
 }

@@ -39,7 +39,8 @@ pub(crate) fn less_one(n: usize) -> usize
 fn is_foreign(places: &[usize], tables: usize, table: usize, topic: usize) -> bool
     requires { ⌜ tables ≤ length (now places) ⌝ }
     ensures { λ r. ⌜
-        ((ts : List Table) → topicNumbers ts ≡ take tables (now (places .entry)) → r ≡ isOutside ts topic (found table)) ⌝ }
+        ((ts : List Table) → topicNumbers ts ≡ take tables (now (places .entry))
+        → r ≡ isOutside ts topic (found table)) ⌝ }
 {
     if tables <= table {
         return true;
@@ -51,8 +52,8 @@ fn is_foreign(places: &[usize], tables: usize, table: usize, topic: usize) -> bo
 fn refers_outside(payload: &[u8], places: &[usize], tables: usize, topic: usize) -> bool
     requires { ⌜ tables ≤ length (now places) ⌝ }
     ensures { λ r. ⌜
-        ((ts : List Table) → topicNumbers ts ≡ take tables (now (places .entry))
-        → r ≡ isOutside ts topic (targetOf (typeOf (byteAt (now (payload .entry)) 1) (drop 2 (now (payload .entry)))))) ⌝ }
+        ((ts : List Table) → topicNumbers ts ≡ take tables (now (places .entry)) → let p = now (payload .entry) in
+        r ≡ isOutside ts topic (targetOf (typeOf (byteAt p 1) (drop 2 p)))) ⌝ }
 {
     if numbers::byte_at(payload, 1) != REFERENCE {
         return false;

@@ -8,7 +8,8 @@ ghost use Rattle.meaning.specs.Model.{flagOf};
 ghost use Rattle.meaning.specs.Check.{good, checkModel};
 ghost use Rattle.model_records.specs.Records.{kindAt, payloadAt, nextAt, modelAt};
 ghost use Rattle.model_records.specs.ComponentsAre.{ComponentsAre};
-ghost use Rattle.model_records.specs.Attributes.{numberOf, countOf, startOf, ParametersFit, PayloadAttribute, RecordAttribute};
+ghost use Rattle.model_records.specs.Attributes.{numberOf, countOf, startOf, ParametersFit};
+ghost use Rattle.model_records.specs.Attributes.{PayloadAttribute, RecordAttribute};
 ghost use Rattle.model_records.specs.AtRecord.{AttributeHere};
 
 pub mod counts;
@@ -139,7 +140,7 @@ pub fn read_dimension(b: u8) -> usize
     if b == 3 { 3 } else { 2 }
 }
 
-// The number among the parameters q of a type of number t.
+// The number among the parameters of a type by its number.
 fn read_number(parameters: &[u8], kind: u8) -> usize
     requires { ⌜ ParametersFit kind (now parameters) ⌝ }
     ensures { λ r. ⌜ r ≡ numberOf kind (now (parameters .entry)) ⌝ }
@@ -173,7 +174,8 @@ fn skip_forms(kind: u8) -> usize
 // The components among the parameters.
 fn read_dimensions(parameters: &[u8], kind: u8) -> Components
     requires { ⌜ ParametersFit kind (now parameters) ⌝ }
-    ensures { λ r. ⌜ ComponentsAre (drop (startOf kind) (now (parameters .entry))) (countOf kind (now (parameters .entry))) r ⌝ }
+    ensures { λ r. ⌜ (let q = now (parameters .entry) in
+        ComponentsAre (drop (startOf kind) q) (countOf kind q) r) ⌝ }
 {
     let count = count_components(parameters, kind);
     let start = skip_forms(kind);

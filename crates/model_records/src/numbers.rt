@@ -59,7 +59,7 @@ fn i64_at(s: &[u8], at: usize) -> i64
     signed(u64_at(s, at))
 }
 
-// "A component is decimals (u8, 0 to 9), least and greatest value (i64 each)": the one that p begins with.
+// "A component is decimals (u8, 0 to 9), least and greatest value (i64 each)": the one that the parameters begin with.
 fn read_component(parameters: &[u8]) -> Component
     requires { ⌜ 17 ≤ length (now parameters) ⌝ }
     ensures { λ r. ⌜ r ≡ declaredOf (componentOf (now (parameters .entry))) ⌝ }
@@ -71,7 +71,7 @@ fn read_component(parameters: &[u8]) -> Component
     }
 }
 
-// The first n components of p as a small array by value; those past the count are zero.
+// The first n components among the parameters as a small array by value; those past the count are zero.
 pub fn read_components(parameters: &[u8], n: usize) -> Components
     requires { ⌜ n ≤ 3 ⌝ }
     requires { ⌜ 17 * n ≤ length (now parameters) ⌝ }

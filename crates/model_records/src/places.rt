@@ -104,7 +104,7 @@ pub fn place_records(model: &[u8], places: &mut [usize]) -> Shape
     }
 }
 
-// The byte of topic p's record.
+// The byte of a topic's record.
 pub fn topic_at(places: &[usize], topic: usize) -> usize
     requires { ⌜ (length (now places) ≡ 1088) × (topic < 64) ⌝ }
     ensures { λ r. ⌜ r ≡ topicPlace (now (places .entry)) topic ⌝ }
@@ -112,7 +112,7 @@ pub fn topic_at(places: &[usize], topic: usize) -> usize
     places[topic]
 }
 
-// The byte of table t's record.
+// The byte of a table's record.
 pub fn table_at(places: &[usize], table: usize) -> usize
     requires { ⌜ (length (now places) ≡ 1088) × (table < 512) ⌝ }
     ensures { λ r. ⌜ r ≡ tablePlace (now (places .entry)) table ⌝ }
@@ -128,7 +128,7 @@ pub fn topic_of(places: &[usize], table: usize) -> usize
     places[576 + table]
 }
 
-// The byte of table t's first attribute record, or of what follows the table where it has none.
+// The byte of a table's first attribute record, or of what follows the table where it has none.
 pub fn attributes_at(model: &[u8], places: &[usize], shape: Shape, table: usize) -> usize
     requires { ⌜ RecordsPlaced (now model) shape (now places) ⌝ }
     requires { ⌜ table < shape .tables ⌝ }
@@ -137,7 +137,7 @@ pub fn attributes_at(model: &[u8], places: &[usize], shape: Shape, table: usize)
     crate::next_at(model, table_at(places, table))
 }
 
-// Whether table t may be left out.
+// Whether a table may be left out.
 pub fn is_optional(model: &[u8], places: &[usize], shape: Shape, table: usize) -> bool
     requires { ⌜ RecordsPlaced (now model) shape (now places) ⌝ }
     requires { ⌜ table < shape .tables ⌝ }

@@ -111,8 +111,8 @@ pub record CursorReady (start : ℕ) (rest : List ℕ) (most : ℕ) (s : RowCurs
   pub room : s .used + most < 2 ^ 64
 
 -- a row filled from s to t: whatever pairs follow, what it meant at s is the values stored and what it means at t
-pub record RowFilled (rest : List ℕ) (most : ℕ) (whole after : List Pair → Cells) (s t : RowCursor) (entry exit : List ℤ)
-    : Type 0 where
+pub record RowFilled (rest : List ℕ) (most : ℕ) (whole after : List Pair → Cells) (s t : RowCursor)
+    (entry exit : List ℤ) : Type 0 where
   pub values : List ℤ
   pub meant : (ps : List Pair) → whole ps ≡ prefixed values (after ps)
   pub used : t .used ≡ s .used + length values

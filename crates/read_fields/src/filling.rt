@@ -218,8 +218,8 @@ fn put_further(
     requires { ⌜ CursorReady start (now rest) 4 cursor ⌝ }
     ensures { λ r. ⌜
         Fills undefined start (now (rest .entry)) 4
-        (goingOver undefined start (now (rest .entry)) (componentPairs (drop 1 (componentsOf components))) cursor) cursor
-        (now (cells .entry)) (now (cells .exit)) r ⌝ }
+        (goingOver undefined start (now (rest .entry)) (componentPairs (drop 1 (componentsOf components))) cursor)
+        cursor (now (cells .entry)) (now (cells .exit)) r ⌝ }
 {
     let count = components.count;
     let items = components.items;
@@ -276,7 +276,8 @@ fn put_coordinate(
     requires { ⌜ CursorReady start (now rest) 6 cursor ⌝ }
     ensures { λ r. ⌜
         Fills undefined start (now (rest .entry)) 6
-        (goingOver undefined start (now (rest .entry)) (pairsOfType optional (Coordinate (componentsOf components))) cursor)
+        (goingOver undefined start (now (rest .entry))
+        (pairsOfType optional (Coordinate (componentsOf components))) cursor)
         cursor (now (cells .entry)) (now (cells .exit)) r ⌝ }
 {
     let count = components.count;
@@ -307,8 +308,9 @@ fn put_own(
     requires { ⌜ length (attribute .components .items) ≡ 3 ⌝ }
     requires { ⌜ CursorReady start (now rest) 6 cursor ⌝ }
     ensures { λ r. ⌜
-        Fills undefined start (now (rest .entry)) 2 (goingOver undefined start (now (rest .entry)) (ownPairs attribute) cursor) cursor
-        (now (cells .entry)) (now (cells .exit)) r ⌝ }
+        Fills undefined start (now (rest .entry)) 2
+        (goingOver undefined start (now (rest .entry)) (ownPairs attribute) cursor)
+        cursor (now (cells .entry)) (now (cells .exit)) r ⌝ }
 {
     let components = attribute.components;
     let items = components.items;
@@ -340,8 +342,8 @@ pub fn put_attribute(
     requires { ⌜ CursorReady start (now rest) 6 cursor ⌝ }
     ensures { λ r. ⌜
         Fills undefined start (now (rest .entry)) 6
-        (goingOver undefined start (now (rest .entry)) (pairsOfType (attribute .optional) (typeOf attribute)) cursor) cursor (now (cells .entry))
-        (now (cells .exit)) r ⌝ }
+        (goingOver undefined start (now (rest .entry)) (pairsOfType (attribute .optional) (typeOf attribute)) cursor)
+        cursor (now (cells .entry)) (now (cells .exit)) r ⌝ }
 {
     let kind = attribute.kind;
     let components = attribute.components;

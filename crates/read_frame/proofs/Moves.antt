@@ -16,11 +16,11 @@ use Rattle.base.specs.Fields.{FirstField}
 use Rattle.read_state.specs.declared.Due.{Due}
 use Rattle.read_state.specs.declared.NextDue.{NextDue}
 use Rattle.read_state.specs.declared.NextDue.the-variants.{To, No}
-use Rattle.read_state.specs.Meaning.{dueOf, movedOf, markedOf}
+use Rattle.read_state.specs.Meaning.{dueOf, nextDueOf, markedOf}
 use Rattle.read_frame.specs.declared.codes.Head.{Head}
 use Rattle.read_frame.specs.Codes.{codes}
 use Rattle.read_frame.specs.Heads.{HeadOf}
-use Rattle.read_frame.specs.Moves.{endIn, aloneIn, namedIn, MovedHolds}
+use Rattle.read_frame.specs.Moves.{endIn, aloneIn, namedIn, NextDueHolds}
 
 -- a table with nothing in it
 abbrev pub nothing-read : Content
@@ -29,7 +29,7 @@ nothing-read = record { marks = []; rows = []; cells = []; points = [] }
 -- ## Refusals
 
 module _ (b : List ℕ) (c : Content) where
-  pub moved-refuse : (t : Bool) (x y : NextDue) → movedOf b (refuse t x y) c ≡ refuse t (movedOf b x c) (movedOf b y c)
+  pub moved-refuse : (t : Bool) (x y : NextDue) → nextDueOf b (refuse t x y) c ≡ refuse t (nextDueOf b x c) (nextDueOf b y c)
   unfolding refuse
   moved-refuse true x y = refl
   moved-refuse false x y = refl
@@ -39,7 +39,7 @@ module _ (b : List ℕ) (c : Content) where
   marked-refuse topics true x y = refl
   marked-refuse topics false x y = refl
 
-pub holds-refuse : (m : Model) (b : List ℕ) (t : Bool) (x y : NextDue) → MovedHolds m b x → MovedHolds m b y → MovedHolds m b (refuse t x y)
+pub holds-refuse : (m : Model) (b : List ℕ) (t : Bool) (x y : NextDue) → NextDueHolds m b x → NextDueHolds m b y → NextDueHolds m b (refuse t x y)
 unfolding refuse
 holds-refuse m b true x y h g = h
 holds-refuse m b false x y h g = g
@@ -88,11 +88,11 @@ module _ (l : List ℕ) (h : Head) (o : HeadOf l h) (i : ℕ) (b : i < 16) (due 
       rw (o .code i b s, eq-eqb (h .code) (i + 1) e, behind-more (fieldsOf s l) 0 k, o .others s) (g (s + h .behind))
 
 module _ (b : List ℕ) (c : Content) (code : List ℕ) (fs : List Field) (due : Due) where
-  pub alone-moved : movedOf b (aloneIn code fs due) c ≡ refuse (not (hasCode code fs)) (no 7 1) (bare fs (go (dueOf b due) c))
+  pub alone-moved : nextDueOf b (aloneIn code fs due) c ≡ refuse (not (hasCode code fs)) (no 7 1) (bare fs (go (dueOf b due) c))
   unfolding aloneIn bare
   alone-moved = moved-refuse b c _ _ _ ∙ ap (refuse (not (hasCode code fs)) (no 7 1)) (moved-refuse b c _ _ _)
 
-  pub alone-holds : (m : Model) → MovedHolds m b (To due) → MovedHolds m b (aloneIn code fs due)
+  pub alone-holds : (m : Model) → NextDueHolds m b (To due) → NextDueHolds m b (aloneIn code fs due)
   unfolding aloneIn
   alone-holds m h = holds-refuse m b _ _ _ tt (holds-refuse m b _ _ _ tt h)
 
@@ -115,13 +115,13 @@ no-name rest name due e s = rw (e s)
 
 -- behind the code of a line
 module _ (b : List ℕ) (c : Content) (name : List ℕ) (fs : List Field) (due : Due) where
-  pub named-moved : 1 ≤ length fs → movedOf b (namedIn name (drop 1 fs) due) c ≡ named name fs (go (dueOf b due) c)
+  pub named-moved : 1 ≤ length fs → nextDueOf b (namedIn name (drop 1 fs) due) c ≡ named name fs (go (dueOf b due) c)
   unfolding namedIn named
   named-moved k =
       rw (behind-more fs 0 k, behind-more fs 1 k, behind-at fs k)
       (moved-refuse b c _ _ _ ∙ ap (refuse _ (no 11 2)) (moved-refuse b c _ _ _ ∙ ap (refuse _ (no 9 2)) (moved-refuse b c _ _ _)))
 
-  pub named-holds : (m : Model) → MovedHolds m b (To due) → MovedHolds m b (namedIn name fs due)
+  pub named-holds : (m : Model) → NextDueHolds m b (To due) → NextDueHolds m b (namedIn name fs due)
   unfolding namedIn
   named-holds m h = holds-refuse m b _ _ _ tt (holds-refuse m b _ _ _ tt (holds-refuse m b _ _ _ tt h))
 

@@ -15,10 +15,10 @@ use Rattle.read_state.specs.declared.FrameDue.the-variants as frame
 use Rattle.read_state.specs.declared.Due.the-variants.{Frame, Object}
 use Rattle.read_state.specs.declared.NextDue.{NextDue}
 use Rattle.read_state.specs.declared.NextDue.the-variants.{To, No}
-use Rattle.read_state.specs.Meaning.{frameDueOf, dueOf, topicMarkedBy, markedBy, movedOf, markedOf}
+use Rattle.read_state.specs.Meaning.{frameDueOf, dueOf, topicMarkedBy, markedBy, nextDueOf, markedOf}
 use Rattle.read_frame.specs.declared.codes.Head.{Head}
 use Rattle.read_frame.specs.Heads.{HeadOf}
-use Rattle.read_frame.specs.Moves.{endIn, aloneIn, MovedHolds}
+use Rattle.read_frame.specs.Moves.{endIn, aloneIn, NextDueHolds}
 use Rattle.read_frame.specs.Finds.{TableAt, TableSkipped, tableIn, topicEndIn}
 use Rattle.read_frame.proofs.Moves.{marked-refuse, holds-refuse, behind-more, behind-at, some-field, alone-moved, alone-holds, has-code, has-not}
 
@@ -46,7 +46,7 @@ module _ (m : Model) (b : List ℕ) (p from : ℕ) (rest : List ℕ) (c : Conten
         rw (some-field rest start len f s, f .first s, h .found, h .owed, behind-more (record { start = s + start; bytes = take len (drop start rest) } ∷ k) 0 (omega arith), g (s + start + len))
         (marked-refuse b c (length (m .topics)) (moreThan 0 k) (No 11 3) (To (Object t)))
 
-pub table-holds : (m : Model) (b : List ℕ) (t : ℕ) → t < length (m .tables) → (r : NextDue) (fs : List Field) → r ≡ endIn 3 fs (Object t) → MovedHolds m b r
+pub table-holds : (m : Model) (b : List ℕ) (t : ℕ) → t < length (m .tables) → (r : NextDue) (fs : List Field) → r ≡ endIn 3 fs (Object t) → NextDueHolds m b r
 unfolding endIn
 table-holds m b t l r fs e = rw e (holds-refuse m b _ _ _ tt (λ rows n used points. l))
 
@@ -62,7 +62,7 @@ module _ (m : Model) (b : List ℕ) (p from : ℕ) (fs : List Field) where
     unfolding topicEndIn endIn frameDueOf dueOf topicMarkedBy markedBy refuse
     topic-ended c e = rw (e, g) (marked-refuse b c (length (m .topics)) (moreThan 0 fs) (No 11 2) (To (Frame (frame.Topic (p + 1)))))
 
-    pub ended-holds : p < length (m .topics) → MovedHolds m b r
+    pub ended-holds : p < length (m .topics) → NextDueHolds m b r
     unfolding endIn
     ended-holds l = rw g (holds-refuse m b _ _ _ tt (λ rows n used points. omega arith))
 
@@ -97,9 +97,9 @@ module _ (m : Model) (rooms : Rooms) (text b : List ℕ) (p from : ℕ) (l : Lis
 
 -- a later table of topic p, which is that of table t, is due
 module _ (m : Model) (b : List ℕ) (p t : ℕ) (fs : List Field) (c : Content) where
-  pub table-closed : p ≡ tableAt (m .tables) t .topic → (rooms : Rooms) (text : List ℕ) → movedOf b (aloneIn ETAB fs (Frame (frame.Table p (t + 1)))) c ≡ behindObjects m rooms text t fs c
+  pub table-closed : p ≡ tableAt (m .tables) t .topic → (rooms : Rooms) (text : List ℕ) → nextDueOf b (aloneIn ETAB fs (Frame (frame.Table p (t + 1)))) c ≡ behindObjects m rooms text t fs c
   unfolding behindObjects frameDueOf dueOf
   table-closed e rooms text = rw (← e) (alone-moved b c ETAB fs (Frame (frame.Table p (t + 1))))
 
-  pub closed-holds : p < length (m .topics) → t < length (m .tables) → MovedHolds m b (aloneIn ETAB fs (Frame (frame.Table p (t + 1))))
+  pub closed-holds : p < length (m .topics) → t < length (m .tables) → NextDueHolds m b (aloneIn ETAB fs (Frame (frame.Table p (t + 1))))
   closed-holds l k = alone-holds b c ETAB fs (Frame (frame.Table p (t + 1))) m (λ rows n used points. (l, omega arith))

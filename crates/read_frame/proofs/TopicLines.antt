@@ -15,10 +15,10 @@ use Rattle.read_state.specs.declared.FrameDue.the-variants as frame
 use Rattle.read_state.specs.declared.Due.the-variants.{Frame}
 use Rattle.read_state.specs.declared.NextDue.{NextDue}
 use Rattle.read_state.specs.declared.NextDue.the-variants.{To, No}
-use Rattle.read_state.specs.Meaning.{frameDueOf, dueOf, topicMarkedBy, markedBy, movedOf, markedOf}
+use Rattle.read_state.specs.Meaning.{frameDueOf, dueOf, topicMarkedBy, markedBy, nextDueOf, markedOf}
 use Rattle.read_frame.specs.declared.codes.Head.{Head}
 use Rattle.read_frame.specs.Heads.{HeadOf}
-use Rattle.read_frame.specs.Moves.{endIn, namedIn, MovedHolds}
+use Rattle.read_frame.specs.Moves.{endIn, namedIn, NextDueHolds}
 use Rattle.read_frame.specs.Finds.{topicIn}
 use Rattle.read_frame.proofs.Moves.{marked-refuse, holds-refuse, behind-more, behind-at, some-field, named-moved, has-code, has-not}
 use Rattle.read_frame.proofs.Finds.{topic-inside}
@@ -44,7 +44,7 @@ module _ (m : Model) (b : List ℕ) (from : ℕ) (rest : List ℕ) (c : Content)
         (marked-refuse b c (length (m .topics)) (moreThan 0 k) (No 11 3) (To (Frame (frame.Table p 0))))
 
 pub topic-holds : (m : Model) (b : List ℕ) (from : ℕ) (name : List ℕ) (p : ℕ) (r : NextDue) (fs : List Field) → findTopic from 0 name (m .topics) ≡ found p
-    → r ≡ endIn 3 fs (Frame (frame.Table p 0)) → MovedHolds m b r
+    → r ≡ endIn 3 fs (Frame (frame.Table p 0)) → NextDueHolds m b r
 unfolding endIn
 topic-holds m b from name p r fs t e =
     let l = topic-inside from name 0 (m .topics) p t in
@@ -79,7 +79,7 @@ module _ (m : Model) (rooms : Rooms) (text b : List ℕ) (from : ℕ) (l : List 
 -- ## MTID and MODL
 
 module _ (m : Model) (rooms : Rooms) (text b : List ℕ) (l : List ℕ) (h : Head) (o : HeadOf l h) (r : NextDue) (c : Content) (s : ℕ) where
-  pub transfer-named : h .code ≡ 3 → ((s : ℕ) → r ≡ namedIn (m .transfer) (fieldsOf s (drop (h .behind) l)) (Frame frame.ModelName)) → movedOf b r c ≡ transferLine m rooms text (fieldsOf s l) c
+  pub transfer-named : h .code ≡ 3 → ((s : ℕ) → r ≡ namedIn (m .transfer) (fieldsOf s (drop (h .behind) l)) (Frame frame.ModelName)) → nextDueOf b r c ≡ transferLine m rooms text (fieldsOf s l) c
   unfolding transferLine frameDueOf dueOf refuse
   transfer-named e g =
       let x : hasCode MOTR (fieldsOf s l) ≡ false = has-not l h o 3 (omega arith) s (λ q. absurd (omega arith)) in
@@ -87,11 +87,11 @@ module _ (m : Model) (rooms : Rooms) (text b : List ℕ) (l : List ℕ) (h : Hea
       let k : 1 ≤ length (fieldsOf s l) = o .some (omega arith) s in
       rw (x, y, g (s + h .behind), ← o .others s) (named-moved b c (m .transfer) (fieldsOf s l) (Frame frame.ModelName) k)
 
-  pub transfer-motr : h .code ≡ 4 → movedOf b (No 8 1) c ≡ transferLine m rooms text (fieldsOf s l) c
+  pub transfer-motr : h .code ≡ 4 → nextDueOf b (No 8 1) c ≡ transferLine m rooms text (fieldsOf s l) c
   unfolding transferLine refuse
   transfer-motr e = let x : hasCode MOTR (fieldsOf s l) ≡ true = has-code l h o 3 (omega arith) s e in rw x
 
-  pub transfer-other : (h .code ≡ 3 → ⊥) → (h .code ≡ 4 → ⊥) → movedOf b (No 7 1) c ≡ transferLine m rooms text (fieldsOf s l) c
+  pub transfer-other : (h .code ≡ 3 → ⊥) → (h .code ≡ 4 → ⊥) → nextDueOf b (No 7 1) c ≡ transferLine m rooms text (fieldsOf s l) c
   unfolding transferLine refuse
   transfer-other e f =
       let x : hasCode MOTR (fieldsOf s l) ≡ false = has-not l h o 3 (omega arith) s f in
@@ -99,13 +99,13 @@ module _ (m : Model) (rooms : Rooms) (text b : List ℕ) (l : List ℕ) (h : Hea
       rw (x, y)
 
   pub model-named : h .code ≡ 5 → ((s : ℕ) → r ≡ namedIn (m .name) (fieldsOf s (drop (h .behind) l)) (Frame (frame.Topic 0)))
-      → movedOf b r c ≡ modelLine m rooms text (fieldsOf s l) c
+      → nextDueOf b r c ≡ modelLine m rooms text (fieldsOf s l) c
   unfolding modelLine frameDueOf dueOf refuse
   model-named e g =
       let y : hasCode MODL (fieldsOf s l) ≡ true = has-code l h o 4 (omega arith) s e in
       let k : 1 ≤ length (fieldsOf s l) = o .some (omega arith) s in
       rw (y, g (s + h .behind), ← o .others s) (named-moved b c (m .name) (fieldsOf s l) (Frame (frame.Topic 0)) k)
 
-  pub model-other : (h .code ≡ 5 → ⊥) → movedOf b (No 7 1) c ≡ modelLine m rooms text (fieldsOf s l) c
+  pub model-other : (h .code ≡ 5 → ⊥) → nextDueOf b (No 7 1) c ≡ modelLine m rooms text (fieldsOf s l) c
   unfolding modelLine refuse
   model-other e = let y : hasCode MODL (fieldsOf s l) ≡ false = has-not l h o 4 (omega arith) s e in rw y

@@ -30,6 +30,6 @@ namedIn name fs due =
     (To due)))
 
 -- what is due behind a line holds, whatever the table's size
-abbrev pub MovedHolds : Model → (b : List ℕ) → NextDue → Type 0
-MovedHolds m b (To due) = (rows : List ℕ) (n used points : ℕ) → DueHolds m b rows n used points due
-MovedHolds m b (No number field) = Unit {0}
+abbrev pub NextDueHolds : Model → (b : List ℕ) → NextDue → Type 0
+NextDueHolds m b (To due) = (rows : List ℕ) (n used points : ℕ) → DueHolds m b rows n used points due
+NextDueHolds m b (No number field) = Unit {0}

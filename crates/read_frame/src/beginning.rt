@@ -6,9 +6,9 @@ ghost use Rattle.meaning.specs.Check.{good, checkModel};
 ghost use Rattle.meaning.specs.Field.{fieldsOf};
 ghost use Rattle.meaning.specs.Reading.{Content, Rooms};
 ghost use Rattle.meaning.specs.Lines.{transferLine, modelLine};
-ghost use Rattle.read_state.specs.Meaning.{movedOf};
+ghost use Rattle.read_state.specs.Meaning.{nextDueOf};
 ghost use Rattle.model_records.specs.Records.{modelAt};
-ghost use Rattle.read_frame.specs.Moves.{MovedHolds};
+ghost use Rattle.read_frame.specs.Moves.{NextDueHolds};
 use crate::codes;
 use crate::lines;
 use read_state::Due;
@@ -20,9 +20,9 @@ pub fn transfer_line(model: &[u8], line: &[u8]) -> NextDue
     requires { ⌜ checkModel (now model) ≡ good (modelAt (now model)) ⌝ }
     ensures meant { λ r. ⌜
         ((rooms : Rooms) (text : List ℕ) (s : ℕ) (c : Content)
-        → movedOf (now (model .entry)) r c
+        → nextDueOf (now (model .entry)) r c
         ≡ transferLine (modelAt (now (model .entry))) rooms text (fieldsOf s (now (line .entry))) c) ⌝ }
-    ensures held { λ r. ⌜ MovedHolds (modelAt (now (model .entry))) (now (model .entry)) r ⌝ }
+    ensures held { λ r. ⌜ NextDueHolds (modelAt (now (model .entry))) (now (model .entry)) r ⌝ }
 {
     let head = codes::head_of(line);
     let behind = head.behind;
@@ -44,9 +44,9 @@ pub fn model_line(model: &[u8], line: &[u8]) -> NextDue
     requires { ⌜ checkModel (now model) ≡ good (modelAt (now model)) ⌝ }
     ensures meant { λ r. ⌜
         ((rooms : Rooms) (text : List ℕ) (s : ℕ) (c : Content)
-        → movedOf (now (model .entry)) r c
+        → nextDueOf (now (model .entry)) r c
         ≡ modelLine (modelAt (now (model .entry))) rooms text (fieldsOf s (now (line .entry))) c) ⌝ }
-    ensures held { λ r. ⌜ MovedHolds (modelAt (now (model .entry))) (now (model .entry)) r ⌝ }
+    ensures held { λ r. ⌜ NextDueHolds (modelAt (now (model .entry))) (now (model .entry)) r ⌝ }
 {
     let head = codes::head_of(line);
     let behind = head.behind;

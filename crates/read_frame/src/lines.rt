@@ -8,9 +8,9 @@ ghost use Rattle.meaning.specs.Model.{Model};
 ghost use Rattle.meaning.specs.Field.{fieldsOf, moreThan};
 ghost use Rattle.meaning.specs.Reading.{Content, Rooms};
 ghost use Rattle.meaning.specs.Lines.{openingLine, descriptionLine, closingLine};
-ghost use Rattle.read_state.specs.Meaning.{movedOf};
+ghost use Rattle.read_state.specs.Meaning.{nextDueOf};
 ghost use Rattle.read_frame.specs.Codes.{codes};
-ghost use Rattle.read_frame.specs.Moves.{endIn, aloneIn, namedIn, MovedHolds};
+ghost use Rattle.read_frame.specs.Moves.{endIn, aloneIn, namedIn, NextDueHolds};
 use crate::codes;
 use base::compare;
 use base::fields;
@@ -76,8 +76,8 @@ pub(crate) fn alone_line(line: &[u8], code: u8, due: Due) -> NextDue
 pub fn opening_line(line: &[u8]) -> NextDue
     ensures meant { λ r. ⌜
         ((m : Model) (rooms : Rooms) (text b : List ℕ) (s : ℕ) (c : Content)
-        → movedOf b r c ≡ openingLine m rooms text (fieldsOf s (now (line .entry))) c) ⌝ }
-    ensures held { λ r. ⌜ ((m : Model) (b : List ℕ) → MovedHolds m b r) ⌝ }
+        → nextDueOf b r c ≡ openingLine m rooms text (fieldsOf s (now (line .entry))) c) ⌝ }
+    ensures held { λ r. ⌜ ((m : Model) (b : List ℕ) → NextDueHolds m b r) ⌝ }
 {
     alone_line(line, codes::SCNT, Due::Frame(FrameDue::Description))
 }
@@ -86,8 +86,8 @@ pub fn opening_line(line: &[u8]) -> NextDue
 pub fn description_line(line: &[u8]) -> NextDue
     ensures meant { λ r. ⌜
         ((m : Model) (rooms : Rooms) (text b : List ℕ) (s : ℕ) (c : Content)
-        → movedOf b r c ≡ descriptionLine m rooms text (now (line .entry)) (fieldsOf s (now (line .entry))) c) ⌝ }
-    ensures held { λ r. ⌜ ((m : Model) (b : List ℕ) → MovedHolds m b r) ⌝ }
+        → nextDueOf b r c ≡ descriptionLine m rooms text (now (line .entry)) (fieldsOf s (now (line .entry))) c) ⌝ }
+    ensures held { λ r. ⌜ ((m : Model) (b : List ℕ) → NextDueHolds m b r) ⌝ }
 {
     if compare::begins_with(line, b"////") {
         alone_line(line, codes::SLASHES, Due::Frame(FrameDue::Transfer))
@@ -100,8 +100,8 @@ pub fn description_line(line: &[u8]) -> NextDue
 pub fn closing_line(line: &[u8]) -> NextDue
     ensures meant { λ r. ⌜
         ((m : Model) (rooms : Rooms) (text b : List ℕ) (s : ℕ) (c : Content)
-        → movedOf b r c ≡ closingLine m rooms text (fieldsOf s (now (line .entry))) c) ⌝ }
-    ensures held { λ r. ⌜ ((m : Model) (b : List ℕ) → MovedHolds m b r) ⌝ }
+        → nextDueOf b r c ≡ closingLine m rooms text (fieldsOf s (now (line .entry))) c) ⌝ }
+    ensures held { λ r. ⌜ ((m : Model) (b : List ℕ) → NextDueHolds m b r) ⌝ }
 {
     alone_line(line, codes::ENDE, Due::Frame(FrameDue::Nothing))
 }

@@ -6,10 +6,10 @@ ghost use lib.ListN.{length, drop};
 ghost use Rattle.meaning.specs.Field.{fieldsOf};
 ghost use Rattle.meaning.specs.Reading.{Content, Rooms, sameName, mandatoryBetween};
 ghost use Rattle.meaning.specs.Lines.{tableLine, behindObjects};
-ghost use Rattle.read_state.specs.Meaning.{movedOf, markedOf};
+ghost use Rattle.read_state.specs.Meaning.{nextDueOf, markedOf};
 ghost use Rattle.model_records.specs.Records.{payloadAt, nextAt, modelAt};
 ghost use Rattle.model_records.specs.Places.{RecordsPlaced};
-ghost use Rattle.read_frame.specs.Moves.{MovedHolds};
+ghost use Rattle.read_frame.specs.Moves.{NextDueHolds};
 ghost use Rattle.read_frame.specs.Finds.{foundAt, FoundTable, tableIn, topicEndIn};
 use crate::codes;
 use crate::lines;
@@ -39,7 +39,7 @@ fn is_table(model: &[u8], at: usize, name: &[u8]) -> bool
     names::same_name(&model[at + 5..next], name)
 }
 
-// Table t, unless a mandatory one was passed before it.
+// The table, unless a mandatory one was passed before it.
 fn found_table(table: usize, mandatory: bool) -> TableFound
     ensures { λ r. ⌜ r ≡ foundAt table mandatory ⌝ }
 {
@@ -105,7 +105,7 @@ fn begin_table(
     ensures meant { λ r. ⌜ ((s : ℕ) (c : Content) → let m = modelAt (now (model .entry)) in
         markedOf (now (model .entry)) (length (m .topics)) r c
         ≡ tableIn m topic from (fieldsOf s (now (rest .entry))) c) ⌝ }
-    ensures held { λ r. ⌜ MovedHolds (modelAt (now (model .entry))) (now (model .entry)) r ⌝ }
+    ensures held { λ r. ⌜ NextDueHolds (modelAt (now (model .entry))) (now (model .entry)) r ⌝ }
 {
     let next = fields::next_field(rest);
     match next {
@@ -136,7 +136,7 @@ fn end_topic(
     ensures meant { λ r. ⌜ ((s : ℕ) (c : Content) → let m = modelAt (now (model .entry)) in
         markedOf (now (model .entry)) (length (m .topics)) r c
         ≡ topicEndIn m topic from (fieldsOf s (now (rest .entry))) c) ⌝ }
-    ensures held { λ r. ⌜ MovedHolds (modelAt (now (model .entry))) (now (model .entry)) r ⌝ }
+    ensures held { λ r. ⌜ NextDueHolds (modelAt (now (model .entry))) (now (model .entry)) r ⌝ }
 {
     if has_mandatory(model, places, shape, topic, from) {
         return NextDue::No(10, 1);
@@ -159,7 +159,7 @@ pub fn table_line(
         let m = modelAt (now (model .entry)) in
         markedOf (now (model .entry)) (length (m .topics)) r c
         ≡ tableLine m rooms text topic from (fieldsOf s (now (line .entry))) c) ⌝ }
-    ensures held { λ r. ⌜ MovedHolds (modelAt (now (model .entry))) (now (model .entry)) r ⌝ }
+    ensures held { λ r. ⌜ NextDueHolds (modelAt (now (model .entry))) (now (model .entry)) r ⌝ }
 {
     let head = codes::head_of(line);
     let behind = head.behind;
@@ -183,8 +183,8 @@ pub fn behind_objects(
     requires { ⌜ table < shape .tables ⌝ }
     ensures meant { λ r. ⌜ ((rooms : Rooms) (text : List ℕ) (s : ℕ) (c : Content) →
         let m = modelAt (now (model .entry)) in
-        movedOf (now (model .entry)) r c ≡ behindObjects m rooms text table (fieldsOf s (now (line .entry))) c) ⌝ }
-    ensures held { λ r. ⌜ MovedHolds (modelAt (now (model .entry))) (now (model .entry)) r ⌝ }
+        nextDueOf (now (model .entry)) r c ≡ behindObjects m rooms text table (fieldsOf s (now (line .entry))) c) ⌝ }
+    ensures held { λ r. ⌜ NextDueHolds (modelAt (now (model .entry))) (now (model .entry)) r ⌝ }
 {
     let topic = places::topic_of(places, table);
     lines::alone_line(

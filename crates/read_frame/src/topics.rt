@@ -9,7 +9,7 @@ ghost use Rattle.meaning.specs.Lines.{topicLine};
 ghost use Rattle.read_state.specs.Meaning.{markedOf};
 ghost use Rattle.model_records.specs.Records.{payloadAt, nextAt, modelAt};
 ghost use Rattle.model_records.specs.Places.{RecordsPlaced};
-ghost use Rattle.read_frame.specs.Moves.{MovedHolds};
+ghost use Rattle.read_frame.specs.Moves.{NextDueHolds};
 ghost use Rattle.read_frame.specs.Finds.{topicFoundOf, topicIn};
 use crate::codes;
 use crate::lines;
@@ -58,7 +58,7 @@ fn begin_topic(model: &[u8], places: &[usize], shape: Shape, rest: &[u8], from: 
     requires { ⌜ RecordsPlaced (now model) shape (now places) ⌝ }
     ensures meant { λ r. ⌜ ((s : ℕ) (c : Content) → let m = modelAt (now (model .entry)) in
         markedOf (now (model .entry)) (length (m .topics)) r c ≡ topicIn m from (fieldsOf s (now (rest .entry))) c) ⌝ }
-    ensures held { λ r. ⌜ MovedHolds (modelAt (now (model .entry))) (now (model .entry)) r ⌝ }
+    ensures held { λ r. ⌜ NextDueHolds (modelAt (now (model .entry))) (now (model .entry)) r ⌝ }
 {
     let next = fields::next_field(rest);
     match next {
@@ -85,7 +85,7 @@ pub fn topic_line(model: &[u8], places: &[usize], shape: Shape, line: &[u8], fro
         let m = modelAt (now (model .entry)) in
         markedOf (now (model .entry)) (length (m .topics)) r c
         ≡ topicLine m rooms text from (fieldsOf s (now (line .entry))) c) ⌝ }
-    ensures held { λ r. ⌜ MovedHolds (modelAt (now (model .entry))) (now (model .entry)) r ⌝ }
+    ensures held { λ r. ⌜ NextDueHolds (modelAt (now (model .entry))) (now (model .entry)) r ⌝ }
 {
     let head = codes::head_of(line);
     let behind = head.behind;

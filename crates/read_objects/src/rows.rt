@@ -67,8 +67,8 @@ fn put_record(
     requires { ⌜ AttributeHere (now model) at ⌝ }
     requires { ⌜ CursorReady start (now rest) 6 cursor ⌝ }
     ensures { λ r. ⌜ (let rest = now (rest .entry) in
-        Fills undefined start rest 6 (goingOver undefined start rest (recordPairs (now (model .entry)) at) cursor) cursor
-        (now (cells .entry)) (now (cells .exit)) r) ⌝ }
+        Fills undefined start rest 6 (goingOver undefined start rest (recordPairs (now (model .entry)) at) cursor)
+        cursor (now (cells .entry)) (now (cells .exit)) r) ⌝ }
 {
     let a = model_records::attribute_at(model, at);
     filling::put_attribute(a, rest, start, undefined, cells, cursor)
@@ -96,7 +96,8 @@ fn undefine_rest(
     cursor: RowCursor,
 ) -> RowOut
     requires { ⌜ AttributesHere (modelAt (now model)) (now model) at ⌝ }
-    requires { ⌜ (cursor .at ≤ length (now rest)) × (cursor .place + 1 < 2 ^ 64) × (cursor .used + (left + left) ≤ at + at) ⌝ }
+    requires { ⌜ (cursor .at ≤ length (now rest)) × (cursor .place + 1 < 2 ^ 64)
+        × (cursor .used + (left + left) ≤ at + at) ⌝ }
     ensures { λ r. ⌜ ((start : ℕ) → let b = now (model .entry) in
         Ends (covering start (now (rest .entry)) cursor left (pairsAt b at)) (2 * length b) (cursor .used)
         (now (cells .entry)) (now (cells .exit)) r) ⌝ }

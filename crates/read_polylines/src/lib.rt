@@ -62,7 +62,7 @@ pub fn due_lines(model: &[u8], table: usize, at: usize, cell: usize, first: usiz
     Due::Object(table)
 }
 
-// A line of the line attribute under way, by its code and the rest behind it; a is the attribute of its record.
+// A line of the line attribute under way, by its code and the rest behind it; `attribute` is that of its record.
 fn move_line(
     model: &[u8],
     attribute: Attribute,
@@ -122,7 +122,8 @@ pub fn attribute_line(
     ensures { λ r. ⌜ ((rooms : Rooms) (text : List ℕ) (start : ℕ) → let b = now (model .entry) in
         rooms .points ≡ length (now (points .entry))
         → LineDoes b polyline state
-        (λ c. lineDue (modelAt b) rooms text (dueOf b (Line polyline)) (now (line .entry)) (fieldsOf start (now (line .entry))) c)
+        (λ c. lineDue (modelAt b) rooms text (dueOf b (Line polyline))
+        (now (line .entry)) (fieldsOf start (now (line .entry))) c)
         (now (cells .entry)) (now (points .entry)) (now (cells .exit)) (now (points .exit)) r) ⌝ }
 {
     let at = polyline.at;

@@ -90,13 +90,16 @@ pub(crate) fn point_line(
     polyline: OpenLine,
     state: State,
 ) -> Step
-    requires { ⌜ (2 ≤ attribute .components .count) × (attribute .components .count ≤ 3) × (length (attribute .components .items) ≡ 3) ⌝ }
+    requires { ⌜ (2 ≤ attribute .components .count) × (attribute .components .count ≤ 3)
+        × (length (attribute .components .items) ≡ 3) ⌝ }
     requires { ⌜ 4 * state .points ≤ length (now points) ⌝ }
     ensures { λ r. ⌜ ((b text : List ℕ) (rooms : Rooms) (fs : List Field) (start : ℕ) (cells : List ℤ)
-        → RecordAttribute b (polyline .at) attribute → LineHolds (modelAt b) b [] 0 (state .cells) (state .points) polyline
+        → RecordAttribute b (polyline .at) attribute
+        → LineHolds (modelAt b) b [] 0 (state .cells) (state .points) polyline
         → modelAt b .undefined ≡ undefined → rooms .points ≡ length (now (points .entry))
         → drop 1 fs ≡ fieldsOf start (now (rest .entry)) → meaning.lineCodeOf fs ≡ lineCodeOf code
-        → LineDoes b polyline state (λ c. attributeLine (modelAt b) rooms text (wayOf b attribute polyline) fs c (point kind (lineStateOf next)))
+        → LineDoes b polyline state
+        (λ c. attributeLine (modelAt b) rooms text (wayOf b attribute polyline) fs c (point kind (lineStateOf next)))
         cells (now (points .entry)) cells (now (points .exit)) r) ⌝ }
 {
     let before = polyline.state;

@@ -99,9 +99,9 @@ markedBy topics (Object table) c = withMark (topics + table) c
 markedBy topics (Line u) c = c
 
 -- behind a line that leaves the table as it is
-abbrev pub movedOf : (model : List ℕ) → NextDue → Content → lines.Step
-movedOf model (To due) c = lines.go (dueOf model due) c
-movedOf model (NextDue.No number field) c = lines.no number field
+abbrev pub nextDueOf : (model : List ℕ) → NextDue → Content → lines.Step
+nextDueOf model (To due) c = lines.go (dueOf model due) c
+nextDueOf model (NextDue.No number field) c = lines.no number field
 
 -- behind a line that begins a topic or a table, or ends one
 abbrev pub markedOf : (model : List ℕ) (topics : ℕ) → NextDue → Content → lines.Step

@@ -28,10 +28,10 @@ use Rattle.read_state.specs.declared.NextDue.the-variants.{To, No}
 use Rattle.read_state.specs.declared.State.{State}
 use Rattle.read_state.specs.declared.OpenLine.{OpenLine}
 use Rattle.read_state.specs.declared.Step.{Step}
-use Rattle.read_state.specs.Meaning.{frameDueOf, dueOf, topicMarkedBy, markedBy, movedOf, markedOf, contentOf, stepOf}
+use Rattle.read_state.specs.Meaning.{frameDueOf, dueOf, topicMarkedBy, markedBy, nextDueOf, markedOf, contentOf, stepOf}
 use Rattle.read_state.specs.Holds.{Holds}
 use Rattle.read_frame.specs.Heads.{HeadOf}
-use Rattle.read_frame.specs.Moves.{MovedHolds}
+use Rattle.read_frame.specs.Moves.{NextDueHolds}
 use Rattle.read_frame.specs.declared.codes.Head.{Head}
 use Rattle.read_polylines.specs.Ways.{StepHolds, LineDoes}
 use Rattle.read_polylines.proofs.Ways.{line-held}
@@ -44,20 +44,20 @@ use Rattle.read_step.specs.Steps.{topicMarksBy, marksBy, Steps, lineMean
 abbrev pub dueNext : Due → State → State
 dueNext due s = record { due = due; rows = s .rows; cells = s .cells; points = s .points }
 
-pub moved-to : (b : List ℕ) (moved : NextDue) (due : Due) (c : Content) → moved ≡ To due → lines.go (dueOf b due) c ≡ movedOf b moved c
-moved-to b moved due c e = sym (ap (λ (x : NextDue). movedOf b x c) e)
+pub moved-to : (b : List ℕ) (moved : NextDue) (due : Due) (c : Content) → moved ≡ To due → lines.go (dueOf b due) c ≡ nextDueOf b moved c
+moved-to b moved due c e = sym (ap (λ (x : NextDue). nextDueOf b x c) e)
 
-pub moved-no : (b : List ℕ) (moved : NextDue) (number field : ℕ) (c : Content) → moved ≡ No number field → lines.no number field ≡ movedOf b moved c
-moved-no b moved number field c e = sym (ap (λ (x : NextDue). movedOf b x c) e)
+pub moved-no : (b : List ℕ) (moved : NextDue) (number field : ℕ) (c : Content) → moved ≡ No number field → lines.no number field ≡ nextDueOf b moved c
+moved-no b moved number field c e = sym (ap (λ (x : NextDue). nextDueOf b x c) e)
 
 pub marked-no : (b : List ℕ) (topics : ℕ) (moved : NextDue) (number field : ℕ) (c : Content) → moved ≡ No number field → lines.no number field ≡ markedOf b topics moved c
 marked-no b topics moved number field c e = sym (ap (λ (x : NextDue). markedOf b topics x c) e)
 
 -- what holds stays, with so many marks as before
 pub next-holds : (b text : List ℕ) (seed : ℕ) (s : State) (moved : NextDue) (due : Due) (marks marks′ rows : List ℕ) (cells points : List ℤ) (index : List ℕ) → moved ≡ To due → length marks′ ≡ length marks
-    → MovedHolds (modelAt b) b moved → Holds (modelAt b) b text seed s marks rows cells points index → Holds (modelAt b) b text seed (dueNext due s) marks′ rows cells points index
+    → NextDueHolds (modelAt b) b moved → Holds (modelAt b) b text seed s marks rows cells points index → Holds (modelAt b) b text seed (dueNext due s) marks′ rows cells points index
 next-holds b text seed s moved due marks marks′ rows cells points index e n d h = record {
-  due = subst (MovedHolds (modelAt b) b) e d rows (s .rows) (s .cells) (s .points);
+  due = subst (NextDueHolds (modelAt b) b) e d rows (s .rows) (s .cells) (s .points);
   objects = h .objects;
   laid = h .laid;
   pointsFit = h .pointsFit;
@@ -133,13 +133,13 @@ FrameSteps b s l marks marks′ due r =
     × ((text : List ℕ) (seed : ℕ) (rows : List ℕ) (cells points : List ℤ) (index : List ℕ)
     → Holds (modelAt b) b text seed s marks rows cells points index → StepHolds (modelAt b) b text seed r marks′ rows cells points index)
 
-module _ (b : List ℕ) (s : State) (l marks : List ℕ) (due due′ : FrameDue) (e : due ≡ due′) (moved : NextDue) (r : Step) (d : MovedHolds (modelAt b) b moved) where
+module _ (b : List ℕ) (s : State) (l marks : List ℕ) (due due′ : FrameDue) (e : due ≡ due′) (moved : NextDue) (r : Step) (d : NextDueHolds (modelAt b) b moved) where
   -- by a step that leaves the marks
   pub plain-frame :
-      ((k : ℕ) (marks rows : List ℕ) (cells points : List ℤ) → stepOf b k r marks rows cells points ≡ movedOf b moved (contentOf k s marks rows cells points))
-      → ((text : List ℕ) (seed : ℕ) (marks rows : List ℕ) (cells points : List ℤ) (index : List ℕ) → MovedHolds (modelAt b) b moved
+      ((k : ℕ) (marks rows : List ℕ) (cells points : List ℤ) → stepOf b k r marks rows cells points ≡ nextDueOf b moved (contentOf k s marks rows cells points))
+      → ((text : List ℕ) (seed : ℕ) (marks rows : List ℕ) (cells points : List ℤ) (index : List ℕ) → NextDueHolds (modelAt b) b moved
       → Holds (modelAt b) b text seed s marks rows cells points index → StepHolds (modelAt b) b text seed r marks rows cells points index)
-      → ((rooms : Rooms) (text : List ℕ) (start : ℕ) (c : Content) → movedOf b moved c ≡ lineDue (modelAt b) rooms text (frameDueOf due′) l (fieldsOf start l) c)
+      → ((rooms : Rooms) (text : List ℕ) (start : ℕ) (c : Content) → nextDueOf b moved c ≡ lineDue (modelAt b) rooms text (frameDueOf due′) l (fieldsOf start l) c)
       → FrameSteps b s l marks marks due r
   plain-frame step holds meant = (
     (λ rooms text start rows cells points.
@@ -151,7 +151,7 @@ module _ (b : List ℕ) (s : State) (l marks : List ℕ) (due due′ : FrameDue)
   -- by a step that may mark one of so many topics, or a table
   pub marked-frame : (marks′ : List ℕ) (topics : ℕ) → topics ≡ length (modelAt b .topics)
       → ((rows : List ℕ) (cells points : List ℤ) → stepOf b (length marks) r marks′ rows cells points ≡ markedOf b topics moved (contentOf (length marks) s marks rows cells points))
-      → ((text : List ℕ) (seed : ℕ) (rows : List ℕ) (cells points : List ℤ) (index : List ℕ) → MovedHolds (modelAt b) b moved
+      → ((text : List ℕ) (seed : ℕ) (rows : List ℕ) (cells points : List ℤ) (index : List ℕ) → NextDueHolds (modelAt b) b moved
       → Holds (modelAt b) b text seed s marks rows cells points index → StepHolds (modelAt b) b text seed r marks′ rows cells points index)
       → ((rooms : Rooms) (text : List ℕ) (start : ℕ) (c : Content) → markedOf b (length (modelAt b .topics)) moved c ≡ lineDue (modelAt b) rooms text (frameDueOf due′) l (fieldsOf start l) c)
       → FrameSteps b s l marks marks′ due r

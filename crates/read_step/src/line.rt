@@ -9,10 +9,10 @@ ghost use Rattle.meaning.specs.Reading.{Rooms, stretch};
 ghost use Rattle.meaning.specs.Lines.{lineDue, objectLine};
 ghost use Rattle.model_records.specs.Records.{modelAt};
 ghost use Rattle.model_records.specs.Places.{RecordsPlaced};
-ghost use Rattle.read_state.specs.Meaning.{frameDueOf, movedOf, markedOf, contentOf, stepOf};
+ghost use Rattle.read_state.specs.Meaning.{frameDueOf, nextDueOf, markedOf, contentOf, stepOf};
 ghost use Rattle.read_state.specs.Holds.{FrameHolds, Holds};
 ghost use Rattle.table_index.specs.Holds.{IndexedTable};
-ghost use Rattle.read_frame.specs.Moves.{MovedHolds};
+ghost use Rattle.read_frame.specs.Moves.{NextDueHolds};
 ghost use Rattle.read_polylines.specs.Ways.{StepHolds};
 ghost use Rattle.read_objects.specs.Rows.{RowAdds};
 ghost use Rattle.read_step.specs.Steps.{Prepared, Steps, lineMeant};
@@ -35,10 +35,10 @@ use read_state::Step;
 fn plain_step(state: State, moved: NextDue) -> Step
     ensures { λ r. ⌜
         ((b : List ℕ) (k : ℕ) (marks rows : List ℕ) (cells points : List ℤ)
-        → stepOf b k r marks rows cells points ≡ movedOf b moved (contentOf k state marks rows cells points)) ⌝ }
+        → stepOf b k r marks rows cells points ≡ nextDueOf b moved (contentOf k state marks rows cells points)) ⌝ }
     ensures { λ r. ⌜
         ((b text : List ℕ) (seed : ℕ) (marks rows : List ℕ) (cells points : List ℤ) (index : List ℕ)
-        → MovedHolds (modelAt b) b moved → Holds (modelAt b) b text seed state marks rows cells points index
+        → NextDueHolds (modelAt b) b moved → Holds (modelAt b) b text seed state marks rows cells points index
         → StepHolds (modelAt b) b text seed r marks rows cells points index) ⌝ }
 {
     match moved {
@@ -61,7 +61,8 @@ fn marked_step(topics: usize, marks: &mut [u8], state: State, moved: NextDue) ->
         (contentOf (length (now (marks .entry))) state (now (marks .entry)) rows cells points)) ⌝ }
     ensures { λ r. ⌜
         ((b text : List ℕ) (seed : ℕ) (rows : List ℕ) (cells points : List ℤ) (index : List ℕ)
-        → MovedHolds (modelAt b) b moved → Holds (modelAt b) b text seed state (now (marks .entry)) rows cells points index
+        → NextDueHolds (modelAt b) b moved
+        → Holds (modelAt b) b text seed state (now (marks .entry)) rows cells points index
         → StepHolds (modelAt b) b text seed r (now (marks .exit)) rows cells points index) ⌝ }
 {
     match moved {

@@ -39,7 +39,8 @@ fn resolve_all(
     requires { ⌜ RecordsPlaced (now model) shape (now places) ⌝ }
     ensures read { λ r. ⌜ (let m = modelAt (now (model .entry)) in let t = now (text .entry) in
         (rooms : Rooms) (marks : List ℕ) (points : List ℤ) → 4 * state .points ≤ length points
-        → let used = usedOf marks (now (rows .entry)) (now (cells .entry)) points (state .rows) (state .cells) (state .points) in
+        → let used = usedOf marks (now (rows .entry)) (now (cells .entry)) points
+        (state .rows) (state .cells) (state .points) in
         TableRead (readResolved rooms t used (resolve m t used)) rooms t
         marks (now (rows .entry)) (now (cells .exit)) points r) ⌝ }
     ensures fits { λ r. ⌜ ((points : List ℤ) → 4 * state .points ≤ length points

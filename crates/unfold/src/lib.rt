@@ -71,7 +71,7 @@ fn finish(text: &mut [u8], used: usize) -> Answer
     Answer::Text(used)
 }
 
-// One turn: the physical line at s.at.
+// One turn: the physical line at the cursor.
 fn one_turn(file: &[u8], mark: u8, text: &mut [u8], cursor: LineCursor) -> Turn
     requires { ⌜ TurnReady mark (now file) (now text) cursor ⌝ }
     ensures { λ r. ⌜ Turned mark (now (file .entry)) (length (now (text .entry))) (now (text .exit)) (cursor .at) r ⌝ }

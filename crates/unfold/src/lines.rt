@@ -31,7 +31,7 @@ fn permitted_blocks(rest: &[u8]) -> usize
     i
 }
 
-// How many of the first bytes of f are permitted.
+// How many of the first bytes of the rest are permitted.
 fn permitted_run(rest: &[u8]) -> usize
     ensures { λ r. ⌜ r ≡ leading permitted (now (rest .entry)) ⌝ }
 {
@@ -45,7 +45,7 @@ fn permitted_run(rest: &[u8]) -> usize
     i
 }
 
-// How many bytes of f stand before its first LF.
+// How many bytes of the rest stand before its first LF.
 fn line_len(rest: &[u8]) -> usize
     ensures { λ r. ⌜ r ≡ leading noLf (now (rest .entry)) ⌝ }
 {
@@ -59,7 +59,7 @@ fn line_len(rest: &[u8]) -> usize
     i
 }
 
-// The length of the line end that f begins with: 1 for LF, 2 for CR LF, 0 where there is none.
+// The length of the line end that the rest begins with: 1 for LF, 2 for CR LF, 0 where there is none.
 fn end_len(rest: &[u8]) -> usize
     ensures { λ r. ⌜ r ≡ endLen (now (rest .entry)) ⌝ }
 {
@@ -78,7 +78,7 @@ fn end_len(rest: &[u8]) -> usize
     if rest[1] == 10 { 2 } else { 0 }
 }
 
-// The length of l without its last byte, or of all of l.
+// The length of a line without its last byte, or of all of it.
 pub(crate) fn without_last(line: &[u8], shorter: bool) -> usize
     ensures { λ r. ⌜ Shortened shorter (now (line .entry)) r ⌝ }
 {
@@ -90,7 +90,7 @@ pub(crate) fn without_last(line: &[u8], shorter: bool) -> usize
     }
 }
 
-// The first line of f by its LF, where its permitted bytes are not followed by a line end.
+// The first line of the rest by its LF, where its permitted bytes are not followed by a line end.
 fn line_to_lf(rest: &[u8]) -> First
     requires { ⌜ endLen (drop (leading permitted (now rest)) (now rest)) ≡ 0 ⌝ }
     ensures { λ r. ⌜ FirstOf (now (rest .entry)) r ⌝ }
@@ -107,7 +107,7 @@ fn line_to_lf(rest: &[u8]) -> First
     First::NotPermitted { len, after: n + 1 }
 }
 
-// The first line of f: its content is its first len bytes, and the next line begins at after.
+// The first line of the rest: its content is its first len bytes, and the next line begins at after.
 pub(crate) fn first_line(rest: &[u8]) -> First
     ensures { λ r. ⌜ FirstOf (now (rest .entry)) r ⌝ }
 {

@@ -27,7 +27,7 @@ pub(crate) enum LinePart {
     },
 }
 
-// Whether l should begin with CONT and a space, and does not.
+// Whether a line should begin with CONT and a space, and does not.
 fn unled(line: &[u8], continues: bool) -> bool
     ensures { λ r. ⌜ r ≡ (continues && not (prefix cont (now (line .entry)))) ⌝ }
 {
@@ -45,7 +45,7 @@ fn skipped(continues: bool) -> usize
     if continues { 5 } else { 0 }
 }
 
-// The first physical line of f, whose content is its first len bytes: 3, then 5, then 4, then its part.
+// The first physical line of the rest, whose content is its first len bytes: 3, then 5, then 4, then its part.
 fn judge(rest: &[u8], len: usize, after: usize, fine: bool, mark: u8, continues: bool) -> LinePart
     requires { ⌜ LineOf (now rest) len after ⌝ }
     requires { ⌜ every permitted (take len (now rest)) ≡ fine ⌝ }
@@ -71,7 +71,7 @@ fn judge(rest: &[u8], len: usize, after: usize, fine: bool, mark: u8, continues:
     }
 }
 
-// A step over the first physical line of f, which continues a line or not.
+// A step over the first physical line of the rest, which continues a line or not.
 pub(crate) fn over_line(rest: &[u8], mark: u8, continues: bool) -> LinePart
     ensures { λ r. ⌜ Stepped mark continues (now (rest .entry)) r ⌝ }
 {

@@ -11,7 +11,7 @@ pub enum DigitsFound {
     Others,
 }
 
-// The digits of s behind those of n, of which there are `before` at most.
+// The digits of a field behind those of n, of which there are `before` at most.
 pub(crate) fn read_digits(n: u64, before: usize, field: &[u8]) -> DigitsFound
     requires { ⌜ n < 10 ^ before ⌝ }
     requires { ⌜ before + length (now field) ≤ 18 ⌝ }

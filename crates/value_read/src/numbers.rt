@@ -49,7 +49,8 @@ fn read_unsigned(field: &[u8], decimals: u8) -> DigitsFound
 
 // The size of the sign, 0 or 1: "optional + or -".
 fn sign_size(field: &[u8]) -> usize
-    ensures { λ r. ⌜ (r ≤ length (now (field .entry))) × (drop r (now (field .entry)) ≡ unsigned (now (field .entry))) ⌝ }
+    ensures { λ r. ⌜ (r ≤ length (now (field .entry)))
+        × (drop r (now (field .entry)) ≡ unsigned (now (field .entry))) ⌝ }
 {
     if field.len() == 0 {
         return 0;

@@ -108,7 +108,7 @@ fn then_topic(
     lines::then_alone(body, b"ETOP", style, out)
 }
 
-// The lines of topic p, where it is delivered.
+// The lines of a topic, where it is delivered.
 fn pass_topic(
     put: Put,
     model: &[u8],

@@ -92,7 +92,7 @@ fn then_rows(
     all
 }
 
-// The lines of table t, with the objects between two row numbers.
+// The lines of a table, with the objects between two row numbers.
 fn then_table(
     put: Put,
     model: &[u8],
@@ -136,7 +136,7 @@ fn then_table(
     lines::then_alone(body, b"ETAB", style, out)
 }
 
-// Whether table t is one of topic p that is delivered.
+// Whether a table is one of this topic that is delivered.
 fn is_due(places: &[usize], shape: Shape, topic: usize, table: usize, marks: &[u8]) -> bool
     requires { ⌜ (length (now places) ≡ 1088) × (shape .topics ≤ 64) × (table < 512) ⌝ }
     ensures { λ r. ⌜ (let mark = getD (now (marks .entry)) (shape .topics + table) 0 in
@@ -146,7 +146,7 @@ fn is_due(places: &[usize], shape: Shape, topic: usize, table: usize, marks: &[u
     bools::both(places::topic_of(places, table) == topic, mark != 0)
 }
 
-// The lines of table t, where it is one of topic p and delivered.
+// The lines of a table, where it is one of this topic and delivered.
 fn pass_table(
     put: Put,
     model: &[u8],
@@ -195,7 +195,7 @@ fn pass_table(
     RowsWritten { put: all, row: end }
 }
 
-// The lines of the tables of topic p, from row number `row` on.
+// The lines of the tables of a topic, from row number `row` on.
 pub(crate) fn then_tables(
     put: Put,
     model: &[u8],

@@ -37,7 +37,7 @@ fn is_fine(delivered: bool, in_topic: bool, optional: bool) -> bool
     }
 }
 
-// The mark of table t beside that of its topic.
+// The mark of a table beside that of its topic.
 fn judge_delivery(model: &[u8], places: &[usize], shape: Shape, marks: &[u8], table: usize) -> bool
     requires { ⌜ Judging (now model) shape (now places) (now marks) ⌝ }
     requires { ⌜ table < shape .tables ⌝ }

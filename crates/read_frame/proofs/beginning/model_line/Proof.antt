@@ -1,7 +1,7 @@
 -- `read_frame::model_line` meets its contract. Assumes nothing.
 use Rattle.read_frame.proofs.TopicLines.{model-named, model-other}
 use Rattle.read_frame.proofs.Moves.{named-holds, nothing-read}
-use Rattle.read_frame.specs.Moves.{MovedHolds}
+use Rattle.read_frame.specs.Moves.{NextDueHolds}
 use Rattle.model_records.proofs.Types.{payload-part}
 use Rattle.model_records.proofs.AtRecord.{beginning}
 use Rattle.model_records.specs.Records.{payloadAt, nextAt, modelAt}
@@ -68,7 +68,7 @@ returns-2 c = let g = beginning (modelAt (c .before .before .before .before .bef
     let n = ap (λ (x : ℕ). take (x - (c .before .before .before .before .next-at .result + 4)) (drop (c .before .before .before .before .next-at .result + 4) b)) p ∙ payload-part b (c .before .before .before .before .next-at .result) 0 _ (omega arith) ∙ ap (payloadAt b) q ∙ g .name in
     let k = rw (to-end (a .line .now) (h .result .behind), n) at (c .named-line .ensures) in (
       (λ rooms text s x. model-named _ rooms text _ (a .line .now) (h .result) (h .ensures) _ x s (c .before .before .before .before .before .if1 .left) k),
-      subst (λ (x : NextDue). MovedHolds (modelAt b) b x) (sym (k 0)) (named-holds _ nothing-read _ _ _ _ (λ rows n used points. omega arith)),
+      subst (λ (x : NextDue). NextDueHolds (modelAt b) b x) (sym (k 0)) (named-holds _ nothing-read _ _ _ _ (λ rows n used points. omega arith)),
     )
 
 pub model-line-spec : {M : Type 1} → statement M

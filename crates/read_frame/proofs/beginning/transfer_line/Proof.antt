@@ -1,7 +1,7 @@
 -- `read_frame::transfer_line` meets its contract. Assumes nothing.
 use Rattle.read_frame.proofs.TopicLines.{transfer-named, transfer-motr, transfer-other}
 use Rattle.read_frame.proofs.Moves.{named-holds, nothing-read}
-use Rattle.read_frame.specs.Moves.{MovedHolds}
+use Rattle.read_frame.specs.Moves.{NextDueHolds}
 use Rattle.model_records.proofs.Types.{payload-part}
 use Rattle.model_records.proofs.AtRecord.{beginning}
 use Rattle.model_records.specs.Records.{modelAt}
@@ -54,7 +54,7 @@ returns c = let g = beginning (modelAt (c .before .before .before .before .befor
     let n = ap (λ (x : ℕ). take (x - 7) (drop 7 (a .model .now))) (c .before .before .before .before .next-at .ensures) ∙ payload-part (a .model .now) 0 3 7 refl ∙ g .transfer in
     let k = rw (to-end (a .line .now) (h .result .behind), n) at (c .named-line .ensures) in (
       (λ rooms text s x. transfer-named _ rooms text _ (a .line .now) (h .result) (h .ensures) _ x s (c .before .before .before .match .keys1) k),
-      subst (λ (x : NextDue). MovedHolds (modelAt (a .model .now)) (a .model .now) x) (sym (k 0)) (named-holds _ nothing-read _ _ _ _ (λ rows n used points. tt)),
+      subst (λ (x : NextDue). NextDueHolds (modelAt (a .model .now)) (a .model .now) x) (sym (k 0)) (named-holds _ nothing-read _ _ _ _ (λ rows n used points. tt)),
     )
 
 returns-2 : tie.Need-returns-2

@@ -2,8 +2,8 @@
 use mathlib.Core.Bool.{true, false}
 use Rattle.meaning.specs.Bytes.{choose, prefix}
 use Rattle.read_frame.proofs.Moves.{alone-moved, alone-holds, nothing-read}
-use Rattle.read_frame.specs.Moves.{MovedHolds}
-use Rattle.read_state.specs.Meaning.{frameDueOf, dueOf, movedOf}
+use Rattle.read_frame.specs.Moves.{NextDueHolds}
+use Rattle.read_state.specs.Meaning.{frameDueOf, dueOf, nextDueOf}
 use Rattle.read_state.specs.declared.NextDue.{NextDue}
 use Rattle.meaning.specs.Field.{fieldsOf, slashes}
 use Rattle.meaning.specs.Lines.{descriptionLine}
@@ -26,8 +26,8 @@ unfolding descriptionLine frameDueOf dueOf choose
 returns c = let l = c .before .before .before .before .before .args .line .now in
     let e = c .alone-line .ensures in
     let p : prefix slashes l ≡ true = sym (c .before .before .begins-with .ensures) ∙ c .before .if1 .taken in (
-      (λ m rooms text b s k. ap (λ (x : NextDue). movedOf b x k) (e s 1 refl) ∙ alone-moved b k slashes (fieldsOf s l) _ ∙ rw p),
-      (λ m b. subst (λ (x : NextDue). MovedHolds m b x) (sym (e 0 1 refl)) (alone-holds b nothing-read slashes (fieldsOf 0 l) _ m (λ rows n used points. tt))),
+      (λ m rooms text b s k. ap (λ (x : NextDue). nextDueOf b x k) (e s 1 refl) ∙ alone-moved b k slashes (fieldsOf s l) _ ∙ rw p),
+      (λ m b. subst (λ (x : NextDue). NextDueHolds m b x) (sym (e 0 1 refl)) (alone-holds b nothing-read slashes (fieldsOf 0 l) _ m (λ rows n used points. tt))),
     )
 
 returns-2 : tie.Need-returns-2

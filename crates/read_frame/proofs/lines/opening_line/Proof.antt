@@ -1,7 +1,7 @@
 -- `read_frame::opening_line` meets its contract. Assumes nothing.
 use Rattle.read_frame.proofs.Moves.{alone-moved, alone-holds, nothing-read}
-use Rattle.read_frame.specs.Moves.{MovedHolds}
-use Rattle.read_state.specs.Meaning.{frameDueOf, dueOf, movedOf}
+use Rattle.read_frame.specs.Moves.{NextDueHolds}
+use Rattle.read_state.specs.Meaning.{frameDueOf, dueOf, nextDueOf}
 use Rattle.read_state.specs.declared.NextDue.{NextDue}
 use Rattle.meaning.specs.Field.{fieldsOf, SCNT}
 use Rattle.meaning.specs.Lines.{openingLine}
@@ -17,8 +17,8 @@ returns : tie.Need-returns
 unfolding openingLine frameDueOf dueOf
 returns c = let l = c .before .before .args .line .now in
     let e = c .alone-line .ensures in (
-      (λ m rooms text b s k. ap (λ (x : NextDue). movedOf b x k) (e s 0 refl) ∙ alone-moved b k SCNT (fieldsOf s l) _),
-      (λ m b. subst (λ (x : NextDue). MovedHolds m b x) (sym (e 0 0 refl)) (alone-holds b nothing-read SCNT (fieldsOf 0 l) _ m (λ rows n used points. tt))),
+      (λ m rooms text b s k. ap (λ (x : NextDue). nextDueOf b x k) (e s 0 refl) ∙ alone-moved b k SCNT (fieldsOf s l) _),
+      (λ m b. subst (λ (x : NextDue). NextDueHolds m b x) (sym (e 0 0 refl)) (alone-holds b nothing-read SCNT (fieldsOf 0 l) _ m (λ rows n used points. tt))),
     )
 
 pub opening-line-spec : {M : Type 1} → statement M

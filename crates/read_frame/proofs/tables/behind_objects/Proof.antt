@@ -1,8 +1,8 @@
 -- `read_frame::behind_objects` meets its contract. Assumes nothing.
 use Rattle.read_frame.proofs.TableLines.{table-closed, closed-holds}
 use Rattle.read_frame.proofs.Moves.{nothing-read}
-use Rattle.read_frame.specs.Moves.{MovedHolds}
-use Rattle.read_state.specs.Meaning.{movedOf}
+use Rattle.read_frame.specs.Moves.{NextDueHolds}
+use Rattle.read_state.specs.Meaning.{nextDueOf}
 use Rattle.read_state.specs.declared.NextDue.{NextDue}
 use Rattle.meaning.specs.Field.{fieldsOf}
 use Rattle.model_records.specs.Records.{modelAt}
@@ -29,8 +29,8 @@ returns c =
     let e = c .alone-line .ensures in
     let o = c .before .topic-of .ensures ∙ a .pre .0 .noted .owner _ (a .pre .1) in
     let s = a .pre .0 .noted .table _ (a .pre .1) .standing in (
-      (λ rooms text s x. ap (λ (y : NextDue). movedOf b y x) (e s 12 refl) ∙ table-closed _ b _ _ (fieldsOf s l) x o rooms text),
-      subst (λ (y : NextDue). MovedHolds (modelAt b) b y) (sym (e 0 12 refl))
+      (λ rooms text s x. ap (λ (y : NextDue). nextDueOf b y x) (e s 12 refl) ∙ table-closed _ b _ _ (fieldsOf s l) x o rooms text),
+      subst (λ (y : NextDue). NextDueHolds (modelAt b) b y) (sym (e 0 12 refl))
           (closed-holds _ b _ _ (fieldsOf 0 l) nothing-read (omega (arith, o, s .topicCount)) (omega (arith, a .pre .1, a .pre .0 .tables))),
     )
 

@@ -1,7 +1,7 @@
 -- `read_frame::topic_line` meets its contract. Assumes nothing.
 use Rattle.read_frame.proofs.TopicLines.{model-closed, topic-opened, topic-other}
 use Rattle.read_frame.proofs.Moves.{holds-refuse}
-use Rattle.read_frame.specs.Moves.{endIn, MovedHolds}
+use Rattle.read_frame.specs.Moves.{endIn, NextDueHolds}
 use Rattle.model_records.specs.Records.{modelAt}
 use Rattle.read_state.specs.declared.NextDue.the-variants.{No}
 use Rattle.read_state.specs.declared.NextDue.{NextDue}
@@ -44,7 +44,7 @@ returns c = let a = c .before .before .before .before .before .before .before .a
     let h = c .before .before .before .head-of in
     let k = rw (to-end (a .line .now) (h .result .behind)) at (c .end-line .ensures) in (
       (λ rooms text s x. model-closed _ rooms text _ _ (a .line .now) (h .result) (h .ensures) _ x s (c .before .before .match .keys1) k),
-      subst (λ (x : NextDue). MovedHolds (modelAt (a .model .now)) (a .model .now) x) (sym (k 0)) (holds-refuse _ _ _ _ _ tt (λ rows n used points. tt)),
+      subst (λ (x : NextDue). NextDueHolds (modelAt (a .model .now)) (a .model .now) x) (sym (k 0)) (holds-refuse _ _ _ _ _ tt (λ rows n used points. tt)),
     )
 
 returns-2 : tie.Need-returns-2
