@@ -9,7 +9,7 @@ use mathlib.Core.List.{List, [], _∷_}
 use lib.Dec.{eqb, leb}
 use lib.ListN.{length, drop, getD, length-drop, List·getD-eq-default}
 use lib.Seq.{getD-take, getD-drop, drop-cons}
-use borrow.Author.Tests.{leb-true, leb-false, eqb-true, eqb-false, ne-eqb}
+use borrow.Author.Tests.{leb-true, leb-false, ne-eqb}
 use Rattle.meaning.specs.Bytes.{choose, byteAt, u16At}
 use Rattle.meaning.specs.Model.{Records, finish, overrun, entry, Table, Model, noTable, tableAt, flagOf, attributeOf, attributesOf, tablesOf, topicsOf, nameOf, modelOf}
 use Rattle.meaning.specs.Check.{good, special, isFlag, keepsTransfer, keepsTopic, keepsTable, keepsAttribute, keeps, see, nothingSeen, checkRecords, checkModel}
@@ -131,12 +131,6 @@ module _ (m : Model) (b : List ℕ) (at k t : ℕ) (s : AtRecord m b at k t) whe
         };
       }
 
-  later-behind : kindAt b at ≡ 3 → (n : ℕ) → t ≤ n → n < length (m .tables) → k + 1 ≤ tableAt (m .tables) n .topic + 1
-  unfolding tablesOf choose
-  later-behind e n g l =
-      let same : tablesOf k (recordsAt b at) ≡ tablesOf (k + 1) (recordsAt b (nextAt b at)) = rw (one .entry, e) refl in
-      rw (← later-is n g, same) (above (recordsAt b (nextAt b at)) (k + 1) (n - t) (rw same at (later-in n g l)))
-
   pub table-here : kindAt b at ≡ 4 → TableHere m b at k t
   unfolding topicsOf tablesOf keeps keepsTable isFlag choose
   table-here e =
@@ -212,16 +206,6 @@ module _ (m : Model) (b : List ℕ) (at k t : ℕ) (s : AtRecord m b at k t) whe
         topics = none-left (m .topics) k (sym (r .0) ∙ x) (s .topicCount);
         tables = none-left (m .tables) t (sym (r .1 k) ∙ y) (s .tableCount);
       }
-
-  -- behind a topic's tables every table is of a later topic
-  pub later-topic : (kindAt b at ≡ 4 → ⊥) → (kindAt b at ≡ 5 → ⊥) → (n : ℕ) → t ≤ n → n < length (m .tables) → k ≤ tableAt (m .tables) n .topic
-  later-topic no-table no-attribute n g l = go (eqb (kindAt b at) 3) refl
-    where
-      go : (x : Bool) → eqb (kindAt b at) 3 ≡ x → k ≤ tableAt (m .tables) n .topic
-      go true h = omega (arith, later-behind (eqb-true (kindAt b at) 3 h) n g l)
-      go false h =
-          let six : kindAt b at ≡ 6 = not-others no-table no-attribute (eqb-false (kindAt b at) 3 h) in
-          absurd (omega (arith, end-here six .tables))
 
 -- ## A good model's first two records
 

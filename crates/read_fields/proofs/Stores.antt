@@ -6,8 +6,8 @@ use native.Mathlib.Numerals.{add-one}
 use mathlib.Core.Path.{_≡_, refl, sym, ap, _∙_}
 use mathlib.Core.List.{List, [], _∷_, _++_}
 use lib.IntN.{ℤ, pos}
-use lib.ListN.{length, set, take, drop, length-take}
-use lib.Seq.{sets, sets-eq, length-sets}
+use lib.ListN.{length, set, take, length-take}
+use lib.Seq.{sets, length-sets}
 use Rattle.read_fields.specs.RowProgress.{zeros}
 
 -- a store behind the end
@@ -20,10 +20,6 @@ set-behind {A} (x ∷ l) (suc i) v h = ap (λ (t : List A). x ∷ t) (set-behind
 pub sets-append : {A : Type 0} (vs ws l : List A) (i : ℕ) → sets (sets l i vs) (i + length vs) ws ≡ sets l i (vs ++ ws)
 sets-append [] ws l i = rw (add-zero i)
 sets-append (v ∷ vs) ws l i = rw (add-suc i (length vs), ← suc-add i (length vs)) (sets-append vs ws (set l i v) (suc i))
-
--- a run that fits, from the front: the values, and what lay behind them
-pub sets-front : {A : Type 0} (vs l : List A) → length vs ≤ length l → sets l 0 vs ≡ vs ++ drop (length vs) l
-sets-front vs l h = let z : 0 + length vs ≡ length vs = omega arith in rw z at (sets-eq vs l 0 (omega arith))
 
 -- ## Undefined pairs
 

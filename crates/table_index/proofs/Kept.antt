@@ -11,7 +11,6 @@ use lib.ListN.{length, getD, take, set, length-set, replicate}
 use lib.Seq.{getD-take, getD-set-other}
 use borrow.Author.Tests.{ltb-true, ltb-false}
 use Rattle.meaning.specs.Reading.{Object, objectAt, objectsOf, isUsed}
-use Rattle.meaning.specs.Table.{findObject}
 use Rattle.table_index.specs.Objects.{lastOf, Unique}
 use Rattle.table.specs.Rows.{identificationOf, RowsListed}
 use Rattle.table_index.specs.Index.{headOf, hasHead, wordOf, Chained, Indexed}
@@ -150,9 +149,6 @@ module _ (seed : ℕ) (text : List ℕ) (n used : ℕ) (rows : List ℕ) (cells 
   pub held-used : (i : List ℕ) → isUsed i (objectsOf text cells (take n rows)) ≡ isUsed i (objectsOf text (take used cells) (take n rows))
   held-used i = ap (isUsed i) (sym held-objects)
 
-  pub held-found : (t : ℕ) (i : List ℕ) → findObject t 0 i (objectsOf text cells (take n rows)) ≡ findObject t 0 i (objectsOf text (take used cells) (take n rows))
-  held-found t i = ap (findObject t 0 i) (sym held-objects)
-
   -- ## A cell changed
 
   -- a cell of row p behind its first three and before the later rows
@@ -190,10 +186,3 @@ module _ (seed : ℕ) (text : List ℕ) (n used : ℕ) (rows : List ℕ) (cells 
   module _ (cell : ℕ) (v w : ℤ) (b : BesideRows rows n cell) (b′ : BesideRows rows n (cell + 1)) where
     pub held-pair : IndexedTable seed text n used rows (set (set cells cell v) (cell + 1) w) index
     held-pair = held-beside seed text n used rows (set cells cell v) index (held-beside seed text n used rows cells index h cell v b) (cell + 1) w b′
-
-    pub objects-pair : objectsOf text (take used (set (set cells cell v) (cell + 1) w)) (take n rows) ≡ objectsOf text (take used cells) (take n rows)
-    objects-pair =
-        held-objects seed text n used rows (set (set cells cell v) (cell + 1) w) index held-pair
-        ∙ objects-beside seed text n used rows (set cells cell v) index (held-beside seed text n used rows cells index h cell v b) (cell + 1) w b′
-        ∙ objects-beside seed text n used rows cells index h cell v b
-        ∙ sym (held-objects seed text n used rows cells index h)

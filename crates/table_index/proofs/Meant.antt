@@ -143,10 +143,6 @@ module _ (text rows : List ℕ) (cells : List ℤ) (t : ℕ) (i : List ℕ) wher
   abbrev one : ℕ → Found
   one n = choose (eqb (cellAt cells (getD rows n 0)) t && isNamed ids i n) (found n) missing
 
-  -- where one is named among the first n rows, it is one of the n
-  pub object-lt : (n o : ℕ) → n ≤ length rows → findObject t 0 i (objectsOf text cells (take n rows)) ≡ found o → o < n
-  object-lt n o l e = omega (arith, found-lt t 0 i (objectsOf text cells (take n rows)) o e, length-objects text cells (take n rows), length-take-le n rows l)
-
   find-more : (n : ℕ) → n < length rows → findObject t 0 i (objectsOf text cells (take (suc n) rows)) ≡ orElse (findObject t 0 i (objectsOf text cells (take n rows))) (one n)
   unfolding findObject objectAt identificationOf
   find-more n l =

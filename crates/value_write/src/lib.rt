@@ -13,9 +13,9 @@ fn count_digits(n: u64, least: usize) -> usize
     ensures { λ r. ⌜ (least ≤ r) × (r ≤ 19) × (digitsOf least n ≡ lastDigits r n) ⌝ }
 {
     let mut size = 1;
-    let mut rest = n / 10;
-    while 0 < rest {
-        rest /= 10;
+    let mut limit: u64 = 10;
+    while limit <= n {
+        limit *= 10;
         size += 1;
     }
     if size < least { least } else { size }

@@ -8,7 +8,7 @@ use lib.Seq.{sets, sets-eq, length-sets, take-length, take-at, drop-drop}
 use Rattle.base.proofs.Fill.{to-end}
 use Rattle.write_lines.specs.declared.Put.{Put}
 use Rattle.write_lines.specs.Puts.{lastIn, Puts}
-use Rattle.write_lines.proofs.Runs.{sets-sets}
+use Rattle.write_lines.proofs.Runs.{drop-run, sets-sets}
 
 -- bytes named otherwise
 pub renamed : (xs ys : List ℕ) (p : Put) (e e′ : List ℕ) (r : Put) → xs ≡ ys → Puts xs p e e′ r → Puts ys p e e′ r
@@ -61,6 +61,20 @@ pub copied : (n : ℕ) (xs part : List ℕ) → n + length part ≤ length xs
 copied n xs part h =
     rw (take-length part, to-end xs n, drop-of-length-le (drop n xs) {i = length xs - n} (omega (arith, length-drop n xs)), append-nil, drop-drop, sets-eq part xs n h)
     (sym (append-assoc (take n xs) part (drop (n + length part) xs)))
+
+-- bytes set at the front of the slice lent from n to its end stand behind n
+pub stood : (n : ℕ) (xs bs : List ℕ) → n + length bs ≤ length xs
+    → take n xs ++ (sets (take (length xs - n) (drop n xs)) 0 bs ++ drop (length xs - n) (drop n xs)) ≡ sets xs n bs
+stood n xs bs h =
+    let d = length-drop n xs in
+    let z : 0 + length bs ≡ length bs = omega arith in
+    let e : sets (drop n xs) 0 bs ≡ bs ++ drop (n + length bs) xs = sets-eq bs (drop n xs) 0 (omega arith) ∙ rw (z, drop-drop (length bs) n xs) in
+    rw (to-end xs n, e, drop-of-length-le (drop n xs) {i = length xs - n} (omega arith), append-nil (bs ++ drop (n + length bs) xs), sets-eq bs xs n h)
+    (sym (append-assoc (take n xs) bs (drop (n + length bs) xs)))
+
+-- they are what stands there
+pub stands : (n size : ℕ) (xs bs : List ℕ) → n + length bs ≤ length xs → size ≡ length bs → take (n + size - n) (drop n (sets xs n bs)) ≡ bs
+stands n size xs bs h e = rw (drop-run xs n bs h) (take-at bs _ (n + size - n) (omega (arith, e)))
 
 -- ## Bytes put at the front of a room
 

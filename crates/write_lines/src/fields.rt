@@ -18,7 +18,7 @@ pub(crate) fn count_on(count: usize, more: usize) -> usize
 }
 
 // The last byte of a part, or the one before it.
-fn last_in(before: u8, part: &[u8]) -> u8
+pub(crate) fn last_in(before: u8, part: &[u8]) -> u8
     ensures { λ r. ⌜ r ≡ lastIn before (now (part .entry)) ⌝ }
 {
     if part.len() == 0 {

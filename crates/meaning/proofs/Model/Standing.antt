@@ -8,11 +8,11 @@ use mathlib.Core.Bool.{Bool, true, false, not, true≢false, false≢true}
 use mathlib.Core.List.{List, [], _∷_}
 use lib.Dec.{leb, ltb, eqb}
 use lib.ListN.{length, drop, getD, length-take, length-drop, drop-of-length-le}
-use lib.Seq.{drop-cons, getD-take, getD-drop}
+use lib.Seq.{drop-cons}
 use borrow.Author.Tests.{leb-true, leb-false, ltb-true, ltb-false, eqb-true, ne-eqb, not-false}
 use Rattle.meaning.specs.Bytes.{choose, refuse, letter, byteAt, u16At}
-use Rattle.meaning.specs.Model.{Records, finish, overrun, entry, Attribute, Model, noTable, tableAt, flagOf, parametersSize, attributeOf, attributesOf, tablesOf, topicsOf, nameOf, modelOf}
-use Rattle.meaning.specs.Check.{Checked, good, Seen, nothingSeen, isType, isName, follows, followsTransfer, keeps, keepsTransfer, keepsAttribute, see, checkRecords, checkModel}
+use Rattle.meaning.specs.Model.{Records, finish, overrun, entry, Attribute, Model, noTable, tableAt, flagOf, attributesOf, tablesOf, topicsOf, nameOf, modelOf}
+use Rattle.meaning.specs.Check.{Checked, good, Seen, nothingSeen, isName, follows, followsTransfer, keeps, keepsTransfer, see, checkRecords, checkModel}
 use Rattle.meaning.proofs.Model.Marks.{bad-good, passed, references-good, holds, rest-good, is-transfer}
 use Rattle.meaning.proofs.Unfolding.Cuts.{both}
 use Rattle.meaning.proofs.Model.Models.{model-lists}
@@ -147,14 +147,6 @@ module _ (b : List ℕ) (m : Model) (at k t : ℕ) (s : Standing b m at k t) whe
 
   -- the attributes from here on are those from j on of some attributes
   module _ (attributes : List Attribute) (j : ℕ) (a : attributesOf (recordsAt b at) ≡ drop j attributes) where
-    attributes-here : u16At b (at + 2) ≡ 5 → attributeOf at (payloadAt b at) ∷ attributesOf (recordsAt b (nextAt b at)) ≡ drop j attributes
-    unfolding attributesOf choose
-    attributes-here e = rw (is-entry, e) at a
-
-    -- this is attribute j, and the others follow
-    pub attribute-is : (d : Attribute) → u16At b (at + 2) ≡ 5 → (getD attributes j d ≡ attributeOf at (payloadAt b at)) × (attributesOf (recordsAt b (nextAt b at)) ≡ drop (j + 1) attributes) × (j < length attributes)
-    attribute-is d e = first-of attributes j d _ _ (attributes-here e)
-
     -- another record: there are no more
     pub attributes-end : (u16At b (at + 2) ≡ 5 → ⊥) → length attributes ≤ j
     unfolding attributesOf choose
@@ -201,14 +193,6 @@ module _ (b : List ℕ) (m : Model) (at k t : ℕ) (s : Standing b m at k t) whe
   unfolding behind-topic
   table-next e = kind-four b m at k t s _ (subst (λ (x : ℕ). follows x (u16At b (nextAt b at + 2)) ≡ true) e (stands-follows b m (nextAt b at) (k + 1) t (behind-topic b m at k t s e)))
 
-  pub attribute-next : u16At b (at + 2) ≡ 4 → u16At b (nextAt b at + 2) ≡ 5
-  unfolding behind-table
-  attribute-next e = kind-five b m at k t s _ (subst (λ (x : ℕ). follows x (u16At b (nextAt b at + 2)) ≡ true) e (stands-follows b m (nextAt b at) k (t + 1) (behind-table b m at k t s e)))
-
-  pub any-next : u16At b (at + 2) ≡ 5 → (3 ≤ u16At b (nextAt b at + 2)) × (u16At b (nextAt b at + 2) ≤ 6)
-  unfolding behind-attribute
-  any-next e = kind-any b m at k t s _ (subst (λ (x : ℕ). follows x (u16At b (nextAt b at + 2)) ≡ true) e (stands-follows b m (nextAt b at) k t (behind-attribute b m at k t s e)))
-
 -- ## An attribute's payload
 
 no-letter : (longest n : ℕ) (p : List ℕ) → isName longest (drop n p) ≡ true → n < length p
@@ -218,15 +202,6 @@ no-letter longest n p h = go (ltb n (length p)) refl
     go : (x : Bool) → ltb n (length p) ≡ x → n < length p
     go true e = ltb-true n (length p) e
     go false e = absurd (false≢true (rw (drop-of-length-le p (ltb-false n (length p) e)) at h))
-
--- its type is one of 1 to 8, and its parameters are all there, with a name behind them
-pub attribute-sized : (b : List ℕ) (m : Model) (at k t : ℕ) (s : Standing b m at k t) → u16At b (at + 2) ≡ 5
-    → (1 ≤ byteAt (payloadAt b at) 1) × (byteAt (payloadAt b at) 1 ≤ 8) × (2 + parametersSize (byteAt (payloadAt b at) 1) (drop 2 (payloadAt b at)) < length (payloadAt b at))
-unfolding keeps keepsAttribute isType attributeOf choose
-attribute-sized b m at k t s e =
-    let q : keepsAttribute (payloadAt b at) (s .seen) ≡ true = rw e at (stands-keeps b m at k t s) in
-    let y = holds _ 1 q in
-    (leb-true 1 _ (holds _ 0 y), leb-true _ 8 (holds _ 1 y), no-letter 24 _ (payloadAt b at) (holds _ 2 q))
 
 -- ## The first records
 
@@ -250,9 +225,6 @@ module _ (b : List ℕ) (m : Model) (h : checkModel b ≡ good m) where
       let same : good (modelOf (recordsAt b 0)) ≡ good m = references-good _ _ _ m (rest-good 0 nothingSeen (recordsAt b 0) _ m (r .1)) in
       let equal : modelOf (recordsAt b 0) ≡ m = cc in
       (ltb-false 65536 (length b) (r .0), equal, rest-any 0 nothingSeen (recordsAt b 0) _ m (r .1))
-
-  pub good-length : length b ≤ 65536
-  good-length = opened .0
 
   -- at the first record
   pub stands-first : Standing b m 0 0 0
@@ -345,17 +317,6 @@ module _ (b : List ℕ) (m : Model) (h : checkModel b ≡ good m) where
   pub transfer-length : 3 < u16At b 0
   unfolding keepsTransfer
   transfer-length = let l = no-letter 63 3 (payloadAt b 0) (holds _ 6 transfer-keeps) in omega (arith, l, length-take (u16At b 0) (drop (0 + 4) b))
-
-  byte-of : (i : ℕ) → i < 3 → byteAt (payloadAt b 0) i ≡ byteAt b (4 + i)
-  byte-of i q = getD-take (u16At b 0) (drop (0 + 4) b) i 0 (omega (arith, transfer-length)) ∙ getD-drop (0 + 4) b i 0
-
-  pub good-undefined : m .undefined ≡ byteAt b 5
-  unfolding modelOf
-  good-undefined = sym (ap (λ (x : Model). x .undefined) model-of) ∙ byte-of 1 (omega arith)
-
-  pub good-continuation : m .mark ≡ byteAt b 6
-  unfolding modelOf
-  good-continuation = sym (ap (λ (x : Model). x .mark) model-of) ∙ byte-of 2 (omega arith)
 
   pub good-transfer : m .transfer ≡ drop 3 (payloadAt b 0)
   unfolding modelOf

@@ -6,7 +6,7 @@ use mathlib.Core.Path.{_≡_, refl, sym, ap, _∙_}
 use mathlib.Core.Bool.{Bool, true, false}
 use mathlib.Core.List.{List, [], _∷_, _++_, append-assoc, append-nil}
 use lib.Dec.{leb, ltb, lit<}
-use lib.IntN.{ℤ, pos, natAbs}
+use lib.IntN.{ℤ, pos}
 use lib.Signed.{ltZ}
 use lib.ListN.{length, take, drop, length-append, take-append-drop}
 use lib.Seq.{take-at, drop-at}
@@ -38,15 +38,6 @@ tens-below j k h = go (ltb j k) refl
 -- what is left of n without its last digits
 pub div-tens : (n k : ℕ) → n / 10 / 10 ^ k ≡ n / 10 ^ suc k
 div-tens n k = div-div-eq-div-mul n 10 (10 ^ k) ∙ ap (λ (p : ℕ). n / p) (mul-comm 10 (10 ^ k) ∙ sym (pow-suc 10 k))
-
-pub tens-div : (n k : ℕ) → n / 10 ^ k / 10 ≡ n / 10 ^ suc k
-tens-div n k = div-div-eq-div-mul n (10 ^ k) 10 ∙ ap (λ (p : ℕ). n / p) (sym (pow-suc 10 k))
-
-pub none-left : (n k : ℕ) → n / 10 ^ k ≡ 0 → n < 10 ^ k
-none-left n k e = let r : n < 1 * 10 ^ k = div-lt-iff-lt-mul {k = 10 ^ k} {x = n} {y = 1} (tens k) .0 (omega arith) in omega arith
-
-pub some-left : (n k : ℕ) → 0 < n / 10 ^ k → 10 ^ k ≤ n
-some-left n k e = let r : 1 * 10 ^ k ≤ n = le-div-iff-mul-le {k = 10 ^ k} {x = 1} {y = n} (tens k) .0 e in omega arith
 
 pub left-some : (n k : ℕ) → 10 ^ k ≤ n → 0 < n / 10 ^ k
 left-some n k h = le-div-iff-mul-le {k = 10 ^ k} {x = 1} {y = n} (tens k) .1 (omega arith)
@@ -152,15 +143,3 @@ unfolding pointed
 point-more d s =
     length-append (take (length s - suc d) s) (0x2e ∷ drop (length s - suc d) s)
     ∙ omega (arith, length-append (take (length s - suc d) s) (drop (length s - suc d) s), ap (λ (l : List ℕ). length l) (take-append-drop (length s - suc d) s))
-
-pointed-most : (d : ℕ) (s : List ℕ) → length (pointed d s) ≤ length s + 1
-unfolding pointed
-pointed-most zero s = omega arith
-pointed-most (suc d) s = omega (arith, point-more d s)
-
--- a cell's value takes 21 bytes at most: a sign, 19 digits and a point
-pub bytes-most : (least d : ℕ) (v : ℤ) → length (signOf v ++ pointed d (digitsOf least (natAbs v))) ≤ 21
-unfolding digitsOf
-bytes-most least d v =
-    let n : ℕ = natAbs v in
-    omega (arith, length-append (signOf v) (pointed d (digitsOf least n)), sign-one v, pointed-most d (digitsOf least n), short-most least (lastDigits 19 n), last-length 19 n)
