@@ -3,12 +3,12 @@ use Prim.Native.Nat.{ℕ, suc, _+_, _-_, _≤_, _<_, min}
 use native.Mathlib.Omega.{arith}
 use mathlib.Core.Path.{_≡_, refl, sym, subst, _∙_}
 use mathlib.Core.List.{List, [], _∷_, _++_, append-assoc, append-nil}
-use lib.ListN.{length, take, drop, getD, length-append, length-drop, drop-of-length-le}
+use lib.ListN.{length, take, drop, getD, set, length-append, length-drop, drop-of-length-le}
 use lib.Seq.{sets, sets-eq, length-sets, take-length, take-at, drop-drop}
 use Rattle.base.proofs.Fill.{to-end}
 use Rattle.write_lines.specs.declared.Put.{Put}
 use Rattle.write_lines.specs.Puts.{lastIn, Puts}
-use Rattle.write_lines.proofs.Runs.{drop-run, sets-sets}
+use Rattle.write_lines.proofs.Runs.{drop-run, sets-sets, set-sets}
 
 -- bytes named otherwise
 pub renamed : (xs ys : List ℕ) (p : Put) (e e′ : List ℕ) (r : Put) → xs ≡ ys → Puts xs p e e′ r → Puts ys p e e′ r
@@ -75,6 +75,13 @@ stood n xs bs h =
 -- they are what stands there
 pub stands : (n size : ℕ) (xs bs : List ℕ) → n + length bs ≤ length xs → size ≡ length bs → take (n + size - n) (drop n (sets xs n bs)) ≡ bs
 stands n size xs bs h e = rw (drop-run xs n bs h) (take-at bs _ (n + size - n) (omega (arith, e)))
+
+-- a byte set before bytes that stand
+pub byte-before : (n b : ℕ) (xs bs : List ℕ) → set (sets xs (n + 1) bs) (n + 1 - 1) b ≡ sets xs n (b ∷ bs)
+byte-before n b xs bs =
+    let e : n + 1 ≡ suc n = omega arith in
+    let f : n + 1 - 1 ≡ n = omega arith in
+    rw (f, e) (set-sets n b xs (suc n) bs (omega arith))
 
 -- ## Bytes put at the front of a room
 

@@ -36,7 +36,7 @@ pub sets-sets : (xs : List ℕ) (l : List ℕ) (i : ℕ) (ys : List ℕ) → set
 sets-sets [] l i ys = ap (λ (k : ℕ). sets l k ys) (add-zero i)
 sets-sets (x ∷ xs) l i ys = ap (λ (k : ℕ). sets (sets (set l i x) (suc i) xs) k ys) (omega arith) ∙ sets-sets xs (set l i x) (suc i) ys
 
-set-sets : (j : ℕ) (a : ℕ) (l : List ℕ) (i : ℕ) (vs : List ℕ) → j < i → set (sets l i vs) j a ≡ sets (set l j a) i vs
+pub set-sets : (j : ℕ) (a : ℕ) (l : List ℕ) (i : ℕ) (vs : List ℕ) → j < i → set (sets l i vs) j a ≡ sets (set l j a) i vs
 set-sets j a l i [] h = refl
 set-sets j a l i (v ∷ vs) h = set-sets j a (set l i v) (suc i) vs (omega arith) ∙ ap (λ (k : List ℕ). sets k (suc i) vs) (set-comm l i j v a (λ e. omega arith))
 

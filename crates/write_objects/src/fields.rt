@@ -122,15 +122,6 @@ fn put_undefined(undefined: u8, out: &mut [u8], put: Put) -> Put
     put_field(out, put, &field)
 }
 
-// A number behind a space.
-pub(crate) fn put_number_field(decimals: u8, v: i64, out: &mut [u8], put: Put) -> Put
-    requires { ⌜ decimals ≤ 9 ⌝ }
-    ensures { λ r. ⌜ Puts (0x20 ∷ numberBytes decimals v) put (now (out .entry)) (now (out .exit)) r ⌝ }
-{
-    let gap = put_byte(out, put, b' ');
-    values::put_number(out, gap, decimals, v)
-}
-
 // A value behind a space.
 fn put_value_field(
     text: &[u8],
@@ -196,7 +187,7 @@ fn put_component(
         return put_undefined(undefined, out, put);
     }
     let b = cells::cell_behind(cells, cell, 1);
-    put_number_field(decimals, b, out, put)
+    values::put_number_field(out, put, decimals, b)
 }
 
 // The fields of a coordinate.

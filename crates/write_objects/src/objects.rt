@@ -28,6 +28,7 @@ use write_lines::Put;
 use write_lines::cuts::end_line;
 use write_lines::fields::put_bytes;
 use write_lines::fields::put_nothing;
+use write_lines::values;
 
 // The fields of the pairs, from this cell on, of the attribute whose record is at a byte.
 fn put_attribute_at(
@@ -168,7 +169,7 @@ fn put_point_fields(
     while i < count {
         let component = items[i];
         let v = cells::cell_behind(points, at, i + 1);
-        all = fields::put_number_field(component.decimals, v, out, all);
+        all = values::put_number_field(out, all, component.decimals, v);
         i += 1;
     }
     all
