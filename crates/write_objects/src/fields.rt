@@ -15,7 +15,15 @@ ghost use Rattle.write_objects.specs.Given.{componentFields, GoodCompone
 ghost use Rattle.table.specs.Contents.{unmarkedIn};
 use base::numbers::magnitude;
 use model_records::Attribute;
+use model_records::COORDINATE_2;
+use model_records::COORDINATE_3;
 use model_records::Components;
+use model_records::DATE;
+use model_records::ENUMERATION;
+use model_records::LINE;
+use model_records::NUMBER;
+use model_records::REFERENCE;
+use model_records::TEXT;
 use table::cells;
 use table::stretches::cut_stretch;
 use write_lines::Put;
@@ -105,11 +113,11 @@ fn put_value(
     let items = components.items;
     let first = items[0];
     match kind {
-        1 => put_reference(text, rows, cells, b, out, put),
-        4 => values::put_number(out, put, first.decimals, b),
-        5 => put_text(text, a, b, out, put),
-        6 => values::put_date(out, put, b),
-        7 => values::put_leaf(out, put, b),
+        REFERENCE => put_reference(text, rows, cells, b, out, put),
+        NUMBER => values::put_number(out, put, first.decimals, b),
+        TEXT => put_text(text, a, b, out, put),
+        DATE => values::put_date(out, put, b),
+        ENUMERATION => values::put_leaf(out, put, b),
         _ => put_nothing(put),
     }
 }
@@ -237,11 +245,11 @@ pub(crate) fn put_attribute(
 {
     let kind = attribute.kind;
     match kind {
-        2 | 3 => {
+        COORDINATE_2 | COORDINATE_3 => {
             let components = attribute.components;
             put_components(cells, undefined, components, cell, out, put)
         }
-        8 => put_nothing(put),
+        LINE => put_nothing(put),
         _ => put_pair(text, rows, cells, undefined, attribute, cell, out, put),
     }
 }
