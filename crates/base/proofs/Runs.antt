@@ -13,7 +13,7 @@ use Rattle.meaning.specs.Field.{goesOn, addToFields, fieldsOf}
 use Rattle.meaning.proofs.Values.Digits.{every-append}
 use Rattle.meaning.proofs.Reading.Fields.{solid, one-field}
 use Rattle.base.specs.Fields.{FirstField}
-use Rattle.base.proofs.Scan.{drop-next}
+use Rattle.meaning.proofs.Lists.{drop-next}
 
 -- ## Separators in front
 
@@ -21,15 +21,15 @@ module _ (l : List ℕ) (i : ℕ) where
   -- one separator more
   pub skip-next : i < length l → separator (getD l i 0) ≡ true → ((s : ℕ) → fieldsOf s l ≡ fieldsOf (s + i) (drop i l)) → (s : ℕ) → fieldsOf s l ≡ fieldsOf (s + (i + 1)) (drop (i + 1) l)
   unfolding fieldsOf addToFields
-  skip-next h e inv s = inv s ∙ rw (drop-next l i h) (rw (e, add-assoc s i 1))
+  skip-next h e inv s = inv s ∙ rw (drop-next l i 0 h) (rw (e, add-assoc s i 1))
 
   pub goes-on : i < length l → separator (getD l i 0) ≡ false → goesOn (drop i l) ≡ true
   unfolding goesOn
-  goes-on h e = rw (drop-next l i h) (rw e)
+  goes-on h e = rw (drop-next l i 0 h) (rw e)
 
   pub stops-at : i < length l → separator (getD l i 0) ≡ true → goesOn (drop i l) ≡ false
   unfolding goesOn
-  stops-at h e = rw (drop-next l i h) (rw e)
+  stops-at h e = rw (drop-next l i 0 h) (rw e)
 
   pub stops-behind : length l ≤ i → goesOn (drop i l) ≡ false
   unfolding goesOn

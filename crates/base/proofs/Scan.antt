@@ -1,20 +1,15 @@
 -- What one turn of each scanning loop shows: the definition at `drop i l` is that at `drop (i + 1) l` with the byte at i before it.
 -- Assumes nothing.
 use Prim.Native.Nat.{ℕ, zero, suc, _+_, _<_, _≤_}
-use native.Mathlib.Numerals.{add-one}
 use native.Mathlib.Omega.{arith}
 use mathlib.Core.Path.{_≡_, refl, sym, ap, _∙_}
 use mathlib.Core.Bool.{Bool, true, false, _&&_, and-assoc, and-true}
 use mathlib.Core.List.{List, [], _∷_}
 use lib.ListN.{length, getD, take, drop, drop-of-length-le}
-use lib.Seq.{drop-cons}
 use lib.Dec.{eqb}
 use borrow.Author.Tests.{eq-eqb, ne-eqb}
 use Rattle.meaning.specs.Bytes.{every, same, prefix, ends}
-
--- the rest at i, as its first byte and the rest at i + 1
-pub drop-next : (l : List ℕ) (i : ℕ) → i < length l → drop i l ≡ getD l i 0 ∷ drop (i + 1) l
-drop-next l i h = rw (add-one, drop-cons l i 0)
+use Rattle.meaning.proofs.Lists.{drop-next}
 
 -- a test with one that fails
 pub and-false : (t : Bool) {u : Bool} → u ≡ false → (t && u) ≡ false
@@ -26,7 +21,7 @@ and-false false e = refl
 module _ (kind : ℕ → Bool) (l : List ℕ) (i : ℕ) where
   pub every-at : i < length l → every kind (drop i l) ≡ (kind (getD l i 0) && every kind (drop (i + 1) l))
   unfolding every
-  every-at h = rw (drop-next l i h)
+  every-at h = rw (drop-next l i 0 h)
 
   pub every-none : length l ≤ i → every kind (drop i l) ≡ true
   unfolding every
@@ -56,11 +51,11 @@ module _ (a b : List ℕ) (i : ℕ) where
 
   pub same-miss : i < length a → i < length b → (getD a i 0 ≡ getD b i 0 → ⊥) → same (drop i a) (drop i b) ≡ false
   unfolding same
-  same-miss h g e = rw (drop-next a i h, drop-next b i g, ne-eqb _ _ e)
+  same-miss h g e = rw (drop-next a i 0 h, drop-next b i 0 g, ne-eqb _ _ e)
 
   pub same-hit : i < length a → i < length b → getD a i 0 ≡ getD b i 0 → same (drop i a) (drop i b) ≡ same (drop (i + 1) a) (drop (i + 1) b)
   unfolding same
-  same-hit h g e = rw (drop-next a i h, drop-next b i g, eq-eqb _ _ e)
+  same-hit h g e = rw (drop-next a i 0 h, drop-next b i 0 g, eq-eqb _ _ e)
 
 -- from the back: the last of the first i bytes, behind those before it
 pub same-last : (a b : List ℕ) (i k : ℕ) → i ≡ suc k → k < length a → k < length b
@@ -90,11 +85,11 @@ module _ (word l : List ℕ) (i : ℕ) where
 
   pub prefix-miss : i < length word → i < length l → (getD l i 0 ≡ getD word i 0 → ⊥) → prefix (drop i word) (drop i l) ≡ false
   unfolding prefix
-  prefix-miss h g e = rw (drop-next word i h, drop-next l i g, ne-eqb _ _ e)
+  prefix-miss h g e = rw (drop-next word i 0 h, drop-next l i 0 g, ne-eqb _ _ e)
 
   pub prefix-hit : i < length word → i < length l → getD l i 0 ≡ getD word i 0 → prefix (drop i word) (drop i l) ≡ prefix (drop (i + 1) word) (drop (i + 1) l)
   unfolding prefix
-  prefix-hit h g e = rw (drop-next word i h, drop-next l i g, eq-eqb _ _ e)
+  prefix-hit h g e = rw (drop-next word i 0 h, drop-next l i 0 g, eq-eqb _ _ e)
 
 -- ## The last byte, by its index
 

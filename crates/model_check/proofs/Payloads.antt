@@ -1,23 +1,18 @@
 -- Payloads as parts of the model, and names as parts of payloads. Assumes nothing.
-use Prim.Native.Nat.{ℕ, zero, suc, _+_, _*_, _-_, _/_, _%_, _≤_, _<_}
+use Prim.Native.Nat.{ℕ, _+_, _*_, _-_, _/_, _%_, _≤_, _<_}
 use native.Mathlib.Omega.{arith}
 use mathlib.Core.Path.{_≡_, sym}
-use mathlib.Core.List.{List, [], _∷_}
+use mathlib.Core.List.{List}
 use lib.ListN.{length, take, drop, length-take, drop-of-length-le}
-use lib.Seq.{take-nil, drop-nil, drop-drop}
+use lib.Seq.{drop-drop}
 use Rattle.meaning.specs.Bytes.{u16At}
 use Rattle.model_check.specs.Names.{nameOf}
 use Rattle.model_records.specs.Records.{payloadAt, nextAt}
+use Rattle.meaning.proofs.Lists.{drop-take}
 
 -- the part of the model from behind a record's four bytes to the next record is its payload
 pub part-payload : (b : List ℕ) (at end : ℕ) → end ≡ nextAt b at → take (end - (at + 4)) (drop (at + 4) b) ≡ payloadAt b at
 part-payload b at end e = let k : end - (at + 4) ≡ u16At b at = omega arith in rw k
-
-drop-take : {A : Type 0} (f k : ℕ) (xs : List A) → drop f (take k xs) ≡ take (k - f) (drop f xs)
-drop-take zero k xs = let e : k - 0 ≡ k = omega arith in rw e
-drop-take (suc f) zero xs = let e : zero - suc f ≡ 0 = omega arith in rw e (drop-nil (suc f))
-drop-take (suc f) (suc k) [] = rw (take-nil (suc k - suc f))
-drop-take (suc f) (suc k) (x ∷ xs) = let e : suc k - suc f ≡ k - f = omega arith in rw e (drop-take f k xs)
 
 -- the name that is kept for a payload of k bytes from s on, of which the first f bytes are no name
 pub word-name : (b : List ℕ) (s k f : ℕ) → f < k → k < 65536 → nameOf b (65536 * (s + f) + (k - f)) ≡ drop f (take k (drop s b))

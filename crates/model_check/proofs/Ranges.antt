@@ -5,14 +5,11 @@ use mathlib.Core.Path.{_≡_, refl, ap, _∙_}
 use mathlib.Core.Bool.{Bool, true, false, _&&_, Bool·beq, false≢true}
 use lib.Dec.{eqb, ltb}
 use borrow.Author.Tests.{eqb-true, eqb-false, ltb-true, ltb-false}
+use Rattle.meaning.proofs.Tests.Refuse.{both}
 
 unfoldable pub rangeIs : (ℕ → Bool) → Bool → ℕ → ℕ → Bool
 rangeIs test t low zero = true
 rangeIs test t low (suc n) = Bool·beq (test low) t && rangeIs test t (suc low) n
-
-pub both : (a b : Bool) → (a && b) ≡ true → (a ≡ true) × (b ≡ true)
-both true b h = (refl, h)
-both false b h = absurd (false≢true h)
 
 beq-true : (a b : Bool) → Bool·beq a b ≡ true → a ≡ b
 beq-true true true h = refl

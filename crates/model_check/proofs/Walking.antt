@@ -20,8 +20,8 @@ use Rattle.model_records.specs.Records.{recordsAt, payloadAt, nextAt}
 use Rattle.model_check.specs.References.{topicNumbers}
 use Rattle.model_check.specs.Walk.{seenOf, passesAt, advancedOn, WalkerHolds}
 use Rattle.model_check.specs.declared.check.Walker.{Walker}
-use Rattle.model_check.proofs.Ranges.{both}
 use Rattle.model_check.proofs.Words.{names-kept, names-more, names-length}
+use Rattle.meaning.proofs.Tests.Refuse.{both}
 
 -- ## What holds at each record
 

@@ -5,26 +5,15 @@ use native.Mathlib.Omega.{arith}
 use mathlib.Core.Path.{_≡_, refl, ap, _∙_}
 use mathlib.Core.Bool.{Bool, true, false, _||_}
 use mathlib.Core.List.{List, [], _∷_, _++_}
-use lib.ListN.{length, take, drop, getD, set, length-drop, drop-of-length-le}
+use lib.ListN.{length, take, drop, getD, set, drop-of-length-le}
 use lib.Dec.{leb}
-use lib.Seq.{take-nil, take-all, take-suc-set, take-set-le}
+use lib.Seq.{take-nil, take-suc-set, take-set-le}
 use borrow.Author.Tests.{leb-true, leb-false}
 use native.Mathlib.Numerals.{add-one}
 use Rattle.meaning.specs.Bytes.{same}
 use Rattle.meaning.specs.Check.{isAmong}
-use Rattle.base.proofs.Scan.{drop-next}
 use Rattle.model_check.specs.Names.{nameOf, namesOf}
-
--- a part that ends at the list's end at the latest
-part : (k s n : ℕ) (b : List ℕ) → n ≡ length b → take (min k (n - s)) (drop s b) ≡ take k (drop s b)
-part k s n b e = go (leb k (n - s)) refl
-  where
-    go : (x : Bool) → leb k (n - s) ≡ x → take (min k (n - s)) (drop s b) ≡ take k (drop s b)
-    go true h = let l = leb-true k (n - s) h in let m : min k (n - s) ≡ k = omega arith in rw m
-    go false h =
-        let l = leb-false k (n - s) h in
-        let m : min k (n - s) ≡ n - s = omega arith in
-        rw (m, take-all (n - s) (drop s b) (rw length-drop (omega arith)), take-all k (drop s b) (rw length-drop (omega arith)))
+use Rattle.meaning.proofs.Lists.{part, drop-next}
 
 -- the part of the model from the lesser of start and length on
 pub word-part : (b : List ℕ) (word start end : ℕ) → start ≡ min (word / 65536) (length b) → end ≡ start + min (word % 65536) (length b - start)
@@ -52,7 +41,7 @@ word-part b word start end e f = go (leb (word / 65536) (length b)) refl
 module _ (b name words : List ℕ) (i : ℕ) where
   pub among-at : i < length words → isAmong name (namesOf b (drop i words)) ≡ (same (nameOf b (getD words i 0)) name || isAmong name (namesOf b (drop (i + 1) words)))
   unfolding isAmong namesOf
-  among-at h = rw (drop-next words i h)
+  among-at h = rw (drop-next words i 0 h)
 
   pub among-end : length words ≤ i → isAmong name (namesOf b (drop i words)) ≡ false
   unfolding isAmong namesOf

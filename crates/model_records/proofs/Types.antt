@@ -7,8 +7,8 @@ use mathlib.Core.List.{List, [], _∷_}
 use mathlib.Core.Logic.{_⊎_, inl, inr, ⊎-elim}
 use lib.Dec.{eqb}
 use lib.ListN.{length, take, drop, getD, length-take, length-drop}
-use lib.Seq.{take-nil, getD-take, getD-drop, drop-drop}
-use borrow.Author.Tests.{leb-true, eq-eqb, ne-eqb, eqb-false}
+use lib.Seq.{getD-take, getD-drop, drop-drop}
+use borrow.Author.Tests.{leb-true, eq-eqb, ne-eqb, eqb-true, eqb-false}
 use Rattle.meaning.specs.Bytes.{choose, letter, byteAt, u16At}
 use Rattle.meaning.specs.Model as meaning
 use Rattle.meaning.specs.Check.{isName, isType, isDimension}
@@ -20,14 +20,9 @@ use Rattle.model_records.specs.Records.{payloadAt, nextAt}
 use Rattle.model_records.specs.Attributes.{typeOf, numberOf, countOf, startOf, ParametersFit, PayloadAttribute, RecordAttribute}
 use Rattle.model_records.specs.AtRecord.{AttributeHere}
 use Rattle.meaning.proofs.Tests.Refuse.{holds}
+use Rattle.meaning.proofs.Lists.{drop-take}
 
 -- ## A part of a payload
-
-drop-take : {A : Type 0} (k n : ℕ) (l : List A) → drop k (take n l) ≡ take (n - k) (drop k l)
-drop-take zero n l = let e : n - 0 ≡ n = omega arith in rw e
-drop-take (suc k) zero l = let e : 0 - suc k ≡ 0 = omega arith in rw e
-drop-take (suc k) (suc n) [] = sym (take-nil (suc n - suc k))
-drop-take (suc k) (suc n) (x ∷ l) = let e : suc n - suc k ≡ n - k = omega arith in rw e (drop-take k n l)
 
 -- the model's bytes from a byte of a payload on to the next record
 pub payload-part : (b : List ℕ) (at k start : ℕ) → start ≡ at + 4 + k → take (nextAt b at - start) (drop start b) ≡ drop k (payloadAt b at)
@@ -194,3 +189,13 @@ line-type a (inr z) =
       ne-eqb (a .kind) 6 (λ x. omega arith),
       ne-eqb (a .kind) 7 (λ x. omega arith),
     )
+
+-- a line has two or three components
+pub few-components : (n : ℕ) → isDimension n ≡ true → (2 ≤ n) × (n ≤ 3)
+unfolding isDimension
+few-components n h = go (eqb n 2) refl (eqb n 3) refl
+  where
+    go : (x : Bool) → eqb n 2 ≡ x → (y : Bool) → eqb n 3 ≡ y → (2 ≤ n) × (n ≤ 3)
+    go true e y f = (omega (arith, eqb-true n 2 e), omega (arith, eqb-true n 2 e))
+    go false e true f = (omega (arith, eqb-true n 3 f), omega (arith, eqb-true n 3 f))
+    go false e false f = absurd (false≢true (rw (e, f) at h))

@@ -2,13 +2,12 @@
 use Prim.Native.Nat.{ℕ, zero, suc, _+_, _≤_, _<_, min}
 use native.Mathlib.Omega.{arith}
 use native.Mathlib.Nat.{zero-add}
-use native.Mathlib.Numerals.{add-one}
 use mathlib.Core.Path.{_≡_, refl, sym, ap, _∙_}
 use mathlib.Core.Bool.{Bool, true, false, not, _&&_, _||_, or-false, or-assoc, and-false}
 use mathlib.Core.List.{List, [], _∷_}
 use lib.Dec.{eqb, leb}
 use lib.ListN.{length, take, drop, getD, drop-of-length-le}
-use lib.Seq.{drop-cons, take-all}
+use lib.Seq.{take-all}
 use borrow.Author.Tests.{leb-true, leb-false, eq-eqb, ne-eqb, lt-leb, le-leb, lt-ltb, le-ltb}
 use Rattle.meaning.specs.Bytes.{choose}
 use Rattle.meaning.specs.Model.{Model, Table, found, missing, noTable, tableAt}
@@ -16,6 +15,7 @@ use Rattle.meaning.specs.Reading.{sameName, findTopic, findTable, mandatoryBetw
 use Rattle.read_frame.specs.Finds.{foundAt, FoundTable}
 use Rattle.meaning.proofs.Tests.Unequal.{no-found, same-found}
 use Rattle.meaning.proofs.Model.Names.{none-mandatory}
+use Rattle.meaning.proofs.Lists.{drop-next}
 
 -- the first 24 bytes, of a shorter name too
 pub first-bytes : (l : List ℕ) → take (min 24 (length l)) l ≡ take 24 l
@@ -24,10 +24,6 @@ first-bytes l = go (leb 24 (length l)) refl
     go : (x : Bool) → leb 24 (length l) ≡ x → take (min 24 (length l)) l ≡ take 24 l
     go true h = let k = leb-true 24 (length l) h in let e : min 24 (length l) ≡ 24 = omega arith in rw e
     go false h = let k = leb-false 24 (length l) h in let e : min 24 (length l) ≡ length l = omega arith in rw (e, take-all (length l) l (omega arith), take-all 24 l (omega arith))
-
--- the list from a place on
-from-on : {A : Type 0} (l : List A) (n : ℕ) (d : A) → n < length l → drop n l ≡ getD l n d ∷ drop (n + 1) l
-from-on l n d h = rw add-one (drop-cons l n d h)
 
 -- ## Topics
 
@@ -57,11 +53,11 @@ module _ (from : ℕ) (name : List ℕ) (ts : List (List ℕ)) where
 
   pub topic-hit : (k : ℕ) → k < length ts → from ≤ k → sameName (getD ts k []) name ≡ true → findTopic from k name (drop k ts) ≡ found k
   unfolding findTopic choose
-  topic-hit k l g e = rw (from-on ts k [] l, le-leb from k g, e)
+  topic-hit k l g e = rw (drop-next ts k [] l, le-leb from k g, e)
 
   pub topic-pass : (k : ℕ) → k < length ts → from ≤ k → sameName (getD ts k []) name ≡ false → findTopic from k name (drop k ts) ≡ findTopic from (k + 1) name (drop (k + 1) ts)
   unfolding findTopic choose
-  topic-pass k l g e = rw (from-on ts k [] l, le-leb from k g, e)
+  topic-pass k l g e = rw (drop-next ts k [] l, le-leb from k g, e)
 
   pub topic-none : (k : ℕ) → length ts ≤ k → findTopic from k name (drop k ts) ≡ missing
   unfolding findTopic
@@ -90,16 +86,16 @@ module _ (p from : ℕ) (name : List ℕ) (ts : List Table) where
   module _ (t : ℕ) (l : t < length ts) where
     pub table-hit : from ≤ t → tableAt ts t .topic ≡ p → sameName (tableAt ts t .name) name ≡ true → findTable p from t name (drop t ts) ≡ found t
     unfolding findTable choose
-    table-hit g o e = rw (from-on ts t noTable l, le-leb from t g, eq-eqb (tableAt ts t .topic) p o, e)
+    table-hit g o e = rw (drop-next ts t noTable l, le-leb from t g, eq-eqb (tableAt ts t .topic) p o, e)
 
     -- a table of another name, and one of another topic
     pub table-pass : sameName (tableAt ts t .name) name ≡ false → findTable p from t name (drop t ts) ≡ findTable p from (t + 1) name (drop (t + 1) ts)
     unfolding findTable choose
-    table-pass e = rw (from-on ts t noTable l, e, and-false (leb from t && eqb (tableAt ts t .topic) p))
+    table-pass e = rw (drop-next ts t noTable l, e, and-false (leb from t && eqb (tableAt ts t .topic) p))
 
     pub table-other : (tableAt ts t .topic ≡ p → ⊥) → findTable p from t name (drop t ts) ≡ findTable p from (t + 1) name (drop (t + 1) ts)
     unfolding findTable choose
-    table-other n = rw (from-on ts t noTable l, ne-eqb (tableAt ts t .topic) p n, and-false (leb from t))
+    table-other n = rw (drop-next ts t noTable l, ne-eqb (tableAt ts t .topic) p n, and-false (leb from t))
 
 -- ## Mandatory tables
 

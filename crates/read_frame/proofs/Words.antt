@@ -14,12 +14,7 @@ use Rattle.meaning.proofs.Unfolding.Cuts.{both}
 use Rattle.meaning.proofs.Tests.Same.{same-is, same-refl}
 use Rattle.base.proofs.Scan.{same-length}
 use Rattle.read_frame.specs.Codes.{codes, numberIn, codeNumber, wordIn}
-
--- two tests that hold together are equal
-equal-tests : (p q : Bool) → (p ≡ true → q ≡ true) → (q ≡ true → p ≡ true) → p ≡ q
-equal-tests true q f g = sym (f refl)
-equal-tests false true f g = g refl
-equal-tests false false f g = refl
+use Rattle.meaning.proofs.Tests.Refuse.{same-test}
 
 -- ## Four bytes as a word
 
@@ -37,7 +32,7 @@ pub record Four (s : List ℕ) : Type 0 where
 
 same-word : (c s : List ℕ) → Four c → Four s → same c s ≡ eqb (u32At s 0) (u32At c 0)
 same-word c s f g =
-    equal-tests (same c s) (eqb (u32At s 0) (u32At c 0))
+    same-test (same c s) (eqb (u32At s 0) (u32At c 0))
     (λ h. eq-eqb _ _ (ap (λ (x : List ℕ). u32At x 0) (sym (same-is c s h))))
     (λ h. words c s f g (eqb-true _ _ h))
   where

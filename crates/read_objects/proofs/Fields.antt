@@ -1,12 +1,12 @@
 -- The fields of an OBJE line: the identification, 15, and the row. Assumes nothing.
-use Prim.Native.Nat.{ℕ, zero, suc, _+_, _-_, _≤_}
+use Prim.Native.Nat.{ℕ, _+_, _-_, _≤_}
 use native.Mathlib.Omega.{arith}
 use mathlib.Core.Path.{_≡_, refl, sym, ap, subst, _∙_}
 use mathlib.Core.Bool.{Bool, true, false}
 use mathlib.Core.List.{List, [], _∷_}
 use lib.IntN.{ℤ}
 use lib.ListN.{length, take, drop, length-drop}
-use lib.Seq.{take-nil, take-take, drop-drop, length-take-le}
+use lib.Seq.{take-take, drop-drop, length-take-le}
 use Rattle.meaning.specs.Bytes.{refuse}
 use Rattle.meaning.specs.Model.{Model, tableAt}
 use Rattle.meaning.specs.Field.{Field, fieldsOf, fieldAt}
@@ -27,20 +27,15 @@ use Rattle.read_objects.specs.declared.naming.IdentificationForm.{Identi
 use Rattle.read_objects.specs.declared.naming.IdentificationForm.the-variants.{At}
 use Rattle.read_objects.specs.Names.{identifyIn, IdentifiedAt, Identifies}
 use Rattle.read_objects.specs.Rows.{RowAdds}
+use Rattle.meaning.proofs.Lists.{drop-take}
 
 -- ## Parts of the text
-
-drop-taken : {A : Type 0} (k n : ℕ) (l : List A) → drop k (take n l) ≡ take (n - k) (drop k l)
-drop-taken zero n l = let e : n - 0 ≡ n = omega arith in rw e
-drop-taken (suc k) zero l = let e : 0 - suc k ≡ 0 = omega arith in rw e
-drop-taken (suc k) (suc n) [] = sym (take-nil (suc n - suc k))
-drop-taken (suc k) (suc n) (x ∷ l) = let e : suc n - suc k ≡ n - k = omega arith in rw e (drop-taken k n l)
 
 -- the part from a later byte on
 pub part-behind : (text : List ℕ) (at end k : ℕ) → drop k (stretch text at (end - at)) ≡ stretch text (at + k) (end - (at + k))
 part-behind text at end k =
     let e : end - at - k ≡ end - (at + k) = omega arith in
-    drop-taken k (end - at) (drop at text) ∙ rw (drop-drop k at text, e)
+    drop-take k (end - at) (drop at text) ∙ rw (drop-drop k at text, e)
 
 -- the first bytes of the part from a later byte on
 part-first : (text : List ℕ) (from end a size : ℕ) → a + size ≤ end - from → take size (drop a (stretch text from (end - from))) ≡ stretch text (from + a) size

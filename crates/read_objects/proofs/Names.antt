@@ -12,6 +12,7 @@ use Rattle.meaning.specs.Value.{isIdentification, isUndefined, isUndefinedTwice
 use Rattle.meaning.specs.Lines.{Step, no}
 use Rattle.read_fields.specs.FieldForm.{FieldTaken, TwiceTaken}
 use Rattle.read_objects.specs.Names.{identifyIn, IdentifiedAt}
+use Rattle.meaning.proofs.Tests.Refuse.{or-right}
 
 -- ## A first field
 
@@ -19,10 +20,6 @@ or-left : (x y : Bool) → x ≡ true → (x || y) ≡ true
 or-left true y e = refl
 or-left false true e = refl
 or-left false false e = e
-
-or-right : (x y : Bool) → y ≡ true → (x || y) ≡ true
-or-right true y e = refl
-or-right false y e = e
 
 module _ (u : ℕ) (f : Field) (fs : List Field) (next : Step) where
   undefined-first : (isUndefined u f || isUndefinedTwice u f) ≡ true → identifyIn u (f ∷ fs) next ≡ no 12 2

@@ -2,12 +2,12 @@
 use Prim.Native.Nat.{ℕ, _+_, _*_, _-_, _≤_, _<_, min}
 use native.Mathlib.Omega.{arith}
 use mathlib.Core.Path.{_≡_, refl, sym, ap, subst, _∙_}
-use mathlib.Core.Bool.{Bool, true, false, _||_, true≢false}
+use mathlib.Core.Bool.{true, false, _||_}
 use mathlib.Core.List.{List, [], _∷_, _++_}
 use lib.Dec.{leb, ltb}
 use lib.IntN.{ℤ, pos, natAbs}
 use lib.ListN.{length, take, drop, set, getD, length-set, length-drop}
-use lib.Seq.{sets, length-take-le, getD-take, getD-set-same, take-set-le}
+use lib.Seq.{sets, length-take-le, getD-set-same, take-set-le}
 use borrow.Author.Count.{below-more}
 use borrow.Author.Tests.{leb-false, ltb-false, lt-leb, le-ltb}
 use Rattle.meaning.specs.Bytes.{refuse}
@@ -36,12 +36,10 @@ use Rattle.read_objects.specs.declared.rows.RowOut.the-variants.{Full}
 use Rattle.read_objects.specs.Rows.{RowFull, Fills, BehindRow, RowAdds}
 use Rattle.read_objects.proofs.Sizes.{row-size}
 use Rattle.read_objects.proofs.Cells.{lent, row-stored, row-front, row-first, row-length, one-listed}
+use Rattle.meaning.proofs.Lists.{first-same}
+use Rattle.meaning.proofs.Tests.Refuse.{neither}
 
 -- ## Room
-
-neither : (x y : Bool) → (x || y) ≡ false → (x ≡ false) × (y ≡ false)
-neither true y e = absurd (true≢false e)
-neither false y e = (refl, e)
 
 pub room-rows : (a b c d : ℕ) → (leb a b || ltb c d) ≡ false → b < a
 room-rows a b c d e = leb-false a b (neither (leb a b) (ltb c d) e .0)
@@ -94,9 +92,6 @@ module _ (m : Model) (rooms : Rooms) (text : List ℕ) (t : ℕ) (i : Field) (c 
   store-goes e = rw (rw row-count at e)
 
 -- ## One row more
-
-first-same : {A : Type 0} (l l′ : List A) (n i : ℕ) (d : A) → take n l′ ≡ take n l → i < n → getD l′ i d ≡ getD l i d
-first-same {A} l l′ n i d e h = sym (getD-take n l′ i d h) ∙ ap (λ (t : List A). getD t i d) e ∙ getD-take n l i d h
 
 module _ (m : Model) (n used used′ t : ℕ) (rows rows′ : List ℕ) (cs cs′ : List ℤ) (within : (o : ℕ) → o < n → getD rows o 0 + 2 < used) (d : RowsLaidOut m n used rows cs)
     (rowsSame : take n rows′ ≡ take n rows) (cellsSame : take used cs′ ≡ take used cs) (atRow : getD rows′ n 0 ≡ used) (atTable : getD cs′ used (pos 0) ≡ pos t)

@@ -1,23 +1,22 @@
 -- A point of the line attribute under way: where it is stored, what it means, and what then holds. Assumes nothing.
-use Prim.Native.Nat.{ℕ, suc, _+_, _*_, _≤_, _<_}
+use Prim.Native.Nat.{ℕ, _+_, _*_, _≤_, _<_}
 use native.Mathlib.Omega.{arith}
-use mathlib.Core.Path.{_≡_, refl, sym, ap, _∙_}
-use mathlib.Core.Bool.{Bool, true, false, false≢true}
+use mathlib.Core.Path.{_≡_, refl, sym, _∙_}
+use mathlib.Core.Bool.{true, false}
 use mathlib.Core.List.{List, [], _++_}
-use lib.Dec.{ltb, eqb}
-use lib.IntN.{ℤ, pos}
-use lib.ListN.{length, take, drop, replicate, length-append}
+use lib.Dec.{ltb}
+use lib.IntN.{ℤ}
+use lib.ListN.{length, take, drop, length-append}
 use lib.Seq.{sets, sets-eq, length-sets, length-take-le, take-at}
-use borrow.Author.Tests.{lt-ltb, le-ltb, eqb-true}
+use borrow.Author.Tests.{lt-ltb, le-ltb}
 use Rattle.meaning.specs.Bytes.{refuse}
-use Rattle.meaning.specs.Check.{isDimension}
 use Rattle.meaning.specs.Model.{Model}
 use Rattle.meaning.specs.Field.{Field}
 use Rattle.meaning.specs.Row as row
 use Rattle.meaning.specs.Row.{Cells, componentValues, pointCells}
 use Rattle.meaning.specs.Reading as meaning
 use Rattle.meaning.specs.Reading.{Content, Rooms, lineOf, isForbidden, point, withState}
-use Rattle.meaning.specs.Lines.{go, no, storePoint, attributeLine}
+use Rattle.meaning.specs.Lines.{no, storePoint, attributeLine}
 use Rattle.meaning.specs.Lines as lines
 use Rattle.model_records.specs.declared.Attribute.{Attribute}
 use Rattle.model_records.specs.Records.{modelAt}
@@ -33,22 +32,9 @@ use Rattle.read_state.specs.Holds.{LineHolds}
 use Rattle.read_polylines.specs.Ways.{wayOf, LineDoes}
 use Rattle.read_polylines.specs.Points.{movedTo, pointAdded, Stores, Joins}
 use Rattle.read_polylines.proofs.Ways.{due-way, refused-here}
-
--- a line has two or three components
-pub few-components : (n : ℕ) → isDimension n ≡ true → (2 ≤ n) × (n ≤ 3)
-unfolding isDimension
-few-components n h = go (eqb n 2) refl (eqb n 3) refl
-  where
-    go : (x : Bool) → eqb n 2 ≡ x → (y : Bool) → eqb n 3 ≡ y → (2 ≤ n) × (n ≤ 3)
-    go true e y f = (omega (arith, eqb-true n 2 e), omega (arith, eqb-true n 2 e))
-    go false e true f = (omega (arith, eqb-true n 3 f), omega (arith, eqb-true n 3 f))
-    go false e false f = absurd (false≢true (rw (e, f) at h))
+use Rattle.meaning.proofs.Right.Content.{point-length}
 
 -- ## The four cells
-
-pub point-size : (kind : ℕ) (values : List ℤ) → length (pointCells kind values) ≡ 4
-unfolding pointCells
-point-size kind values = ap suc (length-take-le 3 (values ++ replicate 3 (pos 0)) (rw (length-append values (replicate 3 (pos 0))) (omega arith)))
 
 -- cells stored behind those that count
 taken-more : (l vs : List ℤ) (i k : ℕ) → k ≡ i + length vs → k ≤ length l → take k (sets l i vs) ≡ take i l ++ vs
@@ -81,7 +67,7 @@ module _ (b : List ℕ) (u : OpenLine) (s : State) where
             → stepOf b k (Go (pointAdded (movedTo next u) s)) marks rows cells (sets points (4 * s .points) (pointCells kind values)) ≡ meantBy (row.cells values) (contentOf k s marks rows cells points)
         unfolding storePoint refuse
         stored-step values room k marks rows =
-            let t = taken-more points (pointCells kind values) (4 * s .points) (4 * (s .points + 1)) (omega (arith, point-size kind values)) (omega arith) in
+            let t = taken-more points (pointCells kind values) (4 * s .points) (4 * (s .points + 1)) (omega (arith, point-length kind values)) (omega arith) in
             let f : ltb (length points) (4 * s .points + 4) ≡ false = le-ltb (length points) (4 * s .points + 4) room in
             rw (er, size-is, f, due-moved, t)
 

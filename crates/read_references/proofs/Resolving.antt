@@ -29,14 +29,12 @@ use Rattle.table.specs.Rows.{PairHere, PairsInRow}
 use Rattle.model_records.specs.Counts.{fieldsOf, pairCount, CountsOf}
 use Rattle.read_references.proofs.Attributes.{attribute-turn}
 use Rattle.model_records.proofs.Counting.{pairs-more, field-most}
+use Rattle.meaning.proofs.Tests.Unequal.{no-resolved}
 
 -- ## Answers
 
 pub same-cells : (cs ds : List ℤ) → resolved cs ≡ resolved ds → cs ≡ ds
 same-cells cs ds e = cc
-
-never-both : (o f : ℕ) (ds : List ℤ) → unresolved o f ≡ resolved ds → ⊥
-never-both o f ds e = let z : _≡_ {A = ℕ} 0 1 = cc in omega arith
 
 -- what a call answered, by its answer
 module _ (r : declared.Resolved) (ds : List ℤ) (x : Resolved) (e : resolvedOf r ds ≡ x) where
@@ -85,7 +83,7 @@ module _ (seed : ℕ) (text rows : List ℕ) (n : ℕ) (index : List ℕ) (cells
     going-put : (object field : ℕ) (f : Found) (ds : List ℤ) → putReference object field cell cs f ≡ resolved ds → Going seed text rows n index cells₀ ds
     unfolding putReference
     going-put object field (found i) ds e = rw (sym (same-cells (set (set cs cell (pos 1)) (cell + 1) (pos i)) ds e)) (going-set (pos 1) (pos i))
-    going-put object field missing ds e = absurd (never-both object field ds e)
+    going-put object field missing ds e = absurd (no-resolved object field ds e)
 
     -- past a pair
     pair-going : (os : List Object) (object field : ℕ) (t : Found) (ds : List ℤ) → resolvePair text os object field cell t cs ≡ resolved ds → Going seed text rows n index cells₀ ds
@@ -107,7 +105,7 @@ module _ (seed : ℕ) (text rows : List ℕ) (n : ℕ) (index : List ℕ) (cells
       go : (x : Resolved) → resolvePair text os object field cell (targetOf type) cs ≡ x → afterResolved x (λ es. resolvePairs text os object (field + 1) (cell + 2) ps es) ≡ resolved ds
           → ((es : List ℤ) → Going seed text rows n index cells₀ es → resolvePairs text os object (field + 1) (cell + 2) ps es ≡ resolved ds → Going seed text rows n index cells₀ ds) → Going seed text rows n index cells₀ ds
       go (resolved es) h k next = next es (pair-going o cell (suc (length ps)) (omega arith) cs g r os object field (targetOf type) es h) k
-      go (unresolved i f) h k next = absurd (never-both i f ds k)
+      go (unresolved i f) h k next = absurd (no-resolved i f ds k)
   pairs-going os object o (OfComponent c ∷ ps) field cell cs ds g r e = pairs-going os object o ps (field + 1) (cell + 2) cs ds g (in-row-on rows n o cell (suc (length ps)) (length cells₀) 1 (length ps) (omega arith) r) e
   pairs-going os object o (OfLine optional forms ks ∷ ps) field cell cs ds g r e = pairs-going os object o ps field (cell + 2) cs ds g (in-row-on rows n o cell (suc (length ps)) (length cells₀) 1 (length ps) (omega arith) r) e
 

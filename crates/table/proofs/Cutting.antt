@@ -4,23 +4,13 @@ use native.Mathlib.Omega.{arith}
 use mathlib.Core.Path.{_≡_, refl, sym, ap, _∙_}
 use mathlib.Core.Bool.{Bool, true, false}
 use mathlib.Core.List.{List}
-use lib.ListN.{length, take, drop, length-drop, drop-of-length-le}
-use lib.Seq.{take-nil, take-all}
+use lib.ListN.{length, take, drop, drop-of-length-le}
+use lib.Seq.{take-nil}
 use lib.Dec.{leb}
 use borrow.Author.Tests.{leb-true, leb-false}
 use Rattle.meaning.specs.Reading.{stretch}
 use Rattle.table.specs.Stretches.{Cut}
-
--- a part that ends at the list's end at the latest
-part : (k s n : ℕ) (b : List ℕ) → n ≡ length b → take (min k (n - s)) (drop s b) ≡ take k (drop s b)
-part k s n b e = go (leb k (n - s)) refl
-  where
-    go : (x : Bool) → leb k (n - s) ≡ x → take (min k (n - s)) (drop s b) ≡ take k (drop s b)
-    go true h = let l = leb-true k (n - s) h in let m : min k (n - s) ≡ k = omega arith in rw m
-    go false h =
-        let l = leb-false k (n - s) h in
-        let m : min k (n - s) ≡ n - s = omega arith in
-        rw (m, take-all (n - s) (drop s b) (rw length-drop (omega arith)), take-all k (drop s b) (rw length-drop (omega arith)))
+use Rattle.meaning.proofs.Lists.{part}
 
 pub cut-at : (size start len start′ len′ : ℕ) → start′ ≡ min start size → len′ ≡ min len (size - start′) → Cut size start len start′ len′
 cut-at size start len start′ len′ e f = record { inside = omega arith; same = λ text l. go text l (leb start size) refl }

@@ -1,5 +1,5 @@
 -- No object in the index, and one object more. Assumes nothing.
-use Prim.Native.Nat.{ℕ, zero, suc, _+_, _*_, _-_, _%_, _<_}
+use Prim.Native.Nat.{ℕ, suc, _+_, _*_, _-_, _%_, _<_}
 use mathlib.Core.Path.{_≡_, refl, sym, ap, _∙_}
 use mathlib.Core.Bool.{Bool, true, false}
 use mathlib.Core.List.{List}
@@ -16,16 +16,11 @@ use Rattle.table.specs.Rows.{identificationOf}
 use Rattle.table_index.specs.Index.{headOf, hasHead, hashOf, wordOf, Chained, usableOf, Indexed, chainOf, insertOf}
 use Rattle.table_index.proofs.Last.{last-hit, last-miss}
 use Rattle.table_index.proofs.Walk.{head-lt}
-
--- all zeros: an index of no object
-zeros : (k i : ℕ) → _≡_ {A = ℕ} (getD (replicate k 0) i 0) 0
-zeros zero i = refl
-zeros (suc k) zero = refl
-zeros (suc k) (suc i) = zeros k i
+use Rattle.meaning.proofs.Lists.{all-zero}
 
 pub nothing-chained : (seed : ℕ) (ids : ℕ → List ℕ) (links k : ℕ) → Chained seed ids links (replicate k 0) 0
 unfolding lastOf wordOf
-nothing-chained seed ids links k = record { link = λ o l. let z : ⊥ = omega arith in absurd z; head = λ h l. zeros k (links + h) }
+nothing-chained seed ids links k = record { link = λ o l. let z : ⊥ = omega arith in absurd z; head = λ h l. all-zero k (links + h) }
 
 module _ (seed : ℕ) (ids : ℕ → List ℕ) (links : ℕ) (index : List ℕ) (o p : ℕ) (fits : links < length index) (room : o < links) (ch : Chained seed ids links index o) (at-head : p ≡ links + headOf seed (length index - links) (ids o)) where
   abbrev m : ℕ

@@ -19,6 +19,7 @@ use Rattle.table.specs.Rows.{BesideRows}
 use Rattle.table_index.proofs.Last.{last-same, last-le}
 use Rattle.table_index.proofs.Grown.{nothing-chained}
 use Rattle.table_index.proofs.Meant.{objects-more}
+use Rattle.meaning.proofs.Lists.{first-same}
 
 -- ## The index depends on the identifications of its objects alone
 
@@ -115,9 +116,6 @@ held-start seed text rows cells index k e = record {
 }
 
 -- ## The same first elements
-
-first-same : {A : Type 0} (l l′ : List A) (n i : ℕ) (d : A) → take n l′ ≡ take n l → i < n → getD l′ i d ≡ getD l i d
-first-same {A} l l′ n i d e h = sym (getD-take n l′ i d h) ∙ ap (λ (t : List A). getD t i d) e ∙ getD-take n l i d h
 
 module _ (seed : ℕ) (text : List ℕ) (n used : ℕ) (rows : List ℕ) (cells : List ℤ) (index : List ℕ) (h : IndexedTable seed text n used rows cells index) where
   -- where the rows and the cells that count are the same

@@ -9,8 +9,8 @@ use mathlib.Core.List.{List, [], _∷_, _++_}
 use lib.ListN.{length, getD, take, drop, length-drop, drop-of-length-le}
 use lib.Seq.{drop-drop}
 use Rattle.meaning.specs.Bytes.{choose, every}
-use Rattle.base.proofs.Scan.{drop-next}
 use Rattle.unfold.specs.First.{leading}
+use Rattle.meaning.proofs.Lists.{drop-next}
 
 module _ (kind : ℕ → Bool) where
   leading-first : (b : ℕ) (l : List ℕ) → kind b ≡ true → leading kind (b ∷ l) ≡ suc (leading kind l)
@@ -66,10 +66,10 @@ module _ (kind : ℕ → Bool) where
     leading-end h = rw (drop-of-length-le l h)
 
     pub leading-stop : i < length l → kind (getD l i 0) ≡ false → leading kind (drop i l) ≡ 0
-    leading-stop h e = rw (drop-next l i h) (leading-other _ _ e)
+    leading-stop h e = rw (drop-next l i 0 h) (leading-other _ _ e)
 
     pub leading-on : i < length l → kind (getD l i 0) ≡ true → leading kind (drop i l) ≡ suc (leading kind (drop (i + 1) l))
-    leading-on h e = rw (drop-next l i h) (leading-first _ _ e)
+    leading-on h e = rw (drop-next l i 0 h) (leading-first _ _ e)
 
     -- the block of k bytes at i, as the code takes it
     pub leading-over : (k : ℕ) → i + k ≤ length l → every kind (take (i + k - i) (drop i l)) ≡ true → k + leading kind (drop (i + k) l) ≡ leading kind (drop i l)

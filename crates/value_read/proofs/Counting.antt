@@ -7,12 +7,13 @@ use lib.ListN.{length, drop, getD}
 use lib.Seq.{drop-length}
 use Rattle.meaning.specs.Bytes.{digit, every}
 use Rattle.meaning.specs.Value.{digitsAfter}
-use Rattle.base.proofs.Scan.{drop-next, every-at}
+use Rattle.base.proofs.Scan.{every-at}
+use Rattle.meaning.proofs.Lists.{drop-next}
 
 module _ (s : List ℕ) (i : ℕ) where
   pub digit-more : (v m : ℕ) → i < length s → digitsAfter v (drop i s) ≡ m → digitsAfter (v * 10 + (getD s i 0 - 0x30)) (drop (i + 1) s) ≡ m
   unfolding digitsAfter
-  digit-more v m h e = rw (drop-next s i h) at e
+  digit-more v m h e = rw (drop-next s i 0 h) at e
 
   pub digit-end : (v m : ℕ) → i ≡ length s → digitsAfter v (drop i s) ≡ m → v ≡ m
   unfolding digitsAfter

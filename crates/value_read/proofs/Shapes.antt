@@ -7,12 +7,12 @@ use mathlib.Core.List.{List, _++_}
 use lib.Dec.{leb, ltb, eqb}
 use lib.IntN.{ℤ, pos, negℤ}
 use lib.ListN.{length, take, drop, getD, length-take, length-drop, length-append}
-use borrow.Author.Tests.{le-leb, lt-leb, ne-eqb, leb-true, ltb-true, ltb-false}
+use borrow.Author.Tests.{le-leb, lt-leb, ne-eqb, ltb-true, ltb-false}
 use Rattle.meaning.specs.Bytes.{choose, refuse, digit, every, begins}
 use Rattle.meaning.specs.Value.{digitsAfter, digitsValue, isDigits, unsigned, signed, isNumber, numberDigits, within, numberOf, isDay, dateOf, wrong}
 use Rattle.meaning.specs.Model.{Component}
 use Rattle.meaning.proofs.Unfolding.Cuts.{both}
-use Rattle.meaning.proofs.Values.Digits.{after-append, every-append}
+use Rattle.meaning.proofs.Values.Digits.{after-append, every-append, digits-are}
 use Rattle.base.proofs.Scan.{and-false}
 use Rattle.value_read.specs.Meant.{Reads, judged}
 use Rattle.meaning.proofs.Values.Counts.{below-18, date-year, date-month, date-day}
@@ -36,16 +36,8 @@ just-digits least most s l h = rw (le-leb least (length s) l, le-leb (length s) 
 pub digits-read : (least most : ℕ) (s : List ℕ) (n : ℕ) (r : DigitsFound) → least ≤ length s → length s ≤ most → Reads (every digit s) n r → Reads (isDigits least most s) n r
 digits-read least most s n r l h e = rw (just-digits least most s l h) e
 
--- what so many digits say
-pub digits-parts : (least most : ℕ) (s : List ℕ) → isDigits least most s ≡ true → (least ≤ length s) × (length s ≤ most) × (every digit s ≡ true)
-unfolding isDigits
-digits-parts least most s h =
-    let r = both (leb least (length s) && leb (length s) most) (every digit s) h in
-    let q = both (leb least (length s)) (leb (length s) most) (r .0) in
-    (leb-true least (length s) (q .0), leb-true (length s) most (q .1), r .1)
-
 pub count-small : (s : List ℕ) → isDigits 1 18 s ≡ true → digitsValue s < 10 ^ 18
-count-small s h = let r = digits-parts 1 18 s h in below-18 s 0 0 (r .2) (omega arith) (omega arith)
+count-small s h = let r = digits-are 1 18 s h in below-18 s 0 0 (r .2) (omega arith) (omega arith)
 
 -- ## Numbers with a point
 
@@ -110,8 +102,8 @@ number-small zero s h = count-small s h
 number-small (suc d) s h =
     let w : ℕ = length s - (suc d + 1) in
     let r = both (eqb (getD s w 0) 0x2e && isDigits 1 (18 - suc d) (take w s)) (isDigits (suc d) (suc d) (drop (w + 1) s)) h in
-    let a = digits-parts 1 (18 - suc d) (take w s) (both (eqb (getD s w 0) 0x2e) (isDigits 1 (18 - suc d) (take w s)) (r .0) .1) in
-    let b = digits-parts (suc d) (suc d) (drop (w + 1) s) (r .1) in
+    let a = digits-are 1 (18 - suc d) (take w s) (both (eqb (getD s w 0) 0x2e) (isDigits 1 (18 - suc d) (take w s)) (r .0) .1) in
+    let b = digits-are (suc d) (suc d) (drop (w + 1) s) (r .1) in
     let l = length-append (take w s) (drop (w + 1) s) in
     below-18 (take w s ++ drop (w + 1) s) 0 0 (every-append digit (take w s) (drop (w + 1) s) (a .2) (b .2)) (omega arith) (omega arith)
 

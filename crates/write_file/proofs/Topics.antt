@@ -27,7 +27,7 @@ use Rattle.write_file.specs.Styles.{cutOf}
 use Rattle.write_file.specs.Walks.{linesOfTopic, TopicEnd, TopicTurn}
 use Rattle.write_objects.proofs.Joined.{cut-lines-append}
 use Rattle.write_file.proofs.Frames.{no-lines, put-none}
-use Rattle.write_file.proofs.Walks.{next-row}
+use Rattle.meaning.proofs.Lists.{drop-next}
 
 -- ## Rows
 
@@ -48,14 +48,14 @@ module _ (ts : List Table) (p : ℕ) (cells : List ℤ) (rows : List ℕ) (row :
     unfolding rowsBehindTopic choose
     topic-on e =
         let same : eqb (tableAt ts (cellAt cells (getD rows i 0)) .topic) p ≡ true = eq-eqb _ _ e in
-        let behind : rowsBehindTopic ts p cells (drop i rows) ≡ rowsBehindTopic ts p cells (drop (i + 1) rows) = rw (next-row rows i h, same) in
+        let behind : rowsBehindTopic ts p cells (drop i rows) ≡ rowsBehindTopic ts p cells (drop (i + 1) rows) = rw (drop-next rows i 0 h, same) in
         record { within = omega arith; rest = sym behind ∙ r .rest }
 
     pub topic-stop : (tableAt ts (cellAt cells (getD rows i 0)) .topic ≡ p → ⊥) → TopicEnd ts p cells rows row i
     unfolding rowsBehindTopic choose
     topic-stop n =
         let other : eqb (tableAt ts (cellAt cells (getD rows i 0)) .topic) p ≡ false = ne-eqb _ _ n in
-        let stays : drop i rows ≡ rowsBehindTopic ts p cells (drop i rows) = rw (next-row rows i h, other) in
+        let stays : drop i rows ≡ rowsBehindTopic ts p cells (drop i rows) = rw (drop-next rows i 0 h, other) in
         record { within = r .within; rest = stays ∙ r .rest }
 
   pub topic-end : (i : ℕ) → TopicRun ts p cells rows row i → length rows ≤ i → TopicEnd ts p cells rows row i

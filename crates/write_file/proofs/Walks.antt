@@ -30,6 +30,7 @@ use Rattle.write_file.specs.Styles.{cutOf}
 use Rattle.write_file.specs.Walks.{linesOfTable, TableEnd, TableTurn}
 use Rattle.write_objects.proofs.Joined.{cut-lines-append}
 use Rattle.write_file.proofs.Frames.{no-lines, put-none}
+use Rattle.meaning.proofs.Lists.{drop-next}
 
 -- ## Rows
 
@@ -38,9 +39,6 @@ pub take-next : (rows : List ℕ) (i to : ℕ) → i < to → to ≤ length rows
 take-next rows i to l h =
     let z : to - i ≡ suc (to - (i + 1)) = omega arith in
     ap₂ (λ (n : ℕ) (rs : List ℕ). take n rs) z (drop-cons rows i 0 (omega arith)) ∙ ap (λ (n : ℕ). getD rows i 0 ∷ take (to - (i + 1)) (drop n rows)) (sym (add-one i))
-
-pub next-row : (rows : List ℕ) (i : ℕ) → i < length rows → drop i rows ≡ getD rows i 0 ∷ drop (i + 1) rows
-next-row rows i h = drop-cons rows i 0 h ∙ ap (λ (n : ℕ). getD rows i 0 ∷ drop n rows) (sym (add-one i))
 
 -- the rows from `row` to i are of table t
 pub record TableRun (t : ℕ) (cells : List ℤ) (rows : List ℕ) (row i : ℕ) : Type 0 where
@@ -58,8 +56,8 @@ module _ (t : ℕ) (cells : List ℤ) (rows : List ℕ) (row : ℕ) where
     unfolding rowsOfTable rowsBehindTable choose
     run-on e =
         let same : eqb (cellAt cells (getD rows i 0)) t ≡ true = eq-eqb _ _ e in
-        let of : rowsOfTable t cells (drop i rows) ≡ getD rows i 0 ∷ rowsOfTable t cells (drop (i + 1) rows) = rw (next-row rows i h, same) in
-        let behind : rowsBehindTable t cells (drop i rows) ≡ rowsBehindTable t cells (drop (i + 1) rows) = rw (next-row rows i h, same) in
+        let of : rowsOfTable t cells (drop i rows) ≡ getD rows i 0 ∷ rowsOfTable t cells (drop (i + 1) rows) = rw (drop-next rows i 0 h, same) in
+        let behind : rowsBehindTable t cells (drop i rows) ≡ rowsBehindTable t cells (drop (i + 1) rows) = rw (drop-next rows i 0 h, same) in
         record {
           order = omega (arith, r .order);
           within = omega arith;
@@ -75,8 +73,8 @@ module _ (t : ℕ) (cells : List ℤ) (rows : List ℕ) (row : ℕ) where
         record {
           order = r .order;
           within = r .within;
-          first = r .first i (omega arith) (omega arith) (rw (none, next-row rows i h, other) refl);
-          rest = rw (next-row rows i h) (rw (next-row rows i h, other) at (r .rest));
+          first = r .first i (omega arith) (omega arith) (rw (none, drop-next rows i 0 h, other) refl);
+          rest = rw (drop-next rows i 0 h) (rw (drop-next rows i 0 h, other) at (r .rest));
         }
 
   pub run-end : (i : ℕ) → TableRun t cells rows row i → length rows ≤ i → TableEnd t cells rows row i

@@ -3,7 +3,7 @@ use borrow.Author.Tests.{leb-true, le-leb, lt-leb, eqb-true, eqb-false}
 use Prim.Native.Nat.{ℕ, zero, suc, _+_, _*_, _-_, _≤_, _<_}
 use native.Mathlib.Omega.{arith}
 use mathlib.Core.Path.{_≡_, refl, sym, ap, _∙_}
-use mathlib.Core.Bool.{Bool, true, false, not, _&&_, false≢true}
+use mathlib.Core.Bool.{Bool, true, false, not, _&&_}
 use mathlib.Core.List.{List, [], _∷_, _++_}
 use lib.Dec.{eqb, leb}
 use lib.IntN.{ℤ, pos, natAbs}
@@ -11,7 +11,6 @@ use lib.Signed.{ltZ}
 use lib.ListN.{length, take, drop, getD, length-drop, length-append}
 use lib.Seq.{getD-drop, drop-drop, take-all}
 use Rattle.meaning.specs.Bytes.{choose, allOf}
-use Rattle.meaning.specs.Check.{isDimension}
 use Rattle.meaning.specs.Model as model
 use Rattle.meaning.specs.Model.{Found, found, missing, AttributeType, Reference, Coordinate, Number, Text, Date, Enumeration, Line}
 use Rattle.meaning.specs.Row.{Pair, OfAttribute, OfComponent, OfLine, componentPairs, pairsOfType, pairsOf}
@@ -31,6 +30,8 @@ use Rattle.write_judge.specs.Meant.{ComponentsOfKind}
 use Rattle.table.specs.Contents.{contentIn}
 use Rattle.write_judge.proofs.Signs.{alone}
 use Rattle.write_judge.proofs.Values.{type-coordinate, type-line}
+use Rattle.meaning.proofs.Judge.Pairs.{fine-if}
+use Rattle.model_records.proofs.Types.{few-components}
 
 -- ## Found or not
 
@@ -52,11 +53,6 @@ joined : (t rest : Bool) (k : ℕ) (f : Found) → fineIf rest k ≡ f → fineI
 unfolding fineIf choose
 joined true rest k f e = e
 joined false rest k f e = refl
-
-fine-is : (t : Bool) (k n : ℕ) → fineIf t k ≡ found n → (t ≡ true) × (k ≡ n)
-unfolding fineIf choose
-fine-is true k n e = (refl, (cc))
-fine-is false k n e = let z : _≡_ {A = ℕ} 0 1 = cc in absurd (omega arith)
 
 -- ## The components of a coordinate
 
@@ -268,16 +264,16 @@ module _ (u : ℕ) (text : List ℕ) (c : Content) where
   line-within : (k forms n : ℕ) (ks : List model.Component) (o : Bool) (a b : ℤ) → 4 * k ≤ length (c .points) → (x : Bool)
       → choose x (fineIf (judgeUndefined o b) k) (fineIf (judgeLine c k forms ks a b) (k + (natAbs a - 1))) ≡ found n → 4 * n ≤ length (c .points)
   unfolding choose judgeLine
-  line-within k forms n ks o a b l true e = omega (arith, fine-is _ k n e .1)
+  line-within k forms n ks o a b l true e = omega (arith, fine-if _ k n e .1)
   line-within k forms n ks o a b l false e =
-      let f = fine-is (judgeLine c k forms ks a b) (k + (natAbs a - 1)) n e in
+      let f = fine-if (judgeLine c k forms ks a b) (k + (natAbs a - 1)) n e in
       let r : leb (4 * (k + (natAbs a - 1))) (length (c .points)) ≡ true = holds _ 2 (f .0) in
       omega (arith, f .1, leb-true (4 * (k + (natAbs a - 1))) (length (c .points)) r)
 
   pair-within : (before : Bool) (k n : ℕ) (p : Pair) (a b : ℤ) → 4 * k ≤ length (c .points) → judgePair u text c before k p a b ≡ found n → 4 * n ≤ length (c .points)
   unfolding judgePair
-  pair-within before k n (OfAttribute o type) a b l e = omega (arith, fine-is _ k n e .1)
-  pair-within before k n (OfComponent x) a b l e = omega (arith, fine-is _ k n e .1)
+  pair-within before k n (OfAttribute o type) a b l e = omega (arith, fine-if _ k n e .1)
+  pair-within before k n (OfComponent x) a b l e = omega (arith, fine-if _ k n e .1)
   pair-within before k n (OfLine o forms ks) a b l e = line-within k forms n ks o a b l (cellIs a 0) e
 
   pairs-within : (ps : List Pair) (before : Bool) (k n : ℕ) (cs : List ℤ) → 4 * k ≤ length (c .points) → judgePairs u text c before k ps cs ≡ found n → 4 * n ≤ length (c .points)
@@ -293,16 +289,6 @@ module _ (u : ℕ) (text : List ℕ) (c : Content) where
       go missing q e ih = let z : _≡_ {A = ℕ} 0 1 = cc in absurd (omega arith)
 
 -- ## The attribute records
-
--- a line has two or three components
-few-components : (n : ℕ) → isDimension n ≡ true → (2 ≤ n) × (n ≤ 3)
-unfolding isDimension
-few-components n h = go (eqb n 2) refl (eqb n 3) refl
-  where
-    go : (x : Bool) → eqb n 2 ≡ x → (y : Bool) → eqb n 3 ≡ y → (2 ≤ n) × (n ≤ 3)
-    go true e y f = (omega (arith, eqb-true n 2 e), omega (arith, eqb-true n 2 e))
-    go false e true f = (omega (arith, eqb-true n 3 f), omega (arith, eqb-true n 3 f))
-    go false e false f = absurd (false≢true (rw (e, f) at h))
 
 pub counted : (b : List ℕ) (at : ℕ) (a : Attribute) → RecordAttribute b at a → ComponentsOfKind a
 counted b at a d = record { least = d .least; most = d .most; room = d .room; two = d .two; three = d .three; line = λ e. few-components (a .components .count) (d .line e) }

@@ -14,7 +14,8 @@ use Rattle.meaning.specs.Bytes.{choose, ends}
 use Rattle.meaning.specs.Width.{goesWhole, cutRest}
 use Rattle.base.proofs.Scan.{and-false}
 use Rattle.write_lines.specs.Cuts.{cutBytes, withCuts, lastRoom}
-use Rattle.write_lines.proofs.Runs.{drop-take, between, length-between, between-drop, between-same, take-sets, drop-run, sets-before}
+use Rattle.write_lines.proofs.Runs.{between, length-between, between-drop, between-same, take-sets, drop-run, sets-before}
+use Rattle.meaning.proofs.Lists.{drop-take}
 
 -- ## Which line goes out whole
 

@@ -5,7 +5,8 @@ use native.Mathlib.Omega.{arith}
 use mathlib.Core.Path.{_≡_, refl, sym, ap, _∙_}
 use mathlib.Core.List.{List, [], _∷_, _++_, append-assoc}
 use lib.ListN.{length, take, drop, getD, set, take-append-drop, length-drop}
-use lib.Seq.{sets, sets-eq, length-sets, take-set-le, drop-set-lt, set-comm, getD-set-other, drop-cons, drop-drop, drop-at, take-nil, length-take-le}
+use lib.Seq.{sets, sets-eq, length-sets, take-set-le, drop-set-lt, set-comm, getD-set-other, drop-cons, drop-drop, drop-at, length-take-le}
+use Rattle.meaning.proofs.Lists.{drop-take}
 
 -- ## What a run leaves as it was
 
@@ -55,12 +56,6 @@ sets-over xs ys l i h room =
     ∙ rw (take-sets i l i xs (omega arith), drop-sets (i + length ys) l i xs (omega arith)) (sym (sets-eq ys l i room))
 
 -- ## Parts
-
-pub drop-take : {A : Type 0} (k n : ℕ) (l : List A) → drop k (take n l) ≡ take (n - k) (drop k l)
-drop-take zero n l = let e : n - 0 ≡ n = omega arith in rw e
-drop-take (suc k) zero l = let e : 0 - suc k ≡ 0 = omega arith in rw e
-drop-take (suc k) (suc n) [] = sym (take-nil (suc n - suc k))
-drop-take (suc k) (suc n) (x ∷ l) = let e : suc n - suc k ≡ n - k = omega arith in rw e (drop-take k n l)
 
 -- the bytes between two places
 abbrev pub between : ℕ → ℕ → List ℕ → List ℕ

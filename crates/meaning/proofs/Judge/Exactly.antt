@@ -1,7 +1,7 @@
 -- "writing: no lines read as this table" (01, refusal 19): the judge finds a lent table fine exactly when its own lines read as it. Assumes nothing.
 use Prim.Native.Nat.{ℕ, _+_}
-use mathlib.Core.Path.{_≡_, refl, sym}
-use mathlib.Core.Bool.{Bool, true, false}
+use mathlib.Core.Path.{_≡_, refl}
+use mathlib.Core.Bool.{true}
 use mathlib.Core.List.{List}
 use lib.ListN.{length}
 use lib.Seq.{length-take-le}
@@ -12,7 +12,7 @@ use Rattle.meaning.specs.Check.{good, checkModel, GoodModel}
 use Rattle.meaning.specs.Writing.{Lent, markCount, countsFit, contentOf}
 use Rattle.meaning.specs.Readback.{isTable}
 use Rattle.meaning.specs.Judge.{judge}
-use Rattle.meaning.proofs.Tests.Refuse.{holds}
+use Rattle.meaning.proofs.Tests.Refuse.{holds, same-test}
 use Rattle.meaning.proofs.Model.GoodModels.{checked-good}
 use Rattle.meaning.proofs.Judge.Valid.{Valid}
 use Rattle.meaning.proofs.Writing.Writable.{valid-reads}
@@ -21,12 +21,6 @@ use Rattle.meaning.proofs.Judge.Rows.{all-judged, judged-all}
 use Rattle.meaning.proofs.Judge.Marks.{all-tables-judged, judged-all-tables}
 use Rattle.meaning.proofs.Judge.Tables.{rows-valid}
 use Rattle.meaning.proofs.Judge.TablesBack.{valid-told}
-
--- two tests of which each holds where the other does
-same-test : (a b : Bool) → (a ≡ true → b ≡ true) → (b ≡ true → a ≡ true) → a ≡ b
-same-test true b h k = sym (h refl)
-same-test false true h k = k refl
-same-test false false h k = refl
 
 -- a lent table has a mark for each topic and each table
 lent-marks : (m : Model) (t : Lent) → countsFit m t ≡ true → length (contentOf m t .marks) ≡ length (m .topics) + length (m .tables)

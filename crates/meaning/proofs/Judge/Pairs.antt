@@ -33,7 +33,7 @@ use Rattle.meaning.proofs.Judge.Points.{number-is-within, points-judged
 
 -- ## Found or not
 
-fine-if : (t : Bool) (k k′ : ℕ) → fineIf t k ≡ found k′ → (t ≡ true) × (k ≡ k′)
+pub fine-if : (t : Bool) (k k′ : ℕ) → fineIf t k ≡ found k′ → (t ≡ true) × (k ≡ k′)
 unfolding fineIf choose
 fine-if true k k′ h = (refl, same-found k k′ h)
 fine-if false k k′ h = absurd (no-found k′ h)

@@ -6,7 +6,7 @@ use mathlib.Core.Bool.{Bool, true, false, _&&_, true≢false}
 use mathlib.Core.List.{List, [], _∷_, _++_, append-assoc, append-nil}
 use lib.Dec.{ltb, eqb}
 use lib.IntN.{natAbs}
-use lib.ListN.{length, drop, getD, set, replicate, length-set, drop-of-length-le, length-replicate, getD-replicate, List·getD-eq-default}
+use lib.ListN.{length, drop, getD, set, replicate, length-set, drop-of-length-le, length-replicate}
 use lib.Seq.{getD-set-same, getD-set-other, ext-getD}
 use borrow.Author.Tests.{ltb-true, ltb-false, eqb-true, eqb-false, eq-eqb, ne-eqb}
 use Rattle.meaning.specs.Bytes.{choose, every}
@@ -19,10 +19,11 @@ use Rattle.meaning.specs.Judge.{isMark}
 use Rattle.meaning.proofs.Tests.Refuse.{both}
 use Rattle.meaning.proofs.Judge.Valid.{ObjectOk, topicsFrom, tablesFrom, objects, Rest, finished, topicOut, topicIn, topicEnd, tableOut, tableIn, object, tableEnd, Valid}
 use Rattle.meaning.proofs.Model.GoodPairs.{topic-solid, table-solid}
-use Rattle.meaning.proofs.Reading.TablesRead.{Passed, topicBefore, tableBefore, Ahead, topicAfter, tableAfter, topicOf, drop-next}
+use Rattle.meaning.proofs.Reading.TablesRead.{Passed, topicBefore, tableBefore, Ahead, topicAfter, tableAfter, topicOf}
 use Rattle.meaning.proofs.Model.Names.{topic-is, table-is, none-mandatory, in-order, topic-below}
 use Rattle.meaning.proofs.Judge.Rows.{RowsOk, stop, next}
 use Rattle.meaning.proofs.Judge.Marks.{delivered-one, undelivered-zero, TableMarked}
+use Rattle.meaning.proofs.Lists.{all-zero, drop-next}
 
 -- a later topic is ahead
 pub ahead-from : (p q t : ℕ) → p ≤ q → Ahead p 0 q t
@@ -40,13 +41,6 @@ ahead-low p n q t (tableAfter e h) = omega arith
 -- a test that holds only elsewhere
 and-right : (a p : ℕ) (b : Bool) → (eqb a p && b) ≡ false → a ≡ p → b ≡ false
 and-right a p b h e = rw (eq-eqb a p e) at h
-
-pub no-mark : (n j : ℕ) → _≡_ {A = ℕ} (getD (replicate n 0) j 0) 0
-no-mark n j = by (ltb j n) refl
-  where
-    by : (x : Bool) → ltb j n ≡ x → _≡_ {A = ℕ} (getD (replicate n 0) j 0) 0
-    by true e = getD-replicate n j 0 0 (ltb-true j n e)
-    by false e = List·getD-eq-default (replicate n 0) 0 (let h = ltb-false j n e in rw (length-replicate {A = ℕ} n 0) h)
 
 module _ (m : Model) (text : List ℕ) (c : Content) where
   -- the first of these rows is of table n of topic p, or ahead of it
@@ -354,7 +348,7 @@ module _ (m : Model) (text : List ℕ) (c : Content) where
         topics-fine (length (m .topics)) 0 0 (omega arith) (omega arith) (replicate (length (m .topics) + length (m .tables)) 0) [] 0 0 (c .rows)
         (record {
           size = length-replicate (length (m .topics) + length (m .tables)) 0;
-          unset = λ j e. no-mark (length (m .topics) + length (m .tables)) j;
+          unset = λ j e. all-zero (length (m .topics) + length (m .tables)) j;
           topics = λ j h e. absurd (omega arith);
           tables = λ t h q e. none t q;
         })

@@ -21,7 +21,8 @@ use Rattle.meaning.proofs.Reading.StepsRead.{table-found}
 use Rattle.meaning.proofs.Model.Names.{mandatory-none, in-order, topic-below}
 use Rattle.meaning.proofs.Judge.Rows.{RowsOk, stop, next}
 use Rattle.meaning.proofs.Judge.Marks.{TableMarked}
-use Rattle.meaning.proofs.Judge.Tables.{ahead-from, ahead-low, no-mark}
+use Rattle.meaning.proofs.Judge.Tables.{ahead-from, ahead-low}
+use Rattle.meaning.proofs.Lists.{all-zero}
 
 -- ## Marks that are 0 or 1
 
@@ -195,7 +196,7 @@ module _ (m : Model) (text : List ℕ) (c : Content) (good : GoodModel m) where
       record {
         areMarks = i .areMarks (no-marks (length (m .topics) + length (m .tables)));
         tables = λ t l. record {
-          inTopic = i .inTopics (λ j h d. absurd (false≢true (rw (no-mark (length (m .topics) + length (m .tables)) (length (m .topics) + j)) at d))) t l;
+          inTopic = i .inTopics (λ j h d. absurd (false≢true (rw (all-zero (length (m .topics) + length (m .tables)) (length (m .topics) + j)) at d))) t l;
           optional = λ e d. i .optional t l (ahead-from 0 (topicOf m t) t (omega arith)) d e;
         };
         rows = i .fine 0 (λ t l w. omega arith);

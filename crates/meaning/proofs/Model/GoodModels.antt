@@ -2,7 +2,7 @@
 use Prim.Native.Nat.{ℕ, zero, suc, _+_, _-_, _≤_, _<_}
 use native.Mathlib.Omega.{arith}
 use mathlib.Core.Path.{_≡_, refl, sym, ap, _∙_, subst}
-use mathlib.Core.Bool.{Bool, true, false, not, _&&_, _||_, true≢false, false≢true}
+use mathlib.Core.Bool.{Bool, true, false, not, _&&_, true≢false, false≢true}
 use mathlib.Core.List.{List, [], _∷_, _++_}
 use lib.Dec.{leb, eqb}
 use lib.ListN.{length, drop, length-append}
@@ -16,16 +16,13 @@ use Rattle.meaning.proofs.Tests.Same.{same-refl, same-not}
 use Rattle.meaning.proofs.Model.Models.{model-lists}
 use Rattle.meaning.proofs.Model.Records.{recordsAt, payloadAt, nextAt}
 use Rattle.meaning.proofs.Model.Standing.{entry-passes, transfer-keeps, payload-blank, payload-undefined, payload-mark, good-transfer, good-name, name-keeps, topic-name, stands-topic, topic-kind}
+use Rattle.meaning.proofs.Tests.Refuse.{neither}
 
 -- ## Names that are not among those seen
 
 abbrev Fresh : List (List ℕ) → List (List ℕ) → Type 0
 Fresh seen [] = Unit {0}
 Fresh seen (n ∷ ns) = (isAmong n seen ≡ false) × Fresh seen ns
-
-neither : (a b : Bool) → (a || b) ≡ false → (a ≡ false) × (b ≡ false)
-neither true b h = absurd (true≢false h)
-neither false b h = (refl, h)
 
 pub same-swap : (s t : List ℕ) → same s t ≡ false → same t s ≡ false
 same-swap s t h = same-not t s (λ e. true≢false (sym (same-refl s) ∙ ap (same s) (sym e) ∙ h))

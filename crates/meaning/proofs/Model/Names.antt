@@ -20,7 +20,7 @@ use Rattle.meaning.proofs.Model.GoodPairs.{names-good, table-name}
 -- ## Names
 
 -- a name of at most 24 bytes is its own first 24 bytes
-short-name : (n : List ℕ) → isName 24 n ≡ true → take 24 n ≡ n
+pub short-name : (n : List ℕ) → isName 24 n ≡ true → take 24 n ≡ n
 unfolding isName
 short-name n h = take-all 24 n (leb-true (length n) 24 (both (letter (byteAt n 0) && every nameByte n) (leb (length n) 24) h .1))
 
@@ -52,7 +52,7 @@ names-in : (p : ℕ) (t : Table) (ts : List Table) → eqb (t .topic) p ≡ true
 unfolding tableNames choose
 names-in p t ts e h = rw e at h
 
-names-behind : (p : ℕ) (t : Table) (ts : List Table) → goodNames (tableNames p (t ∷ ts)) ≡ true → goodNames (tableNames p ts) ≡ true
+pub names-behind : (p : ℕ) (t : Table) (ts : List Table) → goodNames (tableNames p (t ∷ ts)) ≡ true → goodNames (tableNames p ts) ≡ true
 unfolding tableNames choose goodNames
 names-behind p t ts h = go (eqb (t .topic) p) h
   where

@@ -1,14 +1,13 @@
 -- What was read is fine: from the lines that were not refused, back to the table. Assumes nothing.
 use Prim.Native.Nat.{ℕ, zero, suc, _+_, _*_, _-_, _/_, _≤_, _<_}
 use native.Mathlib.Omega.{arith}
-use native.Mathlib.Numerals.{add-one}
 use mathlib.Core.Path.{_≡_, refl, sym, ap, ap₂, subst, _∙_}
 use mathlib.Core.Bool.{Bool, true, false, not, _&&_}
 use mathlib.Core.List.{List, [], _∷_, _++_, append-assoc, append-nil}
 use lib.Dec.{eqb, ltb}
 use lib.IntN.{ℤ, pos}
 use lib.ListN.{length, drop, getD, set, replicate, length-append, length-set, drop-of-length-le, length-replicate, getD-replicate}
-use lib.Seq.{drop-cons, getD-set-same, getD-set-other, drop-append-add, drop-append-seam}
+use lib.Seq.{getD-set-same, getD-set-other, drop-append-add, drop-append-seam}
 use borrow.Author.Tests.{eq-eqb, ne-eqb, eqb-true, ltb-true, ltb-false}
 use Rattle.meaning.specs.Bytes.{choose, refuse, prefix}
 use Rattle.meaning.specs.Unfold.{unfoldedText}
@@ -33,6 +32,7 @@ use Rattle.meaning.proofs.Reading.References.{Row, rowCells, flatRows, 
 use Rattle.meaning.proofs.Reading.RowsRead.{lines-good, row-ok}
 use Rattle.meaning.proofs.Reading.StepsRead.{TopicStep, emod, topi, TableStep, etop, tabl, ObjectGiven, ObjectStep, etab, obje, topic-step, table-step, object-step, closing-step, TopicFound, topic-found, TableFound, table-found}
 use Rattle.meaning.proofs.Model.GoodPairs.{pairs-good, topic-solid, table-solid}
+use Rattle.meaning.proofs.Lists.{drop-next}
 
 -- table t of topic q stands before table n of topic p, or not
 pub data Passed (p n q t : ℕ) : Type 0 where
@@ -106,9 +106,6 @@ delivered-not marks j e = rw e
 
 delivered-is : (marks : List ℕ) (j : ℕ) → getD marks j 0 ≡ 1 → not (eqb (getD marks j 0) 0) ≡ true
 delivered-is marks j e = rw e
-
-pub drop-next : {A : Type 0} (l : List A) (i : ℕ) (d : A) → i < length l → drop i l ≡ getD l i d ∷ drop (i + 1) l
-drop-next l i d h = rw (add-one i) (drop-cons l i d h)
 
 module _ (m : Model) (text : List ℕ) (c : Content) {marks before : List ℕ} {at k : ℕ} {rows : List ℕ} where
   -- topics that are left out

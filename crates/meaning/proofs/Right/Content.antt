@@ -58,7 +58,7 @@ entry-length os k (OfPoints ps ∷ es) = omega (arith, entry-length os (k + leng
 
 -- ## Points
 
-point-length : (kind : ℕ) (vs : List ℤ) → length (pointCells kind vs) ≡ 4
+pub point-length : (kind : ℕ) (vs : List ℤ) → length (pointCells kind vs) ≡ 4
 unfolding pointCells
 point-length kind vs =
     let a = length-take 3 (vs ++ replicate 3 (pos 0)) in

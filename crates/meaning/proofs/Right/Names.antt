@@ -2,49 +2,37 @@
 use Prim.Native.Nat.{ℕ, zero, suc, _+_, _≤_, _<_}
 use native.Mathlib.Omega.{arith}
 use mathlib.Core.Path.{_≡_, refl, sym, ap, _∙_}
-use mathlib.Core.Bool.{Bool, true, false, not, _&&_, _||_, true≢false}
+use mathlib.Core.Bool.{Bool, true, false, not, _&&_, true≢false}
 use mathlib.Core.List.{List, [], _∷_}
 use lib.Dec.{eqb, leb, ltb}
 use lib.ListN.{length, take, getD}
-use lib.Seq.{take-all}
 use borrow.Author.Tests.{leb-true, le-leb, lt-ltb, ltb-true, eq-eqb, eqb-true, not-true, not-false}
-use Rattle.meaning.specs.Bytes.{choose, letter, every, same, byteAt}
+use Rattle.meaning.specs.Bytes.{choose, same}
 use Rattle.meaning.specs.Model.{found, Table, Model, noTable}
-use Rattle.meaning.specs.Check.{nameByte, isName, isAmong, goodNames, tableNames}
+use Rattle.meaning.specs.Check.{isName, isAmong, goodNames, tableNames}
 use Rattle.meaning.specs.Reading.{sameName, findTopic, findTable, mandatoryBetween}
 use Rattle.meaning.specs.Right.{AllOptional}
-use Rattle.meaning.proofs.Tests.Refuse.{both, neither, holds}
+use Rattle.meaning.proofs.Tests.Refuse.{both, neither, holds, or-right}
 use Rattle.meaning.proofs.Tests.Same.{same-refl, same-is}
+use Rattle.meaning.proofs.Model.Names.{short-name, names-behind}
+use Rattle.meaning.proofs.Model.GoodPairs.{names-good}
 
 -- ## Names
-
-name-whole : (n : List ℕ) → isName 24 n ≡ true → take 24 n ≡ n
-unfolding isName
-name-whole n h = take-all 24 n (leb-true (length n) 24 (both (letter (byteAt n 0) && every nameByte n) (leb (length n) 24) h .1))
 
 -- two names that compare equal to a third are equal
 alike : (a b d : List ℕ) → isName 24 a ≡ true → isName 24 b ≡ true → sameName a d ≡ true → sameName b d ≡ true → a ≡ b
 unfolding sameName
-alike a b d ha hb p q = sym (name-whole a ha) ∙ (same-is (take 24 a) (take 24 d) p ∙ (sym (same-is (take 24 b) (take 24 d) q) ∙ name-whole b hb))
-
-or-yes : (x y : Bool) → y ≡ true → (x || y) ≡ true
-or-yes true y h = refl
-or-yes false y h = h
+alike a b d ha hb p q = sym (short-name a ha) ∙ (same-is (take 24 a) (take 24 d) p ∙ (sym (same-is (take 24 b) (take 24 d) q) ∙ short-name b hb))
 
 among-at : (names : List (List ℕ)) (j : ℕ) → j < length names → isAmong (getD names j []) names ≡ true
 unfolding isAmong
 among-at [] j l = absurd (omega arith)
 among-at (n ∷ names) zero l = rw (same-refl n)
-among-at (n ∷ names) (suc j) l = or-yes (same n (getD names j [])) _ (among-at names j (omega arith))
+among-at (n ∷ names) (suc j) l = or-right (same n (getD names j [])) _ (among-at names j (omega arith))
 
 good-first : (n : List ℕ) (names : List (List ℕ)) → goodNames (n ∷ names) ≡ true → (isName 24 n ≡ true) × (isAmong n names ≡ false) × (goodNames names ≡ true)
 unfolding goodNames
 good-first n names h = (holds _ 0 h, not-true _ (holds _ 1 h), holds _ 2 h)
-
-good-at : (names : List (List ℕ)) (j : ℕ) → goodNames names ≡ true → j < length names → isName 24 (getD names j []) ≡ true
-good-at [] j h l = absurd (omega arith)
-good-at (n ∷ names) zero h l = good-first n names h .0
-good-at (n ∷ names) (suc j) h l = good-at names j (good-first n names h .2) (omega arith)
 
 -- a name and a later one do not both compare equal to a third
 apart : (n d : List ℕ) (names : List (List ℕ)) (other : List ℕ) → isName 24 n ≡ true → isName 24 other ≡ true → isAmong n names ≡ false → isAmong other names ≡ true → sameName other d ≡ true → sameName n d ≡ false
@@ -65,7 +53,7 @@ find-topic from n p j name [] g l e f s = absurd (omega arith)
 find-topic from n p zero name (t ∷ ts) g l e f s = let z : n ≡ p = omega arith in rw (le-leb from n (omega arith), s, z)
 find-topic from n p (suc j) name (t ∷ ts) g l e f s =
     let q = good-first t ts g in
-    rw (and-no (leb from n) (sameName t name) (apart t name ts (getD ts j []) (q .0) (good-at ts j (q .2) (omega arith)) (q .1) (among-at ts j (omega arith)) s))
+    rw (and-no (leb from n) (sameName t name) (apart t name ts (getD ts j []) (q .0) (names-good ts j (q .2) (omega arith)) (q .1) (among-at ts j (omega arith)) s))
     (find-topic from (n + 1) p j name ts (q .2) (omega arith) (omega arith) f s)
 
 -- a table's name is among those of its topic
@@ -82,16 +70,8 @@ table-among topic (t ∷ ts) (suc j) g l e = by (eqb (t .topic) topic) refl (λ 
         → (isAmong (getD ts j noTable .name) (tableNames topic (t ∷ ts)) ≡ true) × (isName 24 (getD ts j noTable .name) ≡ true)
     by true z ih =
         let r = ih (good-first (t .name) (tableNames topic ts) (rw z at g) .2) in
-        (rw z (or-yes (same (t .name) (getD ts j noTable .name)) _ (r .0)), r .1)
+        (rw z (or-right (same (t .name) (getD ts j noTable .name)) _ (r .0)), r .1)
     by false z ih = let r = ih (rw z at g) in (rw z (r .0), r .1)
-
-names-behind : (topic : ℕ) (t : Table) (ts : List Table) → goodNames (tableNames topic (t ∷ ts)) ≡ true → goodNames (tableNames topic ts) ≡ true
-unfolding tableNames choose
-names-behind topic t ts g = by (eqb (t .topic) topic) g
-  where
-    by : (x : Bool) → goodNames (choose x (t .name ∷ tableNames topic ts) (tableNames topic ts)) ≡ true → goodNames (tableNames topic ts) ≡ true
-    by true g = good-first (t .name) (tableNames topic ts) g .2
-    by false g = g
 
 pub find-table : (topic from n p j : ℕ) (name : List ℕ) (ts : List Table) → goodNames (tableNames topic ts) ≡ true → j < length ts → n + j ≡ p → from ≤ p → getD ts j noTable .topic ≡ topic
     → sameName (getD ts j noTable .name) name ≡ true → findTable topic from n name ts ≡ found p

@@ -38,3 +38,13 @@ unfolding allOf
 holds [] n h = refl
 holds (t ∷ ts) zero h = both t _ h .0
 holds (t ∷ ts) (suc n) h = holds ts n (both t _ h .1)
+
+-- two tests of which each holds where the other does
+pub same-test : (a b : Bool) → (a ≡ true → b ≡ true) → (b ≡ true → a ≡ true) → a ≡ b
+same-test true b h k = sym (h refl)
+same-test false true h k = k refl
+same-test false false h k = refl
+
+pub or-right : (x y : Bool) → y ≡ true → (x || y) ≡ true
+or-right true y e = refl
+or-right false y e = e

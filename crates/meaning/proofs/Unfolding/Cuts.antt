@@ -16,7 +16,7 @@ pub use Rattle.meaning.proofs.Tests.Refuse.{both}
 
 -- ## A cut's physical lines
 
-not-lf : (b : ℕ) → permitted b ≡ true → eqb b 0x0a ≡ false
+pub not-lf : (b : ℕ) → permitted b ≡ true → eqb b 0x0a ≡ false
 unfolding permitted
 not-lf b h = ne-eqb b 0x0a (λ e. false≢true (rw e at h))
 

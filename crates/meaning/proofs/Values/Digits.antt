@@ -260,3 +260,10 @@ small-leaf-reads leaves n small h =
 
 pub leaf-reads : (leaves n : ℕ) → leaves < 65536 → n < leaves → enumerationOf leaves (numberBytes 0 (pos n)) ≡ pair (pos 1) (pos n)
 leaf-reads leaves n l h = small-leaf-reads leaves n (omega arith) h
+
+pub digits-are : (least most : ℕ) (s : List ℕ) → isDigits least most s ≡ true → (least ≤ length s) × (length s ≤ most) × (every digit s ≡ true)
+unfolding isDigits
+digits-are least most s h =
+    let r = both (leb least (length s) && leb (length s) most) (every digit s) h in
+    let q = both (leb least (length s)) (leb (length s) most) (r .0) in
+    (leb-true least (length s) (q .0), leb-true (length s) most (q .1), r .1)

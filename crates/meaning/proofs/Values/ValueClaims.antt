@@ -5,16 +5,16 @@ use native.Mathlib.Omega.{arith}
 use mathlib.Core.Path.{_≡_, refl, sym, ap, _∙_}
 use mathlib.Core.Bool.{Bool, true, false, not, _&&_, _||_}
 use mathlib.Core.List.{List, [], _∷_, _++_}
-use lib.Dec.{eqb, leb, ltb}
+use lib.Dec.{eqb, ltb}
 use lib.IntN.{ℤ, pos, negsuc, negℤ, natAbs}
 use lib.ListN.{length, take, drop, getD, length-append, length-take, length-drop, take-append-drop}
-use borrow.Author.Tests.{leb-true, eqb-true, eqb-false, eq-eqb, ne-eqb}
+use borrow.Author.Tests.{eqb-true, eqb-false, eq-eqb, ne-eqb}
 use Rattle.meaning.specs.Bytes.{choose, refuse, digit, every, begins}
 use Rattle.meaning.specs.Value.{Value, pair, wrong, digitsValue, isDigits, unsigned, signed, isNumber, numberDigits, within, numberOf, isLeapYear, daysOfMonth, isDay, dateOf, enumerationOf}
 use Rattle.meaning.specs.Digits.{lastDigits, digitsOf, signOf, pointed, numberBytes, dateBytes}
 use Rattle.meaning.specs.ValueClaims.{NumberReads, EnumerationReads, DateReads, NumberBytesDiffer, DateBytesDiffer, NumberShortest, EnumerationShortest, DateOnly, LeapYears, DaysAlike, DaysRepeat}
 use Rattle.meaning.proofs.Unfolding.Cuts.{both}
-use Rattle.meaning.proofs.Values.Digits.{every-append, last-digits, last-length, last-value, short-digits, short-value, short-least, parts-digits, no-sign, sign-pos, sign-neg, number-reads, leaf-reads}
+use Rattle.meaning.proofs.Values.Digits.{every-append, last-digits, last-length, last-value, short-digits, short-value, short-least, parts-digits, no-sign, sign-pos, sign-neg, number-reads, leaf-reads, digits-are}
 use Rattle.meaning.proofs.Values.Dates.{date-reads}
 use Rattle.meaning.proofs.Values.Counts.{digits-below}
 use Rattle.meaning.proofs.Values.Shortest.{digits-count, digits-most, last-of, sign-one, point-more}
@@ -96,13 +96,6 @@ passed false n rest a b e = let z : _≡_ {A = ℕ} 0 1 = cc in absurd (omega ar
 
 second : (a b x y : ℤ) → pair a b ≡ pair x y → b ≡ y
 second a b x y e = cc
-
-digits-are : (least most : ℕ) (s : List ℕ) → isDigits least most s ≡ true → (least ≤ length s) × (length s ≤ most) × (every digit s ≡ true)
-unfolding isDigits
-digits-are least most s h =
-    let r = both (leb least (length s) && leb (length s) most) (every digit s) h in
-    let q = both (leb least (length s)) (leb (length s) most) (r .0) in
-    (leb-true least (length s) (q .0), leb-true (length s) most (q .1), r .1)
 
 -- so many digits hold their value, and its shortest digits are no more
 few : (least : ℕ) (s : List ℕ) → least ≤ length s → length s ≤ 18 → every digit s ≡ true → length (digitsOf least (digitsValue s)) ≤ length s

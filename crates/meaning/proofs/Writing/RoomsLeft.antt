@@ -2,9 +2,9 @@
 use Prim.Native.Nat.{ℕ, zero, suc, _+_, _-_, _≤_, _<_}
 use native.Mathlib.Omega.{arith}
 use mathlib.Core.Path.{_≡_, refl, sym, subst}
-use mathlib.Core.Bool.{Bool, true, false, not, _||_, false≢true}
+use mathlib.Core.Bool.{Bool, true, false, not, _||_}
 use mathlib.Core.List.{List, [], _∷_, _++_, append-assoc}
-use lib.Dec.{ltb, eqb, leb}
+use lib.Dec.{ltb, leb}
 use lib.ListN.{length, take, replicate, length-replicate}
 use lib.Seq.{drop-append-seam, take-append-seam}
 use borrow.Author.Tests.{ltb-false, lt-ltb, leb-true, le-leb, ne-eqb}
@@ -25,6 +25,7 @@ use Rattle.meaning.proofs.Model.GoodModels.{checked-good}
 use Rattle.meaning.proofs.Writing.Permits.{valid-permits}
 use Rattle.meaning.proofs.Judge.Unwritable.{reads-valid, table-reads}
 use Rattle.meaning.proofs.Writing.RoundTrip.{written-as}
+use Rattle.meaning.proofs.Unfolding.Cuts.{not-lf}
 
 -- ## The room of writing
 
@@ -59,15 +60,11 @@ writing-left model t width room = go (checkModel model)
 
 -- ## The width
 
-no-lf : (b : ℕ) → permitted b ≡ true → eqb b 0x0a ≡ false
-unfolding permitted
-no-lf b h = ne-eqb b 0x0a (λ e. false≢true (rw e at h))
-
 module _ (width : ℕ) where
   -- a byte that is no LF, where the line has room for it
   byte-fits : (b column : ℕ) (s : List ℕ) → permitted b ≡ true → column < width → fitsWidth width (column + 1) s ≡ true → fitsWidth width column (b ∷ s) ≡ true
   unfolding fitsWidth choose
-  byte-fits b column s p h k = rw (no-lf b p, lt-ltb column width h, k)
+  byte-fits b column s p h k = rw (not-lf b p, lt-ltb column width h, k)
 
   -- so many bytes
   bytes-fit : (l : List ℕ) (column : ℕ) (s : List ℕ) → allPermitted l ≡ true → column + length l ≤ width → fitsWidth width (column + length l) s ≡ true → fitsWidth width column (l ++ s) ≡ true

@@ -7,9 +7,9 @@ use Rattle.model_records.specs.Records.{modelAt}
 use Rattle.read_state.specs.Meaning.{lineStateOf, moveOf}
 use Rattle.read_polylines.specs.Ways.{wayOf}
 use Rattle.read_polylines.proofs.Ways.{by-move, unexpected-line, refused-here}
-use Rattle.read_polylines.proofs.PointLaws.{few-components}
 use Rattle.read_polylines.proofs.move_line.Statement.{statement}
 use Rattle.read_polylines.proofs.move_line.Tie as tie
+use Rattle.model_records.proofs.Types.{few-components}
 
 step-requires : tie.Need-step-requires
 step-requires c κs = search needs
