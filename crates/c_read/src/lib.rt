@@ -26,6 +26,10 @@ pub extern "C" fn vendorfinch_read(
     ensures code { λ r. ⌜ (let rooms = roomsOf (now (text .entry)) (now (marks .entry)) (now (rows .entry))
         (now (cells .entry)) (now (points .entry)) in
         let result = table.read (now (model .entry)) (now (file .entry)) rooms in r ≡ codeForC (result .answer)) ⌝ }
+    ensures answer { λ _. ⌜ (let rooms = roomsOf (now (text .entry)) (now (marks .entry)) (now (rows .entry))
+        (now (cells .entry)) (now (points .entry)) in
+        let result = table.read (now (model .entry)) (now (file .entry)) rooms in
+        now (answer .exit) ≡ numbersIn (length (now (answer .entry))) (result .answer)) ⌝ }
     ensures text { λ _. ⌜ (let rooms = roomsOf (now (text .entry)) (now (marks .entry)) (now (rows .entry))
         (now (cells .entry)) (now (points .entry)) in
         let result = table.read (now (model .entry)) (now (file .entry)) rooms in now (text .exit) ≡ result .text) ⌝ }
@@ -43,10 +47,6 @@ pub extern "C" fn vendorfinch_read(
         let result = table.read (now (model .entry)) (now (file .entry)) rooms in
         now (points .exit) ≡ result .points) ⌝ }
     ensures index { λ _. ⌜ now (index .exit) ≡ replicate (length (now (index .entry))) 0 ⌝ }
-    ensures answer { λ _. ⌜ (let rooms = roomsOf (now (text .entry)) (now (marks .entry)) (now (rows .entry))
-        (now (cells .entry)) (now (points .entry)) in
-        let result = table.read (now (model .entry)) (now (file .entry)) rooms in
-        now (answer .exit) ≡ numbersIn (length (now (answer .entry))) (result .answer)) ⌝ }
 {
     let read = read::read(model, file, text, marks, rows, cells, points, index, seed);
     numbers::store(read, answer);

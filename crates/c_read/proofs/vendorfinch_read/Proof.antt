@@ -1,7 +1,8 @@
 -- `c_read::vendorfinch_read` meets its contract. Assumes nothing.
-use mathlib.Core.Path.{ap, _∙_}
+use Prim.Native.Nat.{_≤_}
+use mathlib.Core.Path.{sym, ap, _∙_, subst}
 use lib.ListN.{length}
-use Rattle.meaning.specs.Answer.{codeForC, numbersIn}
+use Rattle.meaning.specs.Answer.{Answer, codeForC, numbersIn, firstOf}
 use Rattle.meaning.proofs.Reading.SmallAnswers.{read-small}
 use borrow.Author.Needs.{needs}
 use Rattle.c_read.proofs.vendorfinch_read.Statement.{statement}
@@ -17,7 +18,7 @@ code-of-read-requires : tie.Need-code-of-read-requires
 code-of-read-requires c κs =
     let q = c .before .before .before .before .before .before .before .before .before .before .before .before .before .before in
     let a = q .before .before .before .before .before .before .before .before .before .before .before .before .before .before .args in
-    rw (q .read .ensures .0) (read-small (a .model .now) (a .file .now) _)
+    subst (λ (x : Answer). firstOf x ≤ 16777217) (sym (q .read .ensures .0)) (read-small (a .model .now) (a .file .now) _)
 
 same-length : tie.Need-same-length
 same-length c = search needs
@@ -45,8 +46,7 @@ returns c =
     let q = c .before .before .before .before .before .before .before .before .before .before .before .before .before .before .before in
     let room = length (q .before .before .before .before .before .before .before .before .before .before .before .before .before .before .args .answer .now) in
     let e = q .read .ensures in
-    let b = e .1 in
-    (c .code-of-read .ensures ∙ ap codeForC (e .0), (b .0, (b .1 .0, (b .1 .1 .0, (b .1 .1 .1 .0, (b .1 .1 .1 .1 .0, (b .1 .1 .1 .1 .1, c .before .before .before .store .ensures ∙ ap (numbersIn room) (e .0))))))))
+    (c .code-of-read .ensures ∙ ap codeForC (e .0), (c .before .before .before .store .ensures ∙ ap (numbersIn room) (e .0), e .1))
 
 pub vendorfinch-read-spec : {M : Type 1} → statement M
 vendorfinch-read-spec =
