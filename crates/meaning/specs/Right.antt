@@ -11,7 +11,7 @@ use lib.IntN.{ℤ, pos}
 use lib.ListN.{length, getD, set, replicate}
 use Rattle.meaning.specs.Bytes.{every, textByte, prefix}
 use Rattle.meaning.specs.Model.{Component, AttributeType, Reference, Number, Text, Date, Enumeration, Found}
-use Rattle.meaning.specs.Model.{found, missing, Model, tableAt}
+use Rattle.meaning.specs.Model.{found, missing, Model, markCount, tableAt}
 use Rattle.meaning.specs.Field.{Field, noField, fieldsOf, SCNT, slashes, MTID, MODL, TOPI, TABL, OBJE, STPT, LIPT}
 use Rattle.meaning.specs.Field.{ARCP, ELIN, ETAB, ETOP, EMOD, ENDE}
 use Rattle.meaning.specs.Value.{pair, numberOf, dateOf, enumerationOf, isIdentification, isUndefined}
@@ -370,7 +370,7 @@ unfoldable pub tableOf : Model → List DeliveredTopic → Content
 tableOf m ds =
     let os : List Delivered = objectsOfTopics ds in
     record {
-      marks = markTopics (length (m .topics)) ds (replicate (length (m .topics) + length (m .tables)) 0);
+      marks = markTopics (length (m .topics)) ds (replicate (markCount m) 0);
       rows = rowList 0 os;
       cells = rowsCells (namesOf os) 0 os;
       points = cellsOfPoints (pointsOf os);

@@ -8,7 +8,7 @@ use mathlib.Core.Logic.{_↔_}
 use lib.ListN.{length}
 use Rattle.meaning.specs.Unfold.{lines, fault, unfoldFile, unfoldedText}
 use Rattle.meaning.specs.Cut.{Cut}
-use Rattle.meaning.specs.Model.{found, Model, tableAt}
+use Rattle.meaning.specs.Model.{found, Model, markCount, tableAt}
 use Rattle.meaning.specs.Check.{good, bad, checkModel, GoodModel}
 use Rattle.meaning.specs.Answer.{Answer, accepted, refusal}
 use Rattle.meaning.specs.Field.{Field}
@@ -16,7 +16,6 @@ use Rattle.meaning.specs.Row.{Pair, OfAttribute, OfComponent, OfLine, pa
 use Rattle.meaning.specs.Reading.{isComplete, State, startOf, Rooms}
 use Rattle.meaning.specs.Lines.{no, stepOf, ran, run}
 use Rattle.meaning.specs.Table.{findObject, Result, acceptedWith, refusedWith, readText, read}
-use Rattle.meaning.specs.Writing.{markCount}
 use Rattle.meaning.specs.WritingClaims.{Enough}
 use Rattle.meaning.specs.Right.{Entry, OfReference, Delivered, DeliveredTopic, objectsOfTopics, withStarts, File}
 use Rattle.meaning.specs.Right.{Unique, Names, IsNamed, AllNamed, Right, namesOf, tableOf}

@@ -1,6 +1,6 @@
 -- What is proved of writing: unwritable exactly when no lines read as the table, the judge that says so, and the round
 -- trip. Proved in proofs/Writing/WritingClaims.antt.
-use Prim.Native.Nat.{ℕ, _+_, _-_, _≤_}
+use Prim.Native.Nat.{ℕ, _+_, _*_, _-_, _≤_}
 use mathlib.Core.Path.{_≡_}
 use mathlib.Core.Bool.{Bool, true, _&&_}
 use mathlib.Core.List.{List, [], _∷_}
@@ -10,26 +10,31 @@ use lib.Dec.{ltb, eqb}
 use lib.ListN.{length, take, drop, replicate}
 use Rattle.meaning.specs.Bytes.{choose}
 use Rattle.meaning.specs.Unfold.{unfoldedText}
-use Rattle.meaning.specs.Model.{Model}
-use Rattle.meaning.specs.Check.{good, checkModel}
-use Rattle.meaning.specs.Answer.{accepted, refusal}
+use Rattle.meaning.specs.Cut.{Cut, Permitted}
+use Rattle.meaning.specs.Model.{Model, markCount}
+use Rattle.meaning.specs.Check.{good, bad, checkModel}
+use Rattle.meaning.specs.Answer.{accepted, refusal, filled}
 use Rattle.meaning.specs.Reading.{Content, Rooms}
 use Rattle.meaning.specs.Table.{Result, acceptedWith, read}
-use Rattle.meaning.specs.Writing.{Lent, markCount, countsFit, contentOf, linesOf}
+use Rattle.meaning.specs.Right.{DeliveredTopic, Right, tableOf}
+use Rattle.meaning.specs.Writing.{Lent, countsFit, contentOf, linesOf}
 use Rattle.meaning.specs.Readback.{sameTable, readsAs, isTable}
 use Rattle.meaning.specs.Judge.{judge}
-use Rattle.meaning.specs.Width.{write}
+use Rattle.meaning.specs.Width.{cutLines, write}
 
 -- ## Unwritable exactly when
 
--- these lines read as a lent table, whose counts are no more than is lent
-pub record ReadAs (m : Model) (t : Lent) (ls : List (List ℕ)) : Type 0 where
+-- lines that are right, for objects whose table is the lent one: starts aside, texts and identifications compare by
+-- their bytes. A table's counts are no more than is lent
+pub record RightAs (m : Model) (t : Lent) (ls : List (List ℕ)) : Type 0 where
   pub fits : countsFit m t ≡ true
-  pub reads : readsAs m ls (t .text) (contentOf m t) ≡ true
+  pub delivered : List DeliveredTopic
+  pub right : Right m ls delivered
+  pub same : sameTable m (unfoldedText ls) (tableOf m delivered) (t .text) (contentOf m t) ≡ true
 
--- no lines read as a lent table
+-- no lines of permitted bytes read as a lent table
 abbrev pub NoLines : Model → Lent → Type 0
-NoLines m t = (ls : List (List ℕ)) → ReadAs m t ls → ⊥
+NoLines m t = (ls : List (List ℕ)) → Permitted ls → RightAs m t ls → ⊥
 
 -- "a table is refused as unwritable exactly when no lines read as that table"
 abbrev pub Unwritable : Type 0
@@ -37,9 +42,71 @@ Unwritable =
     (model : List ℕ) (m : Model) (t : Lent) (width room : ℕ) → checkModel model ≡ good m → 16 ≤ width → width ≤ 65535
     → (write model t width room .answer ≡ refusal 19 0 0) ↔ NoLines m t
 
+-- lines that the reader's own step takes for a lent table, whatever their bytes are: an LF within a line, say
+pub record ReadAs (m : Model) (t : Lent) (ls : List (List ℕ)) : Type 0 where
+  pub fits : countsFit m t ≡ true
+  pub reads : readsAs m ls (t .text) (contentOf m t) ≡ true
+
+-- not even such lines read as a lent table
+abbrev pub NoLinesAtAll : Model → Lent → Type 0
+NoLinesAtAll m t = (ls : List (List ℕ)) → ReadAs m t ls → ⊥
+
+-- where no lines of permitted bytes are right, no lines at all read as the table: both say the same
+abbrev pub NoLinesEither : Type 0
+NoLinesEither = (model : List ℕ) (m : Model) (t : Lent) → checkModel model ≡ good m → NoLines m t ↔ NoLinesAtAll m t
+
 -- the judge of a lent table, which reads no lines, says exactly whether the table's own lines read as it
 abbrev pub JudgedExactly : Type 0
 JudgedExactly = (model : List ℕ) (m : Model) (t : Lent) → checkModel model ≡ good m → judge m t ≡ isTable m t
+
+-- ## What is written, and when: "In writing: 2, 20, 19, 21"
+
+-- the file of a lent table at a width: its lines, cut
+abbrev pub fileOf : Model → Lent → (width : ℕ) → List ℕ
+fileOf m t width = cutLines (m .mark) width (linesOf m (t .text) (contentOf m t))
+
+-- "a permitted width"
+abbrev pub PermittedWidth : ℕ → Type 0
+PermittedWidth width = (16 ≤ width) × (width ≤ 65535)
+
+-- a file fits the output room, and the limit of 16,777,216 bytes
+abbrev pub OutputFits : (room : ℕ) → List ℕ → Type 0
+OutputFits room file = (length file ≤ room) × (length file ≤ 16777216)
+
+-- a table that some lines read as, and whose file fits, is written: the answer and the whole room
+abbrev pub Writes : Type 0
+Writes =
+    (model : List ℕ) (m : Model) (t : Lent) (width room : ℕ) → checkModel model ≡ good m → PermittedWidth width
+    → (NoLines m t → ⊥) → OutputFits room (fileOf m t width)
+    → write model t width room ≡ record {
+      answer = accepted (length (fileOf m t width)) 0 0;
+      output = filled 0 room (fileOf m t width);
+    }
+
+-- 21: "output room or 16,777,216 too small"
+abbrev pub TooSmallExactly : Type 0
+TooSmallExactly =
+    (model : List ℕ) (m : Model) (t : Lent) (width room : ℕ) → checkModel model ≡ good m → PermittedWidth width
+    → (write model t width room .answer ≡ refusal 21 0 0)
+    ↔ ((NoLines m t → ⊥) × (OutputFits room (fileOf m t width) → ⊥))
+
+-- 20: "width below 16 or above 65,535", before all but the model
+abbrev pub WidthExactly : Type 0
+WidthExactly =
+    (model : List ℕ) (m : Model) (t : Lent) (width room : ℕ) → checkModel model ≡ good m
+    → (write model t width room .answer ≡ refusal 20 0 0) ↔ (PermittedWidth width → ⊥)
+
+-- 2: "model bad", before all else
+abbrev pub BadModelWrites : Type 0
+BadModelWrites = (model : List ℕ) (t : Lent) (width room at : ℕ) → checkModel model ≡ bad at
+    → write model t width room .answer ≡ refusal 2 at 0
+
+-- what was written is a cut of the table's lines
+abbrev pub WrittenIsCut : Type 0
+WrittenIsCut =
+    (model : List ℕ) (m : Model) (t : Lent) (width room n : ℕ) → checkModel model ≡ good m
+    → write model t width room .answer ≡ accepted n 0 0
+    → Cut (m .mark) (linesOf m (t .text) (contentOf m t)) (take n (write model t width room .output))
 
 -- ## The round trip
 
@@ -55,14 +122,15 @@ pub record Enough (m : Model) (ls : List (List ℕ)) (c : Content) (rooms : Room
 abbrev pub resolvedTable : Content → List ℤ → Content
 resolvedTable c cs = record { marks = c .marks; rows = c .rows; cells = cs; points = c .points }
 
--- a result is accepted, with a table that is the lent one: texts and identifications compare by their bytes, starts
--- aside
+-- a result is accepted, with a table that is the lent one, and with its counts: texts and identifications compare by
+-- their bytes, starts aside
 pub record ReadBack (m : Model) (t : Lent) (rooms : Rooms) (r : Result) : Type 0 where
   pub text : List ℕ
   pub content : Content
   pub cells : List ℤ
   pub is : r ≡ acceptedWith rooms text content cells
   pub same : sameTable m text (resolvedTable content cells) (t .text) (contentOf m t) ≡ true
+  pub counts : r .answer ≡ accepted (t .objects) (t .cellCount) (t .pointCount)
 
 -- "what it wrote reads as the same objects, values, points and references"
 abbrev pub RoundTrip : Type 0
@@ -72,11 +140,19 @@ RoundTrip =
     → Enough m (linesOf m (t .text) (contentOf m t)) (contentOf m t) rooms
     → ReadBack m t rooms (read model (take n (write model t width room .output)) rooms)
 
--- and its counts are the lent ones
-abbrev pub RoundTripCounts : Type 0
-RoundTripCounts =
-    (m : Model) (t : Lent) (rooms : Rooms) (r : Result) → countsFit m t ≡ true → ReadBack m t rooms r
-    → r .answer ≡ accepted (t .objects) (t .cellCount) (t .pointCount)
+-- rooms that suffice, as a caller can evaluate it: text for the bytes that were written, the rest for the lent counts
+pub record RoomsAsLent (m : Model) (t : Lent) (n : ℕ) (rooms : Rooms) : Type 0 where
+  pub text : n ≤ rooms .text
+  pub marks : markCount m ≤ rooms .marks
+  pub rows : t .objects ≤ rooms .rows
+  pub cells : t .cellCount ≤ rooms .cells
+  pub points : 4 * t .pointCount ≤ rooms .points
+
+abbrev pub LentIsEnough : Type 0
+LentIsEnough =
+    (model : List ℕ) (m : Model) (t : Lent) (width room n : ℕ) (rooms : Rooms) → checkModel model ≡ good m
+    → write model t width room .answer ≡ accepted n 0 0 → RoomsAsLent m t n rooms
+    → Enough m (linesOf m (t .text) (contentOf m t)) (contentOf m t) rooms
 
 -- a table that was read, as it is lent to writing: the whole buffers, and its counts
 abbrev pub lentAgain : Result → (objects cells points : ℕ) → Lent

@@ -7,9 +7,9 @@ use lib.ListN.{length}
 use lib.Seq.{length-take-le}
 use borrow.Author.Tests.{leb-true}
 use Rattle.meaning.specs.Bytes.{allOf}
-use Rattle.meaning.specs.Model.{Model}
+use Rattle.meaning.specs.Model.{Model, markCount}
 use Rattle.meaning.specs.Check.{good, checkModel, GoodModel}
-use Rattle.meaning.specs.Writing.{Lent, markCount, countsFit, contentOf}
+use Rattle.meaning.specs.Writing.{Lent, countsFit, contentOf}
 use Rattle.meaning.specs.Readback.{isTable}
 use Rattle.meaning.specs.Judge.{judge}
 use Rattle.meaning.proofs.Tests.Refuse.{holds, same-test}

@@ -10,13 +10,13 @@ use lib.Seq.{take-all, take-length}
 use borrow.Author.Tests.{le-leb}
 use Rattle.meaning.specs.Bytes.{refuse, allOf}
 use Rattle.meaning.specs.Unfold.{Unfolded, lines, fault, unfoldFile, unfoldedText}
-use Rattle.meaning.specs.Model.{Model}
+use Rattle.meaning.specs.Model.{Model, markCount}
 use Rattle.meaning.specs.Check.{good, checkModel, GoodModel}
 use Rattle.meaning.specs.Answer.{accepted, refusal, tooLong}
 use Rattle.meaning.specs.Reading.{Content, State, startOf, Rooms, pointCount}
 use Rattle.meaning.specs.Lines.{Run, ran, stopped, readLines}
 use Rattle.meaning.specs.Table.{Resolved, resolved, unresolved, resolve, Result, refusedWith, acceptedWith, readResolved, readRun, readText, readUnfolded, readChecked, read}
-use Rattle.meaning.specs.Writing.{Lent, markCount, countsFit, contentOf}
+use Rattle.meaning.specs.Writing.{Lent, countsFit, contentOf}
 use Rattle.meaning.specs.Readback.{isTable}
 use Rattle.meaning.specs.Width.{write}
 use Rattle.meaning.specs.WritingClaims.{resolvedTable, lentAgain}

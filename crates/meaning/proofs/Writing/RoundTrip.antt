@@ -11,12 +11,12 @@ use borrow.Author.Tests.{le-ltb, ltb-false, leb-true, not-false}
 use Rattle.meaning.specs.Bytes.{refuse}
 use Rattle.meaning.specs.Unfold.{unfoldedText}
 use Rattle.meaning.specs.Cut.{Cut}
-use Rattle.meaning.specs.Model.{Model}
+use Rattle.meaning.specs.Model.{Model, markCount}
 use Rattle.meaning.specs.Check.{good, checkModel, GoodModel}
 use Rattle.meaning.specs.Answer.{Answer, accepted, refusal, filled}
 use Rattle.meaning.specs.Reading.{Content, startOf, Rooms}
 use Rattle.meaning.specs.Table.{read, Result, acceptedWith, readResolved, readRun, readText}
-use Rattle.meaning.specs.Writing.{Lent, markCount, countsFit, contentOf, linesOf}
+use Rattle.meaning.specs.Writing.{Lent, countsFit, contentOf, linesOf}
 use Rattle.meaning.specs.Readback.{isTable}
 use Rattle.meaning.specs.Width.{cutLines, Written, writingRefused, writeBytes, writeChecked, write}
 use Rattle.meaning.specs.WritingClaims.{Enough, ReadBack}

@@ -10,12 +10,12 @@ use lib.ListN.{length, take, replicate, length-append}
 use lib.Seq.{take-at, length-take-le}
 use borrow.Author.Tests.{leb-true, le-leb}
 use Rattle.meaning.specs.Bytes.{allOf}
-use Rattle.meaning.specs.Model.{Model}
+use Rattle.meaning.specs.Model.{Model, markCount}
 use Rattle.meaning.specs.Check.{good, checkModel, GoodModel}
 use Rattle.meaning.specs.Answer.{accepted, filled}
 use Rattle.meaning.specs.Reading.{Content, Rooms}
 use Rattle.meaning.specs.Table.{Result, acceptedWith, read}
-use Rattle.meaning.specs.Writing.{Lent, markCount, countsFit, contentOf, linesOf}
+use Rattle.meaning.specs.Writing.{Lent, countsFit, contentOf, linesOf}
 use Rattle.meaning.specs.Readback.{cellsWithoutStarts, textsOf, isTable}
 use Rattle.meaning.specs.Width.{writeChecked, write}
 use Rattle.meaning.specs.WritingClaims.{Enough, resolvedTable, lentAgain}
