@@ -6,3 +6,4 @@ pub mod Bounds
 pub mod GoodModels
 pub mod GoodPairs
 pub mod Names
+pub mod ModelClaims

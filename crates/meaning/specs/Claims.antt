@@ -7,7 +7,7 @@ use lib.ListN.{length, drop, replicate}
 use Rattle.meaning.specs.Unfold.{lines, fault, unfoldFile}
 use Rattle.meaning.specs.Cut.{Cut, Mark, Permitted}
 use Rattle.meaning.specs.Model.{Model}
-use Rattle.meaning.specs.Check.{Checked, good, bad, checkModel, GoodModel}
+use Rattle.meaning.specs.Check.{Checked, good, bad, checkModel}
 use Rattle.meaning.specs.Answer.{accepted, refusal, textUnfolded, unfoldText}
 use Rattle.meaning.specs.Reading.{Rooms}
 use Rattle.meaning.specs.Table.{Result, refusedWith, readText, read}
@@ -34,16 +34,6 @@ pub record OnlyCut (mark : ℕ) (f : List ℕ) : Type 0 where
 abbrev pub OneCut : Type 0
 OneCut = (mark : ℕ) → Mark mark → (f : List ℕ) → ((number line : ℕ) → unfoldFile mark f ≡ fault number line → ⊥)
     → OnlyCut mark f
-
--- ## The model
-
--- what the check calls good has all that a good model has
-abbrev pub CheckedGood : Type 0
-CheckedGood = (model : List ℕ) (m : Model) → checkModel model ≡ good m → GoodModel m
-
--- a good model's mark lies in 21 to 7E hex
-abbrev pub GoodMark : Type 0
-GoodMark = (model : List ℕ) (m : Model) → checkModel model ≡ good m → Mark (m .mark)
 
 -- ## Demand 3
 

@@ -7,11 +7,10 @@ use Rattle.meaning.specs.Unfold.{lines, fault, Unfolded, unfoldFile}
 use Rattle.meaning.specs.Check.{bad, good, Checked, checkModel}
 use Rattle.meaning.specs.Answer.{Answer, textChecked, unfoldText}
 use Rattle.meaning.specs.Table.{read, readUnfolded, readChecked}
-use Rattle.meaning.specs.Claims.{CutUnfolds, UnfoldsCut, OnlyCut, OneCut, CheckedGood, GoodMark, CutReadsAsLines, CutUnfoldsToText, BadModelReads, CutUnder, CutsReadAlike, RefusalZeroes, BuffersKept, CountsSayWhatIsUsed, UnfoldingRefusalZeroes, UnfoldingKeepsRoom, WidthCuts}
+use Rattle.meaning.specs.Claims.{CutUnfolds, UnfoldsCut, OnlyCut, OneCut, CutReadsAsLines, CutUnfoldsToText, BadModelReads, CutUnder, CutsReadAlike, RefusalZeroes, BuffersKept, CountsSayWhatIsUsed, UnfoldingRefusalZeroes, UnfoldingKeepsRoom, WidthCuts}
 use Rattle.meaning.proofs.Unfolding.TextLeft as text-left
 use Rattle.meaning.proofs.Unfolding.Cuts as cuts
 use Rattle.meaning.proofs.Model.Marks as marks
-use Rattle.meaning.proofs.Model.GoodModels as models
 use Rattle.meaning.proofs.Unfolding.Widths as widths
 use Rattle.meaning.proofs.Reading.Buffers as buffers
 
@@ -31,12 +30,6 @@ one-cut m mark f fine = go (unfoldFile m f) refl
       cut = cuts.unfolds-cut m mark ls f e .0;
       only = λ ks c. cuts.cut-unique m mark c (cuts.unfolds-cut m mark ls f e .0);
     }
-
-pub checked-good : CheckedGood
-checked-good model m h = models.checked-good model m h
-
-pub good-mark : GoodMark
-good-mark model m h = marks.good-mark model m h
 
 pub cut-reads-as-lines : CutReadsAsLines
 unfolding read refuse readChecked readUnfolded
