@@ -1,11 +1,14 @@
 -- What is proved of these definitions, in proofs/Reading/Claims.antt.
 use Prim.Native.Nat.{ℕ, _*_, _-_, _≤_}
 use mathlib.Core.Path.{_≡_}
+use mathlib.Core.Bool.{false}
 use mathlib.Core.List.{List}
+use mathlib.Core.Logic.{_↔_}
 use lib.IntN.{pos}
 use lib.ListN.{length, drop, replicate}
 use Rattle.meaning.specs.Unfold.{lines, fault, unfoldFile}
 use Rattle.meaning.specs.Cut.{Cut, Mark, Permitted}
+use Rattle.meaning.specs.Faults.{Begun, FirstFault}
 use Rattle.meaning.specs.Model.{Model}
 use Rattle.meaning.specs.Check.{Checked, good, bad, checkModel}
 use Rattle.meaning.specs.Answer.{accepted, refusal, textUnfolded, unfoldText}
@@ -34,6 +37,18 @@ pub record OnlyCut (mark : ℕ) (f : List ℕ) : Type 0 where
 abbrev pub OneCut : Type 0
 OneCut = (mark : ℕ) → Mark mark → (f : List ℕ) → ((number line : ℕ) → unfoldFile mark f ≡ fault number line → ⊥)
     → OnlyCut mark f
+
+-- lines that a file is a cut of are complete behind its physical lines, and the other way round
+abbrev pub CutIsBegun : Type 0
+CutIsBegun = (mark : ℕ) → Mark mark → (ls : List (List ℕ)) (f : List ℕ) → Cut mark ls f → Begun mark (length ls) false f
+
+abbrev pub BegunIsCut : Type 0
+BegunIsCut = (mark : ℕ) → Mark mark → (n : ℕ) (f : List ℕ) → Begun mark n false f → OnlyCut mark f
+
+-- the fault of unfolding is the first one, and no other
+abbrev pub FaultExactly : Type 0
+FaultExactly = (mark : ℕ) → Mark mark → (f : List ℕ) (number line : ℕ)
+    → (unfoldFile mark f ≡ fault number line) ↔ FirstFault mark f number line
 
 -- ## Demand 3
 

@@ -5,13 +5,52 @@ use Prim.Native.Nat.{ℕ, _+_, _/_, _%_, _^_, _≤_, _<_}
 use mathlib.Core.Path.{_≡_}
 use mathlib.Core.Bool.{true, not, _&&_, _||_}
 use mathlib.Core.List.{List}
+use mathlib.Core.Logic.{_↔_}
 use lib.Dec.{eqb}
 use lib.IntN.{ℤ, pos, natAbs}
 use lib.ListN.{length}
-use Rattle.meaning.specs.Model.{Component}
+use Rattle.meaning.specs.Model.{Component, AttributeType, Reference, Coordinate, Number, Text, Date, Enumeration}
+use Rattle.meaning.specs.Model.{Line}
+use Rattle.meaning.specs.Field.{Field, fieldsOf}
 use Rattle.meaning.specs.Check.{goodComponent}
-use Rattle.meaning.specs.Value.{pair, within, numberOf, isLeapYear, isDay, dateOf, enumerationOf}
+use Rattle.meaning.specs.Value.{pair, wrong, within, numberOf, isLeapYear, isDay, dateOf, enumerationOf, valueOf}
+use Rattle.meaning.specs.Shapes.{Runs, Numeral, Shape, InDomain, WrongShape, OutsideDomain}
 use Rattle.meaning.specs.Digits.{numberBytes, dateBytes}
+
+-- ## Fields and values are those of the grammar
+
+-- "Fields are longest runs without space or tab": the fields of a line are these and no others.
+abbrev pub FieldsExactly : Type 0
+FieldsExactly = (start : ℕ) (l : List ℕ) (fs : List Field) → (fieldsOf start l ≡ fs) ↔ Runs start l fs
+
+-- A number reads as this value exactly when it is a numeral of it, within the bounds.
+abbrev pub NumberExactly : Type 0
+NumberExactly = (c : Component) (s : List ℕ) (v : ℤ)
+    → (numberOf c s ≡ pair (pos 1) v) ↔ (Numeral (c .decimals) s v × (within c v ≡ true))
+
+-- A date's and a leaf's value, likewise.
+abbrev pub DateExactly : Type 0
+DateExactly = (s : List ℕ) (v : ℤ) → (dateOf s ≡ pair (pos 1) v) ↔ (Shape Date s v × InDomain Date s v)
+
+abbrev pub EnumerationExactly : Type 0
+EnumerationExactly = (leaves : ℕ) (s : List ℕ) (v : ℤ)
+    → (enumerationOf leaves s ≡ pair (pos 1) v) ↔ (Shape (Enumeration leaves) s v × InDomain (Enumeration leaves) s v)
+
+-- a type whose values are fields: coordinates are read component by component, and lines have no field
+abbrev pub HasField : AttributeType → Type 0
+HasField (Reference t) = Unit {0}
+HasField (Coordinate cs) = ⊥
+HasField (Number c) = Unit {0}
+HasField (Text longest) = Unit {0}
+HasField Date = Unit {0}
+HasField (Enumeration leaves) = Unit {0}
+HasField (Line forms cs) = ⊥
+
+-- 13 where the field has not the shape, and 14 where it has and is outside the domain.
+abbrev pub WrongExactly : Type 0
+WrongExactly = (type : AttributeType) (f : Field) → HasField type
+    → ((valueOf type f ≡ wrong 13) ↔ WrongShape type (f .bytes))
+    × ((valueOf type f ≡ wrong 14) ↔ OutsideDomain type (f .bytes))
 
 -- ## What is written reads as the value
 
