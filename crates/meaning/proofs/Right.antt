@@ -1,4 +1,5 @@
 pub mod Steps
+pub mod Places
 pub mod Content
 pub mod Points
 pub mod Rows

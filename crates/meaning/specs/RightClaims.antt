@@ -2,23 +2,25 @@
 -- otherwise. Proved in proofs/Right/Claims.antt.
 use Prim.Native.Nat.{ℕ, _+_, _≤_, _<_}
 use mathlib.Core.Path.{_≡_}
-use mathlib.Core.Bool.{true, false}
-use mathlib.Core.List.{List, _∷_, _++_}
+use mathlib.Core.Bool.{true}
+use mathlib.Core.List.{List, [], _∷_, _++_}
 use mathlib.Core.Logic.{_↔_}
 use lib.ListN.{length}
-use Rattle.meaning.specs.Unfold.{lines, fault, unfoldFile, unfoldedText}
+use Rattle.meaning.specs.Unfold.{lines, unfoldFile, unfoldedText}
 use Rattle.meaning.specs.Cut.{Cut}
+use Rattle.meaning.specs.Faults.{FirstFault}
 use Rattle.meaning.specs.Model.{found, Model, markCount, tableAt}
 use Rattle.meaning.specs.Check.{good, bad, checkModel, GoodModel}
 use Rattle.meaning.specs.Answer.{Answer, accepted, refusal}
 use Rattle.meaning.specs.Field.{Field}
 use Rattle.meaning.specs.Row.{Pair, OfAttribute, OfComponent, OfLine, pairsOf}
-use Rattle.meaning.specs.Reading.{isComplete, State, startOf, Rooms}
-use Rattle.meaning.specs.Lines.{no, stepOf, ran, run}
+use Rattle.meaning.specs.Reading.{Rooms}
 use Rattle.meaning.specs.Table.{findObject, Result, acceptedWith, refusedWith, readText, read}
 use Rattle.meaning.specs.WritingClaims.{Enough}
 use Rattle.meaning.specs.Right.{Entry, OfReference, Delivered, DeliveredTopic, objectsOfTopics, withStarts, File}
-use Rattle.meaning.specs.Right.{Unique, Names, IsNamed, AllNamed, Right, namesOf, tableOf}
+use Rattle.meaning.specs.Right.{Line, Unique, Names, IsNamed, AllNamed, Right, namesOf, tableOf}
+use Rattle.meaning.specs.Reasons.{Place, end, Gain, Follows, Reason, usedWith, cellsWith, pointsWith, Reached}
+use Rattle.meaning.specs.Reasons.{Within}
 use Rattle.meaning.specs.Sample.{sampleModel, with7}
 use Rattle.meaning.specs.Neighbours.{oneMore}
 
@@ -134,33 +136,46 @@ pub record HasRoom (m : Model) (ls : List (List ℕ)) (rooms : Rooms) : Type 0 w
   pub text : length (unfoldedText ls) ≤ rooms .text
   pub marks : markCount m ≤ rooms .marks
 
--- these lines pass, from the first on
-abbrev pub Pass : Model → Rooms → (ls : List (List ℕ)) → (before : List (List ℕ)) → State → Type 0
-Pass m rooms ls before s = run m rooms (unfoldedText ls) (startOf m) before ≡ ran s
+-- these lines, from the first of a file on, have come to a place, and there is room for what they deliver
+pub record ComeTo (m : Model) (rooms : Rooms) (ls : List (List ℕ)) (x : Place) (used : List (List ℕ))
+    (cells points : ℕ) : Type 0 where
+  pub reached : Reached m (withStarts 0 ls) x used cells points
+  pub room : Within rooms used cells points
+
+-- the line l behind these
+abbrev pub lineBehind : List (List ℕ) → List ℕ → Line
+lineBehind before l = record { start = length (unfoldedText before); bytes = l }
 
 -- the first refusal of a file under a model, with these rooms: its number and its place
 pub data First (model file : List ℕ) (rooms : Rooms) : (number first second : ℕ) → Type 0 where
   tooLarge : 16777216 < length file → First model file rooms 1 0 0
   badModel : {at : ℕ} → Short file → checkModel model ≡ bad at → First model file rooms 2 at 0
   badUnfolding : {m : Model} {number line : ℕ} → Short file → checkModel model ≡ good m
-      → unfoldFile (m .mark) file ≡ fault number line → First model file rooms number line 0
+      → FirstFault (m .mark) file number line → First model file rooms number line 0
   noRoom : {m : Model} {ls : List (List ℕ)} → Opened model file m ls → (HasRoom m ls rooms → ⊥)
       → First model file rooms 6 0 0
-  -- all lines before the line l pass, and l does not
-  badLine : {m : Model} {s : State} {number field : ℕ} (before : List (List ℕ)) (l : List ℕ) (after : List (List ℕ))
+  -- the lines before the line l have come to a place where l may not follow, for this reason
+  badLine : {m : Model} {x : Place} {used : List (List ℕ)} {cells points number field : ℕ} (before : List (List ℕ))
+      (l : List ℕ) (after : List (List ℕ))
       → Opened model file m (before ++ (l ∷ after)) → HasRoom m (before ++ (l ∷ after)) rooms
-      → Pass m rooms (before ++ (l ∷ after)) before s
-      → stepOf m rooms (unfoldedText (before ++ (l ∷ after))) l s ≡ no number field
+      → ComeTo m rooms before x used cells points → Reason m used x (lineBehind before l) number field
       → First model file rooms number (1 + length before) field
-  -- all lines pass, and one is still due
-  lineMissing : {m : Model} {ls : List (List ℕ)} {s : State} → Opened model file m ls → HasRoom m ls rooms
-      → Pass m rooms ls ls s → isComplete (s .due) ≡ false
+  -- or where it may, and there is no room for what it adds
+  fullLine : {m : Model} {x y : Place} {used : List (List ℕ)} {cells points : ℕ} {g : Gain} (before : List (List ℕ))
+      (l : List ℕ) (after : List (List ℕ))
+      → Opened model file m (before ++ (l ∷ after)) → HasRoom m (before ++ (l ∷ after)) rooms
+      → ComeTo m rooms before x used cells points → Follows m used x (lineBehind before l) y g
+      → (Within rooms (usedWith g used) (cellsWith g cells) (pointsWith g points) → ⊥)
+      → First model file rooms 16 (1 + length before) 0
+  -- all lines may follow one another, and another one has to follow
+  lineMissing : {m : Model} {ls : List (List ℕ)} {x : Place} {used : List (List ℕ)} {cells points : ℕ}
+      → Opened model file m ls → HasRoom m ls rooms → ComeTo m rooms ls x used cells points → (x ≡ end → ⊥)
       → First model file rooms 7 (1 + length ls) 1
-  -- all lines pass and none is due; of all that they deliver this is the first reference that names no object
-  objectMissing : {m : Model} {ls : List (List ℕ)} {s : State} {ds : List DeliveredTopic} {object field : ℕ}
-      → Opened model file m ls → HasRoom m ls rooms → Pass m rooms ls ls s
-      → isComplete (s .due) ≡ true → File m (withStarts 0 ls) ds → Unique (objectsOfTopics ds)
-      → FirstOfObjects m (objectsOfTopics ds) 0 (objectsOfTopics ds) object field
+  -- the lines are right and have room, references aside; of all that they deliver this is the first that names no
+  -- object
+  objectMissing : {m : Model} {ls : List (List ℕ)} {ds : List DeliveredTopic} {object field : ℕ}
+      → Opened model file m ls → File m (withStarts 0 ls) ds → Unique (objectsOfTopics ds)
+      → Enough m ls (tableOf m ds) rooms → FirstOfObjects m (objectsOfTopics ds) 0 (objectsOfTopics ds) object field
       → First model file rooms 17 object field
 
 -- "otherwise the first refusal in the fixed order is given": a refusal is the first one
@@ -172,3 +187,33 @@ RefusalIsFirst = (model file : List ℕ) (rooms : Rooms) (number first second : 
 abbrev pub FirstIsRefusal : Type 0
 FirstIsRefusal = (model file : List ℕ) (rooms : Rooms) (number first second : ℕ)
     → First model file rooms number first second → read model file rooms ≡ refusedWith rooms number first second
+
+-- ## Behind the last line
+
+-- the identifications of objects
+unfoldable pub identificationsOf : List Delivered → List (List ℕ)
+identificationsOf [] = []
+identificationsOf (o ∷ os) = o .identification .bytes ∷ identificationsOf os
+
+-- lines that may follow one another to the end are right, references aside: with these identifications and counts
+pub record Complete (m : Model) (ls : List (List ℕ)) (used : List (List ℕ)) (cells points : ℕ) : Type 0 where
+  pub delivered : List DeliveredTopic
+  pub file : File m (withStarts 0 ls) delivered
+  pub unique : Unique (objectsOfTopics delivered)
+  pub identifications : identificationsOf (objectsOfTopics delivered) ≡ used
+  pub cellCount : length (tableOf m delivered .cells) ≡ cells
+  pub pointCells : length (tableOf m delivered .points) ≡ points
+
+-- lines that may follow one another to the end are right, references aside, and the other way round: so `Reached`
+-- takes no other lines than `Right` does
+abbrev pub ReachedExactly : Type 0
+ReachedExactly = (m : Model) (ls : List (List ℕ)) (used : List (List ℕ)) (cells points : ℕ) → GoodModel m
+    → Reached m (withStarts 0 ls) end used cells points ↔ Complete m ls used cells points
+
+-- a line has one reason or none: two coincide, and a line that may follow has none
+pub record OneReason (m : Model) (used : List (List ℕ)) (x : Place) (l : Line) : Type 0 where
+  pub alike : (n k n′ k′ : ℕ) → Reason m used x l n k → Reason m used x l n′ k′ → (n ≡ n′) × (k ≡ k′)
+  pub none : (y : Place) (g : Gain) (n k : ℕ) → Follows m used x l y g → Reason m used x l n k → ⊥
+
+abbrev pub ReasonsAlike : Type 0
+ReasonsAlike = (m : Model) (used : List (List ℕ)) (x : Place) (l : Line) → GoodModel m → OneReason m used x l
