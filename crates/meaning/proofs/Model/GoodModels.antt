@@ -332,7 +332,7 @@ all-good n ts (t ∷ others) u m a h =
 
 -- ## The order of tables
 
-order-later : (a b : ℕ) (ts : List Table) → b ≤ a → inTopicOrder a ts ≡ true → inTopicOrder b ts ≡ true
+pub order-later : (a b : ℕ) (ts : List Table) → b ≤ a → inTopicOrder a ts ≡ true → inTopicOrder b ts ≡ true
 unfolding inTopicOrder
 order-later a b [] l h = refl
 order-later a b (t ∷ ts) l h = let r = both (leb a (t .topic)) _ h in rw (le-leb b (t .topic) (omega (arith, leb-true a (t .topic) (r .0)))) (r .1)
