@@ -29,7 +29,7 @@ skipped (suc n) at [] h = absurd (omega arith)
 skipped (suc n) at (b ∷ s) h = let e : at + suc n ≡ at + 1 + n = omega arith in rw e (skipped n (at + 1) s (omega arith))
 
 -- the first record of a list that begins at the byte `at`
-first-entry : (at : ℕ) (s : List ℕ) → u16At s 0 + 4 ≤ length s
+pub first-entry : (at : ℕ) (s : List ℕ) → u16At s 0 + 4 ≤ length s
     → recordsFrom 0 at s ≡ entry at (u16At s 2) (take (u16At s 0) (drop 4 s)) (recordsFrom 0 (at + 4 + u16At s 0) (drop (4 + u16At s 0) s))
 unfolding recordsFrom refuse
 first-entry at [] h = absurd (omega arith)
