@@ -1,0 +1,94 @@
+-- From bytes to records: bytes begin with a whole record, which is read, or their first record overruns them.
+-- Assumes nothing.
+use Prim.Native.Nat.{ℕ, zero, suc, _+_, _/_, _%_, _≤_, _<_}
+use native.Mathlib.Omega.{arith}
+use mathlib.Core.Path.{_≡_, refl, sym, ap, _∙_}
+use mathlib.Core.Bool.{Bool, true, false}
+use mathlib.Core.List.{List, [], _∷_, _++_, append-assoc}
+use lib.Dec.{ltb, leb}
+use lib.ListN.{length, take, drop, length-append, length-drop, take-append-drop}
+use lib.Seq.{length-take-le, drop-drop, take-at, drop-at}
+use borrow.Author.Tests.{ltb-true, leb-true, leb-false}
+use Rattle.meaning.specs.Bytes.{every, byteAt, u16At}
+use Rattle.meaning.specs.Model.{overrun, entry, recordsFrom}
+use Rattle.meaning.specs.ModelBytes.{u16Bytes, recordBytes}
+use Rattle.meaning.specs.ModelClaims.{AreBytes, Whole}
+use Rattle.meaning.proofs.Tests.Refuse.{both}
+use Rattle.meaning.proofs.Lists.{drop-next}
+use Rattle.meaning.proofs.Model.Records.{first-entry, first-overrun}
+
+-- ## Bytes
+
+pub byte-below : (b : List ℕ) (i : ℕ) → AreBytes b → byteAt b i < 256
+unfolding every
+byte-below [] i h = omega arith
+byte-below (x ∷ b) zero h = ltb-true x 256 (both (ltb x 256) _ h .0)
+byte-below (x ∷ b) (suc i) h = byte-below b i (both (ltb x 256) _ h .1)
+
+-- the two bytes of the number that they make
+pub u16-written : (b : List ℕ) (at : ℕ) → AreBytes b → at + 2 ≤ length b → drop at b ≡ u16Bytes (u16At b at) ++ drop (at + 2) b
+unfolding u16Bytes
+u16-written b at h l =
+    let x = byte-below b at h in
+    let y = byte-below b (at + 1) h in
+    let p : u16At b at % 256 ≡ byteAt b at = omega arith in
+    let q : u16At b at / 256 ≡ byteAt b (at + 1) = omega arith in
+    let e : at + 1 + 1 ≡ at + 2 = omega arith in
+    rw (p, q, drop-next b at 0 (omega arith), drop-next b (at + 1) 0 (omega arith), e)
+
+-- ## The first record
+
+-- the bytes of the record that they begin with, where it fits
+record-written : (b : List ℕ) → AreBytes b → u16At b 0 + 4 ≤ length b → b ≡ recordBytes (u16At b 2) (take (u16At b 0) (drop 4 b)) ++ drop (4 + u16At b 0) b
+unfolding recordBytes
+record-written b h l =
+    let size : ℕ = u16At b 0 in
+    let n : length (take size (drop 4 b)) ≡ size = length-take-le size (drop 4 b) (rw (length-drop 4 b) (omega arith)) in
+    let r : take size (drop 4 b) ++ drop (4 + size) b ≡ drop 4 b = rw (← (drop-drop size 4 b)) (take-append-drop size (drop 4 b)) in
+    let f : b ≡ u16Bytes size ++ drop 2 b = u16-written b 0 h (omega arith) in
+    let g : drop 2 b ≡ u16Bytes (u16At b 2) ++ drop 4 b = u16-written b 2 h (omega arith) in
+    f ∙ ap (λ (t : List ℕ). u16Bytes size ++ t) g ∙ simp (append-assoc, n, r)
+
+-- a whole record: its length, and its first two bytes
+whole-size : (b : List ℕ) (w : Whole b) → (u16At b 0 ≡ length (w .payload)) × (4 + length (w .payload) ≤ length b)
+unfolding recordBytes u16Bytes
+whole-size b w = (ap (λ (s : List ℕ). u16At s 0) (w .is) ∙ omega arith, omega (arith, ap length (w .is), length-append (w .payload) (w .others)))
+
+-- the first record of bytes that begin at the byte `at`: it overruns them, or is whole and read
+pub data First (at : ℕ) (b : List ℕ) : Type 0 where
+  overruns : recordsFrom 0 at b ≡ overrun at → (Whole b → ⊥) → First at b
+  whole : (w : Whole b) → recordsFrom 0 at b ≡ entry at (w .kind) (w .payload) (recordsFrom 0 (at + 4 + length (w .payload)) (w .others)) → First at b
+
+pub first : (at : ℕ) (b : List ℕ) → AreBytes b → 0 < length b → First at b
+first at b h l = go (leb (u16At b 0 + 4) (length b)) refl
+  where
+    go : (x : Bool) → leb (u16At b 0 + 4) (length b) ≡ x → First at b
+    go true e =
+        let fits = leb-true (u16At b 0 + 4) (length b) e in
+        let n : length (take (u16At b 0) (drop 4 b)) ≡ u16At b 0 = length-take-le (u16At b 0) (drop 4 b) (rw (length-drop 4 b) (omega arith)) in
+        let low = byte-below b 0 h in
+        let high = byte-below b 1 h in
+        let w : Whole b = record {
+          kind = u16At b 2;
+          payload = take (u16At b 0) (drop 4 b);
+          others = drop (4 + u16At b 0) b;
+          size = rw n (omega arith);
+          kinds = omega (arith, byte-below b 2 h, byte-below b 3 h);
+          is = record-written b h fits;
+        } in
+        whole w (first-entry at b fits ∙ rw n)
+    go false e =
+        let over = leb-false (u16At b 0 + 4) (length b) e in
+        overruns (first-overrun at b l over) (λ w. let z = whole-size b w in omega arith)
+
+-- ## Bytes begin with one record only
+
+pub one-record : (kind kind′ : ℕ) (p p′ rest rest′ : List ℕ) → recordBytes kind p ++ rest ≡ recordBytes kind′ p′ ++ rest′ → (kind ≡ kind′) × (p ≡ p′) × (rest ≡ rest′)
+unfolding recordBytes u16Bytes
+one-record kind kind′ p p′ rest rest′ e =
+    let n : length p ≡ length p′ = omega (arith, ap (λ (s : List ℕ). u16At s 0) e) in
+    let k : kind ≡ kind′ = omega (arith, ap (λ (s : List ℕ). u16At s 2) e) in
+    let q : p ++ rest ≡ p′ ++ rest′ = ap (drop 4) e in
+    let f : p ≡ p′ = sym (take-at p rest (length p) refl) ∙ ap (take (length p)) q ∙ take-at p′ rest′ (length p) (sym n) in
+    let r : rest ≡ rest′ = sym (drop-at p rest (length p) refl) ∙ ap (drop (length p)) q ∙ drop-at p′ rest′ (length p) (sym n) in
+    (k, f, r)
