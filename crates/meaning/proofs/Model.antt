@@ -1,5 +1,6 @@
 pub mod Marks
 pub mod Records
+pub mod RecordBytes
 pub mod WholeRecords
 pub mod Models
 pub mod Standing
