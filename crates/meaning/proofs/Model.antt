@@ -2,6 +2,7 @@ pub mod Marks
 pub mod Records
 pub mod RecordBytes
 pub mod WholeRecords
+pub mod FirstBad
 pub mod Models
 pub mod Standing
 pub mod Bounds

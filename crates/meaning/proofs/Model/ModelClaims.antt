@@ -1,10 +1,14 @@
 -- The claims of specs/ModelClaims.antt. Assumes nothing.
-use Rattle.meaning.specs.ModelClaims.{CheckedGood, GoodMark}
+use Rattle.meaning.specs.ModelClaims.{CheckedGood, GoodMark, BadExactly}
 use Rattle.meaning.proofs.Model.Marks as marks
 use Rattle.meaning.proofs.Model.GoodModels as models
+use Rattle.meaning.proofs.Model.FirstBad as first-bad
 
 pub checked-good : CheckedGood
 checked-good model m h = models.checked-good model m h
 
 pub good-mark : GoodMark
 good-mark model m h = marks.good-mark model m h
+
+pub bad-exactly : BadExactly
+bad-exactly b at bytes = first-bad.bad-exactly b at bytes

@@ -6,7 +6,7 @@ use mathlib.Core.Path.{_≡_, refl, sym, ap, _∙_}
 use mathlib.Core.Bool.{Bool, true, false}
 use mathlib.Core.List.{List, [], _∷_, _++_, append-assoc}
 use lib.Dec.{ltb, leb}
-use lib.ListN.{length, take, drop, length-append, length-drop, take-append-drop}
+use lib.ListN.{length, take, drop, length-append, length-take, length-drop, take-append-drop}
 use lib.Seq.{length-take-le, drop-drop, take-at, drop-at}
 use borrow.Author.Tests.{ltb-true, leb-true, leb-false}
 use Rattle.meaning.specs.Bytes.{every, byteAt, u16At}
@@ -15,7 +15,8 @@ use Rattle.meaning.specs.ModelBytes.{u16Bytes, recordBytes}
 use Rattle.meaning.specs.ModelClaims.{AreBytes, Whole}
 use Rattle.meaning.proofs.Tests.Refuse.{both}
 use Rattle.meaning.proofs.Lists.{drop-next}
-use Rattle.meaning.proofs.Model.Records.{first-entry, first-overrun}
+use Rattle.meaning.proofs.Model.Records.{first-overrun}
+use Rattle.meaning.proofs.Model.RecordBytes.{record-length, record-first}
 
 -- ## Bytes
 
@@ -54,10 +55,18 @@ whole-size : (b : List ℕ) (w : Whole b) → (u16At b 0 ≡ length (w .payload)
 unfolding recordBytes u16Bytes
 whole-size b w = (ap (λ (s : List ℕ). u16At s 0) (w .is) ∙ omega arith, omega (arith, ap length (w .is), length-append (w .payload) (w .others)))
 
--- the first record of bytes that begin at the byte `at`: it overruns them, or is whole and read
+-- fewer bytes are behind it
+pub whole-rest : (b : List ℕ) (w : Whole b) → length (w .others) < length b
+whole-rest b w = omega (arith, ap length (w .is), length-append (recordBytes (w .kind) (w .payload)) (w .others), record-length (w .kind) (w .payload))
+
+-- a whole record is read, and the others behind it
+pub whole-read : (at : ℕ) (b : List ℕ) (w : Whole b) → recordsFrom 0 at b ≡ entry at (w .kind) (w .payload) (recordsFrom 0 (at + 4 + length (w .payload)) (w .others))
+whole-read at b w = ap (recordsFrom 0 at) (w .is) ∙ record-first at (w .kind) (w .payload) (w .others)
+
+-- the first record of bytes that begin at the byte `at`: it overruns them, or is whole
 pub data First (at : ℕ) (b : List ℕ) : Type 0 where
-  overruns : recordsFrom 0 at b ≡ overrun at → (Whole b → ⊥) → First at b
-  whole : (w : Whole b) → recordsFrom 0 at b ≡ entry at (w .kind) (w .payload) (recordsFrom 0 (at + 4 + length (w .payload)) (w .others)) → First at b
+  over : recordsFrom 0 at b ≡ overrun at → (Whole b → ⊥) → First at b
+  whole : Whole b → First at b
 
 pub first : (at : ℕ) (b : List ℕ) → AreBytes b → 0 < length b → First at b
 first at b h l = go (leb (u16At b 0 + 4) (length b)) refl
@@ -65,21 +74,17 @@ first at b h l = go (leb (u16At b 0 + 4) (length b)) refl
     go : (x : Bool) → leb (u16At b 0 + 4) (length b) ≡ x → First at b
     go true e =
         let fits = leb-true (u16At b 0 + 4) (length b) e in
-        let n : length (take (u16At b 0) (drop 4 b)) ≡ u16At b 0 = length-take-le (u16At b 0) (drop 4 b) (rw (length-drop 4 b) (omega arith)) in
-        let low = byte-below b 0 h in
-        let high = byte-below b 1 h in
-        let w : Whole b = record {
+        whole record {
           kind = u16At b 2;
           payload = take (u16At b 0) (drop 4 b);
           others = drop (4 + u16At b 0) b;
-          size = rw n (omega arith);
+          size = omega (arith, byte-below b 0 h, byte-below b 1 h, length-take (u16At b 0) (drop 4 b));
           kinds = omega (arith, byte-below b 2 h, byte-below b 3 h);
           is = record-written b h fits;
-        } in
-        whole w (first-entry at b fits ∙ rw n)
+        }
     go false e =
-        let over = leb-false (u16At b 0 + 4) (length b) e in
-        overruns (first-overrun at b l over) (λ w. let z = whole-size b w in omega arith)
+        let more = leb-false (u16At b 0 + 4) (length b) e in
+        over (first-overrun at b l more) (λ w. let z = whole-size b w in omega arith)
 
 -- ## Bytes begin with one record only
 
