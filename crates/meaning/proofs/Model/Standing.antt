@@ -64,6 +64,23 @@ nothing-behind k (entry at kind p others) seen m h = absurd (true≢false (passe
 none-left : {A : Type 0} (l : List A) (k : ℕ) → [] ≡ drop k l → length l ≤ k
 none-left l k e = let z : 0 ≡ length l - k = ap length e ∙ length-drop k l in omega arith
 
+-- behind a topic's record stands a table's, behind a table's an attribute's
+pub kind-four : (kind : ℕ) → follows 3 kind ≡ true → kind ≡ 4
+unfolding follows
+kind-four kind h = go (eqb kind 4) refl
+  where
+    go : (x : Bool) → eqb kind 4 ≡ x → kind ≡ 4
+    go true e = eqb-true kind 4 e
+    go false e = absurd (false≢true (rw e at h))
+
+pub kind-five : (kind : ℕ) → follows 4 kind ≡ true → kind ≡ 5
+unfolding follows
+kind-five kind h = go (eqb kind 5) refl
+  where
+    go : (x : Bool) → eqb kind 5 ≡ x → kind ≡ 5
+    go true e = eqb-true kind 5 e
+    go false e = absurd (false≢true (rw e at h))
+
 module _ (b : List ℕ) (m : Model) (at k t : ℕ) (s : Standing b m at k t) where
   -- there is a record here
   pub stands-fits : nextAt b at ≤ length b
@@ -167,22 +184,6 @@ module _ (b : List ℕ) (m : Model) (at k t : ℕ) (s : Standing b m at k t) whe
 
   -- ## Which record may follow
 
-  kind-four : (kind : ℕ) → follows 3 kind ≡ true → kind ≡ 4
-  unfolding follows
-  kind-four kind h = go (eqb kind 4) refl
-    where
-      go : (x : Bool) → eqb kind 4 ≡ x → kind ≡ 4
-      go true e = eqb-true kind 4 e
-      go false e = absurd (false≢true (rw e at h))
-
-  kind-five : (kind : ℕ) → follows 4 kind ≡ true → kind ≡ 5
-  unfolding follows
-  kind-five kind h = go (eqb kind 5) refl
-    where
-      go : (x : Bool) → eqb kind 5 ≡ x → kind ≡ 5
-      go true e = eqb-true kind 5 e
-      go false e = absurd (false≢true (rw e at h))
-
   kind-any : (kind : ℕ) → follows 5 kind ≡ true → (3 ≤ kind) × (kind ≤ 6)
   unfolding follows
   kind-any kind h = let q = both (leb 3 kind) (leb kind 6) h in (leb-true 3 kind (q .0), leb-true kind 6 (q .1))
@@ -191,7 +192,7 @@ module _ (b : List ℕ) (m : Model) (at k t : ℕ) (s : Standing b m at k t) whe
 module _ (b : List ℕ) (m : Model) (at k t : ℕ) (s : Standing b m at k t) where
   pub table-next : u16At b (at + 2) ≡ 3 → u16At b (nextAt b at + 2) ≡ 4
   unfolding behind-topic
-  table-next e = kind-four b m at k t s _ (subst (λ (x : ℕ). follows x (u16At b (nextAt b at + 2)) ≡ true) e (stands-follows b m (nextAt b at) (k + 1) t (behind-topic b m at k t s e)))
+  table-next e = kind-four _ (subst (λ (x : ℕ). follows x (u16At b (nextAt b at + 2)) ≡ true) e (stands-follows b m (nextAt b at) (k + 1) t (behind-topic b m at k t s e)))
 
 -- ## An attribute's payload
 
