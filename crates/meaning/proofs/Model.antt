@@ -3,6 +3,7 @@ pub mod Records
 pub mod RecordBytes
 pub mod WholeRecords
 pub mod FirstBad
+pub mod Payloads
 pub mod Models
 pub mod Standing
 pub mod Bounds

@@ -196,7 +196,7 @@ module _ (b : List ℕ) (m : Model) (at k t : ℕ) (s : Standing b m at k t) whe
 
 -- ## An attribute's payload
 
-no-letter : (longest n : ℕ) (p : List ℕ) → isName longest (drop n p) ≡ true → n < length p
+pub no-letter : (longest n : ℕ) (p : List ℕ) → isName longest (drop n p) ≡ true → n < length p
 unfolding isName letter
 no-letter longest n p h = go (ltb n (length p)) refl
   where

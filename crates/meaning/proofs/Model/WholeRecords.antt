@@ -26,16 +26,17 @@ byte-below [] i h = omega arith
 byte-below (x ∷ b) zero h = ltb-true x 256 (both (ltb x 256) _ h .0)
 byte-below (x ∷ b) (suc i) h = byte-below b i (both (ltb x 256) _ h .1)
 
+pub two-bytes : (b : List ℕ) (at : ℕ) → at + 2 ≤ length b → drop at b ≡ byteAt b at ∷ byteAt b (at + 1) ∷ drop (at + 2) b
+two-bytes b at l = let e : at + 1 + 1 ≡ at + 2 = omega arith in rw (drop-next b at 0 (omega arith), drop-next b (at + 1) 0 (omega arith), e)
+
 -- the two bytes of the number that they make
 pub u16-written : (b : List ℕ) (at : ℕ) → AreBytes b → at + 2 ≤ length b → drop at b ≡ u16Bytes (u16At b at) ++ drop (at + 2) b
 unfolding u16Bytes
 u16-written b at h l =
     let x = byte-below b at h in
-    let y = byte-below b (at + 1) h in
     let p : u16At b at % 256 ≡ byteAt b at = omega arith in
     let q : u16At b at / 256 ≡ byteAt b (at + 1) = omega arith in
-    let e : at + 1 + 1 ≡ at + 2 = omega arith in
-    rw (p, q, drop-next b at 0 (omega arith), drop-next b (at + 1) 0 (omega arith), e)
+    rw (p, q, two-bytes b at l)
 
 -- ## The first record
 
