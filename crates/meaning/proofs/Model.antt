@@ -10,4 +10,5 @@ pub mod Bounds
 pub mod GoodModels
 pub mod GoodPairs
 pub mod Names
+pub mod Decoding
 pub mod ModelClaims

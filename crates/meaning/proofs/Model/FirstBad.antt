@@ -5,18 +5,16 @@ use mathlib.Core.Path.{_≡_, refl, sym, ap, _∙_, subst}
 use mathlib.Core.Bool.{Bool, true, false, true≢false}
 use mathlib.Core.List.{List, [], _∷_, _++_, append-assoc, append-nil}
 use lib.Dec.{ltb, eqb}
-use lib.ListN.{length, drop, length-append}
-use lib.Seq.{drop-append-seam}
+use lib.ListN.{length, length-append}
 use borrow.Author.Tests.{ltb-true, ltb-false, lt-ltb, le-ltb, eqb-true, eqb-false, ne-eqb}
 use Rattle.meaning.specs.Bytes.{refuse}
 use Rattle.meaning.specs.Model.{Records, finish, overrun, entry, recordsFrom, Attribute, Table, Model, targetOf, modelOf}
 use Rattle.meaning.specs.Check.{Checked, good, bad, Seen, nothingSeen, follows, keeps, see, isOutside, judgeAttributes, judgeReferences, checkRecords, checkModel}
 use Rattle.meaning.specs.ModelBytes.{recordBytes}
 use Rattle.meaning.specs.ModelClaims.{AreBytes, Kept, Whole, FirstOutside, AllInside, FirstOutsideOf, FirstBad, BadExactly}
-use Rattle.meaning.proofs.Values.Digits.{every-drop}
 use Rattle.meaning.proofs.Model.Marks.{bad-good}
 use Rattle.meaning.proofs.Model.RecordBytes.{record-length, record-first}
-use Rattle.meaning.proofs.Model.WholeRecords.{First, first, whole-rest, whole-read}
+use Rattle.meaning.proofs.Model.WholeRecords.{behind-bytes, First, first, whole-rest, whole-read}
 
 -- ## References
 
@@ -74,9 +72,6 @@ kept-read (Kept.more {f = f} {last = last} {seen = seen} kind p k l n fits rules
     ∙ entry-kept last (length f) kind seen p (recordsFrom 0 (length f + 4 + length p) r) u fits rules)
 
 -- ## The first bad record is where the check says
-
-behind-bytes : (b f r : List ℕ) → AreBytes b → b ≡ f ++ r → AreBytes r
-behind-bytes b f r h e = subst AreBytes (ap (drop (length f)) e ∙ drop-append-seam f r) (every-drop _ (length f) b h)
 
 module _ (b : List ℕ) (bytes : AreBytes b) where
   abbrev last-judged : Checked

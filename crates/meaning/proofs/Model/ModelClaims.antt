@@ -1,8 +1,9 @@
 -- The claims of specs/ModelClaims.antt. Assumes nothing.
-use Rattle.meaning.specs.ModelClaims.{CheckedGood, GoodMark, BadExactly}
+use Rattle.meaning.specs.ModelClaims.{CheckedGood, GoodMark, BadExactly, RecordsSay}
 use Rattle.meaning.proofs.Model.Marks as marks
 use Rattle.meaning.proofs.Model.GoodModels as models
 use Rattle.meaning.proofs.Model.FirstBad as first-bad
+use Rattle.meaning.proofs.Model.Decoding as decoding
 
 pub checked-good : CheckedGood
 checked-good model m h = models.checked-good model m h
@@ -12,3 +13,6 @@ good-mark model m h = marks.good-mark model m h
 
 pub bad-exactly : BadExactly
 bad-exactly b at bytes = first-bad.bad-exactly b at bytes
+
+pub records-say : RecordsSay
+records-say b seen m bytes k e = decoding.records-say b seen m bytes k e

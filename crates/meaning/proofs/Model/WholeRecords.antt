@@ -2,12 +2,12 @@
 -- Assumes nothing.
 use Prim.Native.Nat.{ℕ, zero, suc, _+_, _/_, _%_, _≤_, _<_}
 use native.Mathlib.Omega.{arith}
-use mathlib.Core.Path.{_≡_, refl, sym, ap, _∙_}
+use mathlib.Core.Path.{_≡_, refl, sym, ap, _∙_, subst}
 use mathlib.Core.Bool.{Bool, true, false}
 use mathlib.Core.List.{List, [], _∷_, _++_, append-assoc}
 use lib.Dec.{ltb, leb}
 use lib.ListN.{length, take, drop, length-append, length-take, length-drop, take-append-drop}
-use lib.Seq.{length-take-le, drop-drop, take-at, drop-at}
+use lib.Seq.{length-take-le, drop-drop, take-append-seam, drop-append-seam, take-at, drop-at}
 use borrow.Author.Tests.{ltb-true, leb-true, leb-false}
 use Rattle.meaning.specs.Bytes.{every, byteAt, u16At}
 use Rattle.meaning.specs.Model.{overrun, entry, recordsFrom}
@@ -15,6 +15,7 @@ use Rattle.meaning.specs.ModelBytes.{u16Bytes, recordBytes}
 use Rattle.meaning.specs.ModelClaims.{AreBytes, Whole}
 use Rattle.meaning.proofs.Tests.Refuse.{both}
 use Rattle.meaning.proofs.Lists.{drop-next}
+use Rattle.meaning.proofs.Values.Digits.{every-take, every-drop}
 use Rattle.meaning.proofs.Model.Records.{first-overrun}
 use Rattle.meaning.proofs.Model.RecordBytes.{record-length, record-first}
 
@@ -25,6 +26,13 @@ unfolding every
 byte-below [] i h = omega arith
 byte-below (x ∷ b) zero h = ltb-true x 256 (both (ltb x 256) _ h .0)
 byte-below (x ∷ b) (suc i) h = byte-below b i (both (ltb x 256) _ h .1)
+
+-- the first of them and those behind
+pub front-bytes : (b f r : List ℕ) → AreBytes b → b ≡ f ++ r → AreBytes f
+front-bytes b f r h e = subst AreBytes (ap (take (length f)) e ∙ take-append-seam f r) (every-take _ (length f) b h)
+
+pub behind-bytes : (b f r : List ℕ) → AreBytes b → b ≡ f ++ r → AreBytes r
+behind-bytes b f r h e = subst AreBytes (ap (drop (length f)) e ∙ drop-append-seam f r) (every-drop _ (length f) b h)
 
 pub two-bytes : (b : List ℕ) (at : ℕ) → at + 2 ≤ length b → drop at b ≡ byteAt b at ∷ byteAt b (at + 1) ∷ drop (at + 2) b
 two-bytes b at l = let e : at + 1 + 1 ≡ at + 2 = omega arith in rw (drop-next b at 0 (omega arith), drop-next b (at + 1) 0 (omega arith), e)
@@ -55,6 +63,14 @@ record-written b h l =
 whole-size : (b : List ℕ) (w : Whole b) → (u16At b 0 ≡ length (w .payload)) × (4 + length (w .payload) ≤ length b)
 unfolding recordBytes u16Bytes
 whole-size b w = (ap (λ (s : List ℕ). u16At s 0) (w .is) ∙ omega arith, omega (arith, ap length (w .is), length-append (w .payload) (w .others)))
+
+-- its payload and what is behind it are bytes
+pub payload-bytes : (b : List ℕ) (w : Whole b) → AreBytes b → AreBytes (w .payload)
+unfolding recordBytes u16Bytes
+payload-bytes b w h = front-bytes (drop 4 b) (w .payload) (w .others) (every-drop _ 4 b h) (ap (drop 4) (w .is))
+
+pub others-bytes : (b : List ℕ) (w : Whole b) → AreBytes b → AreBytes (w .others)
+others-bytes b w h = behind-bytes b (recordBytes (w .kind) (w .payload)) (w .others) h (w .is)
 
 -- fewer bytes are behind it
 pub whole-rest : (b : List ℕ) (w : Whole b) → length (w .others) < length b
