@@ -3,6 +3,9 @@ pub mod Records
 pub mod RecordBytes
 pub mod AttributeBytes
 pub mod Entries
+pub mod WholeRecords
+pub mod FirstBad
+pub mod Payloads
 pub mod Models
 pub mod Standing
 pub mod Bounds
@@ -10,4 +13,5 @@ pub mod GoodModels
 pub mod Encoding
 pub mod GoodPairs
 pub mod Names
+pub mod Decoding
 pub mod ModelClaims

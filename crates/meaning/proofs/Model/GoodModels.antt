@@ -208,11 +208,11 @@ tables-few (entry at kind p others) before k seen u m l h =
 -- ## Names of the tables of a topic
 
 -- the tables behind k topics are of later topics than these
-later : (rs : Records) (k topic : ℕ) → topic + 1 < k → tableNames topic (tablesOf k rs) ≡ []
+pub names-later : (rs : Records) (k topic : ℕ) → topic + 1 < k → tableNames topic (tablesOf k rs) ≡ []
 unfolding tablesOf tableNames choose
-later (finish at) k topic l = refl
-later (overrun at) k topic l = refl
-later (entry at kind p others) k topic l = go (eqb kind 3) (eqb kind 4) refl refl (λ k′ l′. later others k′ topic l′)
+names-later (finish at) k topic l = refl
+names-later (overrun at) k topic l = refl
+names-later (entry at kind p others) k topic l = go (eqb kind 3) (eqb kind 4) refl refl (λ k′ l′. names-later others k′ topic l′)
   where
     go : (x y : Bool) → eqb kind 3 ≡ x → eqb kind 4 ≡ y → ((k′ : ℕ) → topic + 1 < k′ → tableNames topic (tablesOf k′ others) ≡ []) → tableNames topic (tablesOf k (entry at kind p others)) ≡ []
     go true y q r i = rw (eqb-true kind 3 q) (i (k + 1) (omega arith))
@@ -256,7 +256,7 @@ names-good (entry at kind p others) before k seen u m b h =
     go : (x y : Bool) → eqb kind 3 ≡ x → eqb kind 4 ≡ y → ((k′ : ℕ) → (3 ≤ kind → 1 ≤ k′) → Names k′ (see kind p seen .tables) others) → Names k (seen .tables) (entry at kind p others)
     go true y q r i =
         let three = eqb-true kind 3 q in
-        rw three (i (k + 1) (λ l. omega arith) .0, λ l. rw (later others (k + 1) (k - 1) (omega arith)) tt)
+        rw three (i (k + 1) (λ l. omega arith) .0, λ l. rw (names-later others (k + 1) (k - 1) (omega arith)) tt)
     go false true q r i =
         let four = eqb-true kind 4 r in
         let some : 1 ≤ k = b (behind-three before kind (e .0) (omega arith)) in

@@ -40,7 +40,7 @@ first-entry at (b ∷ s) h =
     let f : 4 + size ≡ suc (size + 3) = omega arith in
     rw (le-ltb (length s) (size + 3) (omega arith), r, e, f)
 
-first-overrun : (at : ℕ) (s : List ℕ) → 0 < length s → length s < u16At s 0 + 4 → recordsFrom 0 at s ≡ overrun at
+pub first-overrun : (at : ℕ) (s : List ℕ) → 0 < length s → length s < u16At s 0 + 4 → recordsFrom 0 at s ≡ overrun at
 unfolding recordsFrom refuse
 first-overrun at [] h l = absurd (omega arith)
 first-overrun at (b ∷ s) h l = rw (lt-ltb (length s) (u16At (b ∷ s) 0 + 3) (omega arith))
