@@ -2,7 +2,7 @@
 use Prim.Native.Nat.{ℕ, zero, suc, _+_, _-_, _%_, _^_, _≤_, _<_}
 use native.Mathlib.Nat.{zero-add}
 use native.Mathlib.Omega.{arith}
-use mathlib.Core.Path.{_≡_, refl, sym, ap, _∙_}
+use mathlib.Core.Path.{_≡_, refl, sym, ap, _∙_, subst}
 use mathlib.Core.Bool.{Bool, true, false, not, _&&_, _||_}
 use mathlib.Core.List.{List, [], _∷_, _++_}
 use lib.Dec.{eqb, ltb}
@@ -11,13 +11,20 @@ use lib.ListN.{length, take, drop, getD, length-append, length-take, length-drop
 use borrow.Author.Tests.{eqb-true, eqb-false, eq-eqb, ne-eqb}
 use Rattle.meaning.specs.Bytes.{choose, refuse, digit, every, begins}
 use Rattle.meaning.specs.Value.{Value, pair, wrong, digitsValue, isDigits, unsigned, signed, isNumber, numberDigits, within, numberOf, isLeapYear, daysOfMonth, isDay, dateOf, enumerationOf}
+use Rattle.meaning.specs.Shapes.{Runs}
 use Rattle.meaning.specs.Digits.{lastDigits, digitsOf, signOf, pointed, numberBytes, dateBytes}
-use Rattle.meaning.specs.ValueClaims.{NumberReads, EnumerationReads, DateReads, NumberBytesDiffer, DateBytesDiffer, NumberShortest, EnumerationShortest, DateOnly, LeapYears, DaysAlike, DaysRepeat}
+use Rattle.meaning.specs.ValueClaims.{FieldsExactly, NumberReads, EnumerationReads, DateReads, NumberBytesDiffer, DateBytesDiffer, NumberShortest, EnumerationShortest, DateOnly, LeapYears, DaysAlike, DaysRepeat}
 use Rattle.meaning.proofs.Unfolding.Cuts.{both}
+use Rattle.meaning.proofs.Values.Runs.{runs-fields, fields-runs}
 use Rattle.meaning.proofs.Values.Digits.{every-append, last-digits, last-length, last-value, short-digits, short-value, short-least, parts-digits, no-sign, sign-pos, sign-neg, number-reads, leaf-reads, digits-are}
 use Rattle.meaning.proofs.Values.Dates.{date-reads}
 use Rattle.meaning.proofs.Values.Counts.{digits-below}
 use Rattle.meaning.proofs.Values.Shortest.{digits-count, digits-most, last-of, sign-one, point-more}
+
+-- ## Fields and values are those of the grammar
+
+pub fields-exactly : FieldsExactly
+fields-exactly start l fs = (λ e. subst (Runs start l) e (fields-runs start l), runs-fields)
 
 -- ## What is written reads as the value
 
