@@ -3,6 +3,7 @@ pub mod Dates
 pub mod Counts
 pub mod Shortest
 pub mod Runs
+pub mod Shapes
 pub mod ValueClaims
 pub mod Numerals
 pub mod Values
