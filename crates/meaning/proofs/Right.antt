@@ -13,6 +13,7 @@ pub mod BackPoints
 pub mod BackRows
 pub mod BackObjects
 pub mod BackTopics
+pub mod StepFields
 pub mod Rooms
 pub mod Accepted
 pub mod First
