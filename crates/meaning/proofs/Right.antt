@@ -14,6 +14,8 @@ pub mod BackRows
 pub mod BackObjects
 pub mod BackTopics
 pub mod StepFields
+pub mod StepNames
+pub mod StepLines
 pub mod Rooms
 pub mod Accepted
 pub mod First

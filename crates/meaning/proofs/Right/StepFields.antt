@@ -123,7 +123,7 @@ pub data PointJudged (u place : ℕ) (cs : List Component) (fs : List Field) : C
   right : {vs : List ℤ} → Values u cs fs vs → PointJudged u place cs fs (cells vs)
   because : {n k : ℕ} → PointReason u place cs fs n k → PointJudged u place cs fs (refused n k)
 
-not-defined : (u : ℕ) (f : Field) → (isUndefined u f || isUndefinedTwice u f) ≡ true → Defined u f → ⊥
+pub not-defined : (u : ℕ) (f : Field) → (isUndefined u f || isUndefinedTwice u f) ≡ true → Defined u f → ⊥
 not-defined u f h d = true≢false (sym h ∙ rw (d .one, d .two))
 
 pub point-judged : (u : ℕ) (cs : List Component) (fs : List Field) (place : ℕ) → PointJudged u place cs fs (componentValues u place cs fs)
