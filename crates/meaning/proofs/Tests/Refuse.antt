@@ -56,6 +56,15 @@ pub holds-unless : (x : Bool) {P : Type 0} → (x ≡ false) ↔ P → (x ≡ tr
 holds-unless true s = (λ _ p. true≢false (s .1 p), λ _. refl)
 holds-unless false s = (λ e. absurd (false≢true e), λ n. absurd (n (s .0 refl)))
 
+-- a test that cannot hold, and one that cannot fail
+pub no-true : (t : Bool) → (t ≡ true → ⊥) → t ≡ false
+no-true true h = absurd (h refl)
+no-true false h = refl
+
+pub no-false : (t : Bool) → (t ≡ false → ⊥) → t ≡ true
+no-false true h = refl
+no-false false h = absurd (h refl)
+
 -- one of the tests that all hold
 pub holds : (ts : List Bool) (n : ℕ) → allOf ts ≡ true → getD ts n true ≡ true
 unfolding allOf
