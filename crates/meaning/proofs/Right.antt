@@ -2,6 +2,7 @@ pub mod Steps
 pub mod Places
 pub mod Content
 pub mod Points
+pub mod PairEntries
 pub mod Rows
 pub mod Objects
 pub mod Names
