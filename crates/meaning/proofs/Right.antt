@@ -14,6 +14,7 @@ pub mod BackRows
 pub mod BackObjects
 pub mod BackTopics
 pub mod Rooms
+pub mod Kept
 pub mod Accepted
 pub mod First
 pub mod Claims
