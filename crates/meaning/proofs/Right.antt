@@ -15,6 +15,7 @@ pub mod BackObjects
 pub mod BackTopics
 pub mod Rooms
 pub mod Kept
+pub mod Come
 pub mod Accepted
 pub mod First
 pub mod Claims
