@@ -14,8 +14,11 @@ pub mod BackRows
 pub mod BackObjects
 pub mod BackTopics
 pub mod Rooms
+pub mod Runs
 pub mod Kept
 pub mod Come
+pub mod Behind
 pub mod Accepted
+pub mod Complete
 pub mod First
 pub mod Claims

@@ -270,3 +270,10 @@ points-on (marked r e p) = ap length p
 points-on (drawn w) = refl
 points-on (stored t i xs) = refl
 points-on {c = c} (pointed four e) = length-append (c .points) four ∙ rw e
+
+pub rows-on : {c b : Content} {g : Gain} → Effect g c b → (used : List (List ℕ)) → length used ≡ length (c .rows) → length (b .rows) ≡ length (usedWith g used)
+unfolding usedWith withLine
+rows-on (marked r e p) used h = ap length r ∙ sym h
+rows-on (drawn w) used h = sym h
+rows-on {c = c} (stored t i xs) used h = omega (arith, h, length-append (c .rows) (length (c .cells) ∷ []), length-append used (i .bytes ∷ []))
+rows-on (pointed four e) used h = sym h

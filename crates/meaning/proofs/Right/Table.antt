@@ -118,7 +118,7 @@ lines-read m good rooms ls ds structure unique room =
     steps-run m rooms (unfoldedText ls) ls (startOf m) nothing _
     (file-run m rooms (unfoldedText ls) good structure (lines-stand (unfoldedText ls) 0 ls refl) (replicate (length (m .topics) + length (m .tables)) 0) unique room)
 
-room-enough : (m : Model) (rooms : Rooms) (ls : List (List ℕ)) (ds : List DeliveredTopic) → Enough m ls (tableOf m ds) rooms → RoomFor rooms (objectsOfTopics ds)
+pub room-enough : (m : Model) (rooms : Rooms) (ls : List (List ℕ)) (ds : List DeliveredTopic) → Enough m ls (tableOf m ds) rooms → RoomFor rooms (objectsOfTopics ds)
 unfolding tableOf
 room-enough m rooms ls ds e =
     let os : List Delivered = objectsOfTopics ds in
