@@ -13,6 +13,9 @@ pub mod BackPoints
 pub mod BackRows
 pub mod BackObjects
 pub mod BackTopics
+pub mod StepFields
+pub mod StepNames
+pub mod StepLines
 pub mod Rooms
 pub mod Runs
 pub mod Kept

@@ -2,6 +2,9 @@ pub mod Digits
 pub mod Dates
 pub mod Counts
 pub mod Shortest
+pub mod Runs
+pub mod Shapes
 pub mod ValueClaims
+pub mod Judged
 pub mod Numerals
 pub mod Values

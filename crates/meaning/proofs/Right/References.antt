@@ -40,7 +40,7 @@ found-names target n k b (o ∷ os) e = by (eqb (o .table) target && same (o .id
         record { number = 0; within = omega arith; table = eqb-true (o .table) target (q .0); same = same-is (o .identification .bytes) b (q .1) }
     by false h e ih = let r = ih e in record { number = suc (r .number); within = omega (arith, r .within); table = r .table; same = r .same }
 
-one-found : (n : ℕ) → found n ≡ missing → ⊥
+pub one-found : (n : ℕ) → found n ≡ missing → ⊥
 one-found n h = let z : _≡_ {A = ℕ} 0 1 = cc in omega arith
 
 pub missing-names : (target n : ℕ) (b : List ℕ) (os : List Delivered) → findObject target n b (namesOf os) ≡ missing → (j : ℕ) → j < length os → getD os j noObject .table ≡ target

@@ -18,6 +18,12 @@ unfolding refuse
 refuse-keeps P true refusal rest h k = h
 refuse-keeps P false refusal rest h k = k refl
 
+-- the same where the refusal needs that the test holds
+pub refuse-by : {A : Type 0} (P : A → Type 0) (t : Bool) (refusal rest : A) → (t ≡ true → P refusal) → (t ≡ false → P rest) → P (refuse t refusal rest)
+unfolding refuse
+refuse-by P true refusal rest h k = h refl
+refuse-by P false refusal rest h k = k refl
+
 pub choose-keeps : {A : Type 0} (P : A → Type 0) (t : Bool) (a b : A) → (t ≡ true → P a) → (t ≡ false → P b) → P (choose t a b)
 unfolding choose
 choose-keeps P true a b h k = h refl

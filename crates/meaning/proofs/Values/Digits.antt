@@ -145,7 +145,7 @@ module _ (d : ℕ) (w f : List ℕ) (size : length f ≡ suc d) where
   whole-size : wholeSize (suc d) (w ++ (0x2e ∷ f)) ≡ length w
   whole-size = rw (length-append w (0x2e ∷ f), size) (omega arith)
 
-  parts-number : 1 ≤ length w → length w + suc d ≤ 18 → every digit w ≡ true → every digit f ≡ true → isNumber (suc d) (w ++ (0x2e ∷ f)) ≡ true
+  pub parts-number : 1 ≤ length w → length w + suc d ≤ 18 → every digit w ≡ true → every digit f ≡ true → isNumber (suc d) (w ++ (0x2e ∷ f)) ≡ true
   unfolding isNumber
   parts-number l h p q =
       rw (

@@ -2,7 +2,7 @@
 use Prim.Native.Nat.{ℕ, zero, suc, _+_, _-_, _%_, _^_, _≤_, _<_}
 use native.Mathlib.Nat.{zero-add}
 use native.Mathlib.Omega.{arith}
-use mathlib.Core.Path.{_≡_, refl, sym, ap, _∙_}
+use mathlib.Core.Path.{_≡_, refl, sym, ap, _∙_, subst}
 use mathlib.Core.Bool.{Bool, true, false, not, _&&_, _||_}
 use mathlib.Core.List.{List, [], _∷_, _++_}
 use lib.Dec.{eqb, ltb}
@@ -10,14 +10,51 @@ use lib.IntN.{ℤ, pos, negsuc, negℤ, natAbs}
 use lib.ListN.{length, take, drop, getD, length-append, length-take, length-drop, take-append-drop}
 use borrow.Author.Tests.{eqb-true, eqb-false, eq-eqb, ne-eqb}
 use Rattle.meaning.specs.Bytes.{choose, refuse, digit, every, begins}
-use Rattle.meaning.specs.Value.{Value, pair, wrong, digitsValue, isDigits, unsigned, signed, isNumber, numberDigits, within, numberOf, isLeapYear, daysOfMonth, isDay, dateOf, enumerationOf}
+use Rattle.meaning.specs.Model.{Component, Reference, Coordinate, Number, Text, Date, Enumeration, Line}
+use Rattle.meaning.specs.Value.{Value, pair, wrong, digitsValue, isDigits, unsigned, signed, isNumber, numberDigits, within, numberOf, isLeapYear, daysOfMonth, isDay, dateOf, enumerationOf, stretchOf, textOf, isIdentification, referenceOf, valueOf}
+use Rattle.meaning.specs.Shapes as shapes
+use Rattle.meaning.specs.Shapes.{Runs, Numeral, Shape}
 use Rattle.meaning.specs.Digits.{lastDigits, digitsOf, signOf, pointed, numberBytes, dateBytes}
-use Rattle.meaning.specs.ValueClaims.{NumberReads, EnumerationReads, DateReads, NumberBytesDiffer, DateBytesDiffer, NumberShortest, EnumerationShortest, DateOnly, LeapYears, DaysAlike, DaysRepeat}
+use Rattle.meaning.specs.ValueClaims.{FieldsExactly, NumberExactly, DateExactly, EnumerationExactly, WrongExactly, NumberReads, EnumerationReads, DateReads, NumberBytesDiffer, DateBytesDiffer, NumberShortest, EnumerationShortest, DateOnly, LeapYears, DaysAlike, DaysRepeat}
 use Rattle.meaning.proofs.Unfolding.Cuts.{both}
+use Rattle.meaning.proofs.Values.Runs.{runs-fields, fields-runs}
+use Rattle.meaning.proofs.Values.Shapes.{right, wrong-13, wrong-14, number-judged, date-judged, leaf-judged, text-judged, reference-judged}
 use Rattle.meaning.proofs.Values.Digits.{every-append, last-digits, last-length, last-value, short-digits, short-value, short-least, parts-digits, no-sign, sign-pos, sign-neg, number-reads, leaf-reads, digits-are}
 use Rattle.meaning.proofs.Values.Dates.{date-reads}
 use Rattle.meaning.proofs.Values.Counts.{digits-below}
 use Rattle.meaning.proofs.Values.Shortest.{digits-count, digits-most, last-of, sign-one, point-more}
+
+-- ## Fields and values are those of the grammar
+
+pub fields-exactly : FieldsExactly
+fields-exactly start l fs = (λ e. subst (Runs start l) e (fields-runs start l), runs-fields)
+
+numeral-of : {c : Component} {s : List ℕ} {v : ℤ} → Shape (Number c) s v → Numeral (c .decimals) s v
+numeral-of (shapes.number n) = n
+
+pub number-exactly : NumberExactly
+unfolding numberOf
+number-exactly c s v =
+    let r = right (number-judged c s) v in
+    (λ e. (numeral-of (r .0 e .0), r .0 e .1), λ h. r .1 (shapes.number (h .0), h .1))
+
+pub date-exactly : DateExactly
+unfolding dateOf
+date-exactly s v = right (date-judged s) v
+
+pub enumeration-exactly : EnumerationExactly
+unfolding enumerationOf
+enumeration-exactly leaves s v = right (leaf-judged leaves s) v
+
+pub wrong-exactly : WrongExactly
+unfolding valueOf numberOf dateOf enumerationOf textOf referenceOf isIdentification stretchOf refuse
+wrong-exactly (Reference t) f h = let j = reference-judged t (f .bytes) in (wrong-13 j _ _, wrong-14 j _ _)
+wrong-exactly (Coordinate cs) f h = absurd h
+wrong-exactly (Number c) f h = let j = number-judged c (f .bytes) in (wrong-13 j _ _, wrong-14 j _ _)
+wrong-exactly (Text longest) f h = let j = text-judged longest (f .bytes) in (wrong-13 j _ _, wrong-14 j _ _)
+wrong-exactly Date f h = let j = date-judged (f .bytes) in (wrong-13 j _ _, wrong-14 j _ _)
+wrong-exactly (Enumeration leaves) f h = let j = leaf-judged leaves (f .bytes) in (wrong-13 j _ _, wrong-14 j _ _)
+wrong-exactly (Line forms cs) f h = absurd h
 
 -- ## What is written reads as the value
 
