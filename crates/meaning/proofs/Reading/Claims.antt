@@ -1,15 +1,19 @@
 -- The claims of specs/Claims.antt. Assumes nothing.
+use Prim.Native.Nat.{ℕ}
 use mathlib.Core.Path.{_≡_, refl, sym, _∙_, subst}
+use mathlib.Core.List.{List}
 use lib.ListN.{length}
 use borrow.Author.Tests.{le-ltb}
 use Rattle.meaning.specs.Bytes.{refuse}
 use Rattle.meaning.specs.Unfold.{lines, fault, Unfolded, unfoldFile}
+use Rattle.meaning.specs.Cut.{Cut, Mark}
 use Rattle.meaning.specs.Check.{bad, good, Checked, checkModel}
 use Rattle.meaning.specs.Answer.{Answer, textChecked, unfoldText}
 use Rattle.meaning.specs.Table.{read, readUnfolded, readChecked}
-use Rattle.meaning.specs.Claims.{CutUnfolds, UnfoldsCut, OnlyCut, OneCut, CutReadsAsLines, CutUnfoldsToText, BadModelReads, CutUnder, CutsReadAlike, RefusalZeroes, BuffersKept, CountsSayWhatIsUsed, UnfoldingRefusalZeroes, UnfoldingKeepsRoom, WidthCuts}
+use Rattle.meaning.specs.Claims.{CutUnfolds, UnfoldsCut, OnlyCut, OneCut, CutIsBegun, BegunIsCut, FaultExactly, CutReadsAsLines, CutUnfoldsToText, BadModelReads, CutUnder, CutsReadAlike, RefusalZeroes, BuffersKept, CountsSayWhatIsUsed, UnfoldingRefusalZeroes, UnfoldingKeepsRoom, WidthCuts}
 use Rattle.meaning.proofs.Unfolding.TextLeft as text-left
 use Rattle.meaning.proofs.Unfolding.Cuts as cuts
+use Rattle.meaning.proofs.Unfolding.Faults as faults
 use Rattle.meaning.proofs.Model.Marks as marks
 use Rattle.meaning.proofs.Unfolding.Widths as widths
 use Rattle.meaning.proofs.Reading.Buffers as buffers
@@ -20,16 +24,24 @@ cut-unfolds m mark ls f c = cuts.cut-unfolds m mark c
 pub unfolds-cut : UnfoldsCut
 unfolds-cut m mark ls f e = cuts.unfolds-cut m mark ls f e
 
+only-cut : (m : ℕ) → Mark m → (ls : List (List ℕ)) (f : List ℕ) → Cut m ls f → OnlyCut m f
+only-cut m mark ls f c = record { of = ls; cut = c; only = λ ks d. cuts.cut-unique m mark d c }
+
 pub one-cut : OneCut
 one-cut m mark f fine = go (unfoldFile m f) refl
   where
     go : (u : Unfolded) → unfoldFile m f ≡ u → OnlyCut m f
     go (fault k n) e = absurd (fine k n e)
-    go (lines ls) e = record {
-      of = ls;
-      cut = cuts.unfolds-cut m mark ls f e .0;
-      only = λ ks c. cuts.cut-unique m mark c (cuts.unfolds-cut m mark ls f e .0);
-    }
+    go (lines ls) e = only-cut m mark ls f (cuts.unfolds-cut m mark ls f e .0)
+
+pub cut-is-begun : CutIsBegun
+cut-is-begun m mark ls f c = faults.cut-begun m c
+
+pub begun-is-cut : BegunIsCut
+begun-is-cut m mark n f b = let s = faults.begun-cut m b in only-cut m mark (s .of) f (s .cut)
+
+pub fault-exactly : FaultExactly
+fault-exactly m mark f number line = (faults.fault-first m mark f number line, faults.first-fault m mark)
 
 pub cut-reads-as-lines : CutReadsAsLines
 unfolding read refuse readChecked readUnfolded

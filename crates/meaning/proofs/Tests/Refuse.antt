@@ -12,6 +12,12 @@ unfolding refuse
 passed true refusal rest x other h = absurd (other h)
 passed false refusal rest x other h = (refl, h)
 
+-- what came out is the refusal of a test that holds, or what follows one that does not
+pub refused-or : {A C : Type 0} (t : Bool) (refusal rest x : A) → (t ≡ true → refusal ≡ x → C) → (t ≡ false → rest ≡ x → C) → refuse t refusal rest ≡ x → C
+unfolding refuse
+refused-or true refusal rest x h k e = h refl e
+refused-or false refusal rest x h k e = k refl e
+
 -- a property of what refuses and of what follows where the test does not hold is one of both together
 pub refuse-keeps : {A : Type 0} (P : A → Type 0) (t : Bool) (refusal rest : A) → P refusal → (t ≡ false → P rest) → P (refuse t refusal rest)
 unfolding refuse

@@ -3,14 +3,16 @@
 use Prim.Native.Nat.{ℕ, _+_}
 use native.Mathlib.Omega.{arith}
 use mathlib.Core.Path.{_≡_, refl, sym, ap, ap₂, _∙_}
-use mathlib.Core.Bool.{Bool, true, false, not, _&&_, false≢true, or-true}
+use mathlib.Core.Bool.{Bool, true, false, not, _&&_, false≢true, or-true, and-true, and-false}
 use mathlib.Core.List.{List, [], _∷_, _++_, append-assoc}
 use lib.ListN.{length, drop}
 use lib.Dec.{eqb}
 use borrow.Author.Tests.{ne-eqb, eq-eqb, le-leb, eqb-true, not-false}
-use Rattle.meaning.specs.Bytes.{refuse, permitted, every, allPermitted, begins, ends, withoutLast, prefix, cont}
+use Rattle.meaning.specs.Bytes.{choose, refuse, permitted, every, allPermitted, begins, ends, withoutLast, prefix, cont}
 use Rattle.meaning.specs.Unfold.{physical, lines, Physical, line, tail, byte, add, none, fault, Unfolded, put, dropIf, withoutLastIf, next, unfoldLines, unfoldFile}
 use Rattle.meaning.specs.Cut.{End, lf, crlf, last, more, Cut, done, Mark, Permitted}
+use Rattle.meaning.specs.Faults as faults
+use Rattle.meaning.specs.Faults.{lead, WithoutLF, Ended}
 use Rattle.meaning.proofs.Tests.Refuse.{passed}
 pub use Rattle.meaning.proofs.Tests.Refuse.{both}
 
@@ -24,9 +26,13 @@ not-cr : (b : ℕ) → permitted b ≡ true → eqb b 0x0d ≡ false
 unfolding permitted
 not-cr b h = ne-eqb b 0x0d (λ e. false≢true (rw e at h))
 
-phys-byte : (b : ℕ) (f : List ℕ) → permitted b ≡ true → physical (b ∷ f) ≡ add b (physical f)
+-- a byte that is no LF, and no CR before one
+pub phys-add : (b : ℕ) (f : List ℕ) → eqb b 0x0a ≡ false → (eqb b 0x0d && begins 0x0a f) ≡ false → physical (b ∷ f) ≡ add b (physical f)
 unfolding physical byte
-phys-byte b f h = rw (not-lf b h, not-cr b h)
+phys-add b f h k = rw (h, k)
+
+phys-byte : (b : ℕ) (f : List ℕ) → permitted b ≡ true → physical (b ∷ f) ≡ add b (physical f)
+phys-byte b f h = phys-add b f (not-lf b h) (rw (not-cr b h))
 
 phys-end : {e : List ℕ} (f : List ℕ) → End e → physical (e ++ f) ≡ line [] (physical f)
 unfolding physical byte begins
@@ -41,16 +47,26 @@ phys-line (b ∷ p) {e} f h end =
 
 -- ## What is unfolded
 
--- a line as it stands in the file: behind CONT and a space where it continues one
-abbrev after : Bool → List ℕ → List ℕ
-after true f = cont ++ f
-after false f = f
-
 -- a line that is continued has a rest
-abbrev Ready : Bool → List (List ℕ) → Type 0
+abbrev pub Ready : Bool → List (List ℕ) → Type 0
 Ready true [] = ⊥
 Ready true (l ∷ ls) = Unit {0}
 Ready false ls = Unit {0}
+
+pub ready-cons : (o : Bool) (l : List ℕ) (ls : List (List ℕ)) → Ready o (l ∷ ls)
+ready-cons true l ls = tt
+ready-cons false l ls = tt
+
+-- a line as it stands is as permitted as its part, and goes on as that does
+pub permitted-lead : (o : Bool) (q : List ℕ) → allPermitted (lead o q) ≡ allPermitted q
+unfolding every permitted choose
+permitted-lead true q = refl
+permitted-lead false q = refl
+
+pub lead-append : (o : Bool) (q x : List ℕ) → lead o q ++ x ≡ lead o (q ++ x)
+unfolding choose
+lead-append true q x = refl
+lead-append false q x = refl
 
 ends-snoc : (m : ℕ) (p : List ℕ) → ends m (p ++ m ∷ []) ≡ true
 unfolding ends
@@ -75,7 +91,7 @@ pub permitted-snoc : (m : ℕ) (p : List ℕ) → allPermitted p ≡ true → pe
 unfolding every
 permitted-snoc m p h k = permitted-join p (m ∷ []) h (rw k)
 
-permitted-append : (p q : List ℕ) → allPermitted (p ++ q) ≡ true → (allPermitted p ≡ true) × (allPermitted q ≡ true)
+pub permitted-append : (p q : List ℕ) → allPermitted (p ++ q) ≡ true → (allPermitted p ≡ true) × (allPermitted q ≡ true)
 unfolding every
 permitted-append [] q h = (refl, h)
 permitted-append (b ∷ p) q h =
@@ -89,56 +105,57 @@ none-add b (tail l) = refl
 none-add b (line l p) = refl
 
 module _ (m : ℕ) (good : Mark m) where
-  mark-permitted : permitted m ≡ true
+  pub mark-permitted : permitted m ≡ true
   unfolding permitted
   mark-permitted = rw (le-leb 0x20 m (omega (arith, good .low)), le-leb m 0x7e (good .high)) (or-true (eqb m 0x09))
 
   space-no-mark : eqb 0x20 m ≡ false
   space-no-mark = ne-eqb 0x20 m (λ e. omega (arith, good .low))
 
-  ends-after : (o : Bool) (p : List ℕ) → ends m p ≡ false → ends m (after o p) ≡ false
-  unfolding ends
-  ends-after false p h = h
-  ends-after true [] h = space-no-mark
-  ends-after true (b ∷ p) h = h
+  -- CONT and a space end in no mark
+  pub ends-lead : (o : Bool) (p : List ℕ) → ends m (lead o p) ≡ ends m p
+  unfolding ends choose
+  ends-lead false p = refl
+  ends-lead true [] = space-no-mark
+  ends-lead true (b ∷ p) = refl
 
   -- a line's last part
-  step-last : (n : ℕ) (o : Bool) (p : List ℕ) (f : Physical) (ls : List (List ℕ)) → ends m p ≡ false → allPermitted p ≡ true
-      → unfoldLines m (n + 1) false f ≡ lines ls → unfoldLines m n o (line (after o p) f) ≡ lines (p ∷ ls)
-  unfolding unfoldLines refuse put dropIf withoutLastIf next prefix every permitted
-  step-last n true p f ls e h r = simp (ends-after true p e, h, r)
-  step-last n false p f ls e h r = rw (e, h, r)
+  pub step-last : (n : ℕ) (o : Bool) (p : List ℕ) (f : Physical) → ends m p ≡ false → allPermitted p ≡ true
+      → unfoldLines m n o (line (lead o p) f) ≡ put false p (unfoldLines m (n + 1) false f)
+  unfolding unfoldLines refuse dropIf withoutLastIf next prefix every permitted choose
+  step-last n true p f e h = simp (ends-lead true p, e, h)
+  step-last n false p f e h = rw (e, h)
 
   -- a part that is continued
-  step-more : (n : ℕ) (o : Bool) (p l : List ℕ) (f : Physical) (ls : List (List ℕ)) → none f ≡ false → allPermitted p ≡ true
-      → unfoldLines m n true f ≡ lines (l ∷ ls) → unfoldLines m n o (line (after o (p ++ m ∷ [])) f) ≡ lines ((p ++ l) ∷ ls)
-  unfolding unfoldLines refuse put dropIf withoutLastIf next prefix every permitted
-  step-more n true p l f ls e h r = simp (ends-snoc m (after true p), e, permitted-snoc m p h mark-permitted, init-snoc, r)
-  step-more n false p l f ls e h r = simp (ends-snoc m p, e, permitted-snoc m p h mark-permitted, init-snoc, r)
+  pub step-more : (n : ℕ) (o : Bool) (p : List ℕ) (f : Physical) → none f ≡ false → allPermitted p ≡ true
+      → unfoldLines m n o (line (lead o (p ++ m ∷ [])) f) ≡ put true p (unfoldLines m n true f)
+  unfolding unfoldLines refuse dropIf withoutLastIf next prefix every permitted choose
+  step-more n true p f e h = simp (ends-snoc m (cont ++ p), e, permitted-snoc m p h mark-permitted, init-snoc)
+  step-more n false p f e h = simp (ends-snoc m p, e, permitted-snoc m p h mark-permitted, init-snoc)
 
   -- what stands behind CONT is no end
   none-cont : (f : List ℕ) → none (physical (cont ++ f)) ≡ false
   unfolding none physical byte
   none-cont f = none-add _ _
 
-  phys-after : (o : Bool) (p : List ℕ) {e : List ℕ} (f : List ℕ) → allPermitted p ≡ true → End e → physical (after o (p ++ (e ++ f))) ≡ line (after o p) (physical f)
-  unfolding every permitted
-  phys-after true p f h e = phys-line (cont ++ p) f h e
-  phys-after false p f h e = phys-line p f h e
+  pub phys-lead : (o : Bool) (p : List ℕ) {e : List ℕ} (f : List ℕ) → allPermitted p ≡ true → End e → physical (lead o (p ++ (e ++ f))) ≡ line (lead o p) (physical f)
+  unfolding every permitted choose
+  phys-lead true p f h e = phys-line (cont ++ p) f h e
+  phys-lead false p f h e = phys-line p f h e
 
-  unfolds : {ls : List (List ℕ)} {f : List ℕ} → Cut m ls f → (n : ℕ) (o : Bool) → Ready o ls → unfoldLines m n o (physical (after o f)) ≡ lines ls
-  unfolding unfoldLines physical
+  unfolds : {ls : List (List ℕ)} {f : List ℕ} → Cut m ls f → (n : ℕ) (o : Bool) → Ready o ls → unfoldLines m n o (physical (lead o f)) ≡ lines ls
+  unfolding unfoldLines physical put choose
   unfolds done n true r = absurd r
   unfolds done n false r = refl
   unfolds (last p {f = f} {ls = ls} ok ne e c) n o r =
-      rw (phys-after o p f ok e) (step-last n o p (physical f) ls ne ok (unfolds c (n + 1) false tt))
+      rw (phys-lead o p f ok e) (step-last n o p (physical f) ne ok ∙ rw (unfolds c (n + 1) false tt))
   unfolds (more p {e = e} {l = l} {f = f} {ls = ls} ok end c) n o r =
-      rw (← (append-assoc p (m ∷ []) (e ++ (cont ++ f))), phys-after o (p ++ m ∷ []) (cont ++ f) (permitted-snoc m p ok mark-permitted) end)
-      (step-more n o p l (physical (cont ++ f)) ls (none-cont f) ok (unfolds c n true tt))
+      rw (← (append-assoc p (m ∷ []) (e ++ (cont ++ f))), phys-lead o (p ++ m ∷ []) (cont ++ f) (permitted-snoc m p ok mark-permitted) end)
+      (step-more n o p (physical (cont ++ f)) (none-cont f) ok ∙ rw (unfolds c n true tt))
 
   -- a cut is unfolded to its lines
   pub cut-unfolds : {ls : List (List ℕ)} {f : List ℕ} → Cut m ls f → unfoldFile m f ≡ lines ls
-  unfolding unfoldFile
+  unfolding unfoldFile choose
   cut-unfolds c = unfolds c 1 false tt
 
 -- ## Back: a file's bytes from its physical lines
@@ -147,30 +164,42 @@ pub data Spelled : Physical → List ℕ → Type 0 where
   s-tail : {l : List ℕ} → Spelled (tail l) l
   s-line : (l : List ℕ) {e f : List ℕ} {p : Physical} → End e → Spelled p f → Spelled (line l p) (l ++ (e ++ f))
 
-s-add : (b : ℕ) {p : Physical} {f : List ℕ} → Spelled p f → Spelled (add b p) (b ∷ f)
-unfolding add
-s-add b s-tail = s-tail
-s-add b (s-line l e s) = s-line (b ∷ l) e s
+-- and each line has no LF, and no CR that belongs to its end
+pub data Lined : Physical → List ℕ → Type 0 where
+  l-tail : {l : List ℕ} → WithoutLF l → Lined (tail l) l
+  l-line : {x b f : List ℕ} {p : Physical} → Ended x b → Lined p f → Lined (line x p) (b ++ f)
+
+l-add : (b : ℕ) {p : Physical} {f : List ℕ} → eqb b 0x0a ≡ false → (eqb b 0x0d && begins 0x0a f) ≡ false → Lined p f → Lined (add b p) (b ∷ f)
+unfolding add every ends begins
+l-add b h k (l-tail {l = l} w) = l-tail {l = b ∷ l} (rw (h, w))
+l-add b h k (l-line (faults.lf {x = []} w n) r) = l-line (faults.lf {x = b ∷ []} (rw h) (sym (and-true (eqb b 0x0d)) ∙ k)) r
+l-add b h k (l-line (faults.lf {x = c ∷ x} w n) r) = l-line (faults.lf {x = b ∷ (c ∷ x)} (rw (h, w)) n) r
+l-add b h k (l-line (faults.crlf {x = x} w) r) = l-line (faults.crlf {x = b ∷ x} (rw (h, w))) r
+
+pub lined : (f : List ℕ) → Lined (physical f) f
+unfolding physical byte begins every ends
+lined [] = l-tail refl
+lined (b ∷ []) = go (eqb b 0x0a) refl
+  where
+    go : (x : Bool) → eqb b 0x0a ≡ x → Lined (physical (b ∷ [])) (b ∷ [])
+    go true ex = rw (eqb-true b 0x0a ex) (l-line (faults.lf {x = []} refl refl) (l-tail refl))
+    go false ex = rw (ex, and-false (eqb b 0x0d)) (l-add b ex (and-false (eqb b 0x0d)) (l-tail refl))
+lined (b ∷ (c ∷ f)) = go (eqb b 0x0a) (eqb b 0x0d && eqb c 0x0a) refl refl (lined (c ∷ f)) (lined f)
+  where
+    go : (x y : Bool) → eqb b 0x0a ≡ x → (eqb b 0x0d && eqb c 0x0a) ≡ y → Lined (physical (c ∷ f)) (c ∷ f) → Lined (physical f) f → Lined (physical (b ∷ (c ∷ f))) (b ∷ (c ∷ f))
+    go true y ex ey s t = rw (eqb-true b 0x0a ex) (l-line (faults.lf {x = []} refl refl) s)
+    go false true ex ey s t = let r = both (eqb b 0x0d) (eqb c 0x0a) ey in rw (eqb-true b 0x0d (r .0), eqb-true c 0x0a (r .1)) (l-line (faults.crlf {x = []} refl) t)
+    go false false ex ey s t = rw (ex, ey) (l-add b ex ey s)
+
+s-lined : {p : Physical} {f : List ℕ} → Lined p f → Spelled p f
+s-lined (l-tail w) = s-tail
+s-lined (l-line {f = f} (faults.lf {x = x} w n) r) = rw (append-assoc x (0x0a ∷ []) f) (s-line x lf (s-lined r))
+s-lined (l-line {f = f} (faults.crlf {x = x} w) r) = rw (append-assoc x (0x0d ∷ 0x0a ∷ []) f) (s-line x crlf (s-lined r))
 
 pub spelled : (f : List ℕ) → Spelled (physical f) f
-unfolding physical byte begins
-spelled [] = s-tail
-spelled (b ∷ []) = go (eqb b 0x0a) (eqb b 0x0d) refl refl
-  where
-    go : (x y : Bool) → eqb b 0x0a ≡ x → eqb b 0x0d ≡ y → Spelled (physical (b ∷ [])) (b ∷ [])
-    go true y ex ey = rw (eqb-true b 0x0a ex) (s-line [] lf s-tail)
-    go false true ex ey = rw (ex, ey) (s-add b s-tail)
-    go false false ex ey = rw (ex, ey) (s-add b s-tail)
-spelled (b ∷ (c ∷ f)) = go (eqb b 0x0a) (eqb b 0x0d) (eqb c 0x0a) refl refl refl (spelled (c ∷ f)) (spelled f)
-  where
-    go : (x y z : Bool) → eqb b 0x0a ≡ x → eqb b 0x0d ≡ y → eqb c 0x0a ≡ z → Spelled (physical (c ∷ f)) (c ∷ f) → Spelled (physical f) f
-        → Spelled (physical (b ∷ (c ∷ f))) (b ∷ (c ∷ f))
-    go true y z ex ey ez s t = rw (eqb-true b 0x0a ex) (s-line [] lf s)
-    go false true true ex ey ez s t = rw (eqb-true b 0x0d ey, eqb-true c 0x0a ez) (s-line [] crlf t)
-    go false true false ex ey ez s t = rw (ex, ey, ez) (s-add b (rw ez at s))
-    go false false z ex ey ez s t = rw (ex, ey) (s-add b s)
+spelled f = s-lined (lined f)
 
-fault-lines : (k n : ℕ) (ls : List (List ℕ)) → fault k n ≡ lines ls → ⊥
+pub fault-lines : (k n : ℕ) (ls : List (List ℕ)) → fault k n ≡ lines ls → ⊥
 fault-lines k n ls h = let z : _≡_ {A = ℕ} 0 1 = cc in omega arith
 
 prefix-split : (k l : List ℕ) → prefix k l ≡ true → l ≡ k ++ drop (length k) l
@@ -181,17 +210,17 @@ prefix-split (a ∷ k) (b ∷ l) h =
     let r : (eqb b a ≡ true) × (prefix k l ≡ true) = both _ _ h in
     ap₂ (λ (x : ℕ) (y : List ℕ). x ∷ y) (eqb-true b a (r .0)) (prefix-split k l (r .1))
 
-init-split : (m : ℕ) (q : List ℕ) → ends m q ≡ true → q ≡ withoutLast q ++ m ∷ []
+pub init-split : (m : ℕ) (q : List ℕ) → ends m q ≡ true → q ≡ withoutLast q ++ m ∷ []
 unfolding ends withoutLast
 init-split m [] h = absurd (false≢true h)
 init-split m (b ∷ []) h = ap (λ (x : ℕ). x ∷ []) (eqb-true b m h)
 init-split m (b ∷ (c ∷ q)) h = ap (λ (l : List ℕ). b ∷ l) (init-split m (c ∷ q) h)
 
 -- a line that passed the test for CONT stands behind it
-after-split : (o : Bool) (l : List ℕ) → (o && not (prefix cont l)) ≡ false → l ≡ after o (dropIf o 5 l)
-unfolding dropIf
-after-split true l h = prefix-split cont l (not-false _ h)
-after-split false l h = refl
+pub lead-split : (o : Bool) (l : List ℕ) → (o && not (prefix cont l)) ≡ false → l ≡ lead o (dropIf o 5 l)
+unfolding dropIf choose
+lead-split true l h = prefix-split cont l (not-false _ h)
+lead-split false l h = refl
 
 -- what was put
 put-last : (p : List ℕ) (u : Unfolded) (ls : List (List ℕ)) → put false p u ≡ lines ls → (r : List (List ℕ)) × (u ≡ lines r) × (ls ≡ p ∷ r)
@@ -208,35 +237,15 @@ module _ (m : ℕ) (good : Mark m) where
   -- the file of a cut of ls, as it stands
   pub record Back (o : Bool) (ls : List (List ℕ)) (f : List ℕ) : Type 0 where
     pub file : List ℕ
-    pub stands : f ≡ after o file
+    pub stands : f ≡ lead o file
     pub cut : Cut m ls file
     pub fine : Permitted ls
     pub ready : Ready o ls
 
-  ends-before : (o t : Bool) (q : List ℕ) → ends m (after o q) ≡ t → ends m q ≡ t
-  unfolding ends
-  ends-before false t q h = h
-  ends-before true true [] h = sym (space-no-mark m good) ∙ h
-  ends-before true false [] h = refl
-  ends-before true t (b ∷ q) h = h
-
-  fine-before : (o : Bool) (q : List ℕ) → allPermitted (after o q) ≡ true → allPermitted q ≡ true
-  unfolding every permitted
-  fine-before true q h = h
-  fine-before false q h = h
-
-  after-append : (o : Bool) (q x : List ℕ) → after o q ++ x ≡ after o (q ++ x)
-  after-append true q x = refl
-  after-append false q x = refl
-
-  ready-cons : (o : Bool) (l : List ℕ) (ls : List (List ℕ)) → Ready o (l ∷ ls)
-  ready-cons true l ls = tt
-  ready-cons false l ls = tt
-
   -- a continued part of a line, where the rest of the file is shown
   back-more : (o : Bool) (q : List ℕ) {e f : List ℕ} (r ls : List (List ℕ)) → End e → ends m q ≡ true → allPermitted q ≡ true
-      → put true (withoutLast q) (lines r) ≡ lines ls → Back true r f → Back o ls (after o q ++ (e ++ f))
-  unfolding put
+      → put true (withoutLast q) (lines r) ≡ lines ls → Back true r f → Back o ls (lead o q ++ (e ++ f))
+  unfolding put choose
   back-more o q [] ls end en ok h b = absurd (b .ready)
   back-more o q {e} {f} (l ∷ r) ls end en ok h b =
       let same : ls ≡ (withoutLast q ++ l) ∷ r = cc in
@@ -244,7 +253,7 @@ module _ (m : ℕ) (good : Mark m) where
       rw same
       record {
         file = withoutLast q ++ (m ∷ e ++ (cont ++ b .file));
-        stands = after-append o q (e ++ f) ∙ ap (after o) (ap₂ (λ (x y : List ℕ). x ++ (e ++ y)) split (b .stands) ∙ append-assoc (withoutLast q) (m ∷ []) (e ++ (cont ++ b .file)));
+        stands = lead-append o q (e ++ f) ∙ ap (lead o) (ap₂ (λ (x y : List ℕ). x ++ (e ++ y)) split (b .stands) ∙ append-assoc (withoutLast q) (m ∷ []) (e ++ (cont ++ b .file)));
         cut = more (withoutLast q) (permitted-append (withoutLast q) (m ∷ []) (rw (← split) ok) .0) end (b .cut);
         fine = (permitted-join (withoutLast q) l (permitted-append (withoutLast q) (m ∷ []) (rw (← split) ok) .0) (b .fine .0), b .fine .1);
         ready = ready-cons o _ _;
@@ -254,8 +263,8 @@ module _ (m : ℕ) (good : Mark m) where
   back-line : (n : ℕ) (o t : Bool) (q : List ℕ) {e f : List ℕ} (p : Physical) (ls : List (List ℕ)) → End e
       → ((n : ℕ) (o : Bool) (ls : List (List ℕ)) → unfoldLines m n o p ≡ lines ls → Back o ls f)
       → ends m q ≡ t → allPermitted q ≡ true
-      → put t (withoutLastIf t q) (unfoldLines m (next t n) t p) ≡ lines ls → Back o ls (after o q ++ (e ++ f))
-  unfolding withoutLastIf next
+      → put t (withoutLastIf t q) (unfoldLines m (next t n) t p) ≡ lines ls → Back o ls (lead o q ++ (e ++ f))
+  unfolding withoutLastIf next choose
   back-line n o true q p ls end all en ok h =
       let r = put-more (withoutLast q) _ ls h in
       back-more o q (r .0) ls end en ok (r .2) (all n true (r .0) (r .1))
@@ -265,14 +274,14 @@ module _ (m : ℕ) (good : Mark m) where
       rw (r .2)
       record {
         file = q ++ (e ++ b .file);
-        stands = after-append o q (e ++ f) ∙ ap (λ (x : List ℕ). after o (q ++ (e ++ x))) (b .stands);
+        stands = lead-append o q (e ++ f) ∙ ap (λ (x : List ℕ). lead o (q ++ (e ++ x))) (b .stands);
         cut = last q ok en end (b .cut);
         fine = (ok, b .fine);
         ready = ready-cons o _ _;
       }
 
   back : {p : Physical} {f : List ℕ} → Spelled p f → (n : ℕ) (o : Bool) (ls : List (List ℕ)) → unfoldLines m n o p ≡ lines ls → Back o ls f
-  unfolding unfoldLines none
+  unfolding unfoldLines none choose
   back (s-tail {l = []}) n true ls h = absurd (fault-lines 3 n ls h)
   back (s-tail {l = []}) n false ls h = let same : ls ≡ [] = cc in rw same (record { file = []; stands = refl; cut = done; fine = tt; ready = tt })
   back (s-tail {l = b ∷ l}) n o ls h = absurd (fault-lines 3 n ls h)
@@ -280,13 +289,13 @@ module _ (m : ℕ) (good : Mark m) where
       let r3 = passed _ _ _ _ (fault-lines 3 n ls) h in
       let r5 = passed _ _ _ _ (fault-lines 5 n ls) (r3 .1) in
       let r4 = passed _ _ _ _ (fault-lines 4 n ls) (r5 .1) in
-      let split : l ≡ after o (dropIf o 5 l) = after-split o l (r5 .0) in
+      let split : l ≡ lead o (dropIf o 5 l) = lead-split o l (r5 .0) in
       rw split
-      (back-line n o (ends m l) (dropIf o 5 l) p ls end (λ n o ls h. back s n o ls h) (ends-before o (ends m l) _ (ap (ends m) (sym split))) (fine-before o _ (rw (← split) (not-false _ (r4 .0)))) (r4 .1))
+      (back-line n o (ends m l) (dropIf o 5 l) p ls end (λ n o ls h. back s n o ls h) (sym (ends-lead m good o (dropIf o 5 l)) ∙ ap (ends m) (sym split)) (sym (permitted-lead o (dropIf o 5 l)) ∙ rw (← split) (not-false _ (r4 .0))) (r4 .1))
 
   -- what is unfolded to lines is a cut of them, and their bytes are permitted
   pub unfolds-cut : (ls : List (List ℕ)) (f : List ℕ) → unfoldFile m f ≡ lines ls → Cut m ls f × Permitted ls
-  unfolding unfoldFile
+  unfolding unfoldFile choose
   unfolds-cut ls f h = let b = back (spelled f) 1 false ls h in (rw (b .stands) (b .cut), b .fine)
 
   -- a file is a cut of one list of lines at most
