@@ -18,8 +18,9 @@ use Rattle.meaning.proofs.Right.Steps.{stepAt, run-steps, RanTo, steps-
 use Rattle.meaning.proofs.Right.Objects.{LinesStand, lines-stand, stand-left}
 use Rattle.meaning.proofs.Right.Places.{At, atStart, atDescription, atTransfer, atModel, atTopics, atTables, atObjects, atLine, atClosing, atNothing, Effect, marked, drawn, stored, pointed, Refused, Goes, on, stops}
 use Rattle.meaning.proofs.Right.Runs.{run-start}
+use Rattle.meaning.proofs.Right.StepLines.{went, refused}
 use Rattle.meaning.proofs.Right.Kept.{used-length, cells-on, points-on, rows-on}
-use Rattle.meaning.proofs.Right.Come.{StepLaws, StandsAt, Come, lines-come, LeadTo, reached-lead}
+use Rattle.meaning.proofs.Right.Come.{StepLaws, StandsAt, Come, lines-come, reached-lead}
 
 -- ## Where lines start
 
@@ -75,7 +76,7 @@ room-alike rooms used h e e′ r = record {
   forPoints = rw (sym (points-on e′) ∙ points-on e) (r .forPoints);
 }
 
-module _ (laws : StepLaws) (m : Model) (rooms : Rooms) (own : List ℕ) (before : List (List ℕ)) (stand : LinesStand own (withStarts 0 before)) where
+module _ (m : Model) (rooms : Rooms) (own : List ℕ) (before : List (List ℕ)) (stand : LinesStand own (withStarts 0 before)) where
   -- the step over the line behind them
   step-behind : (l : List ℕ) (s : State) → run m rooms own (startOf m) before ≡ ran s → stepOf m rooms own l s ≡ stepAt m rooms own (s .due) (s .content) (lineBehind before l)
   unfolding stepOf startOf
@@ -83,28 +84,28 @@ module _ (laws : StepLaws) (m : Model) (rooms : Rooms) (own : List ℕ) (before 
       let at : s .start ≡ length (unfoldedText before) = omega (arith, run-start m rooms own before (startOf m) s e) in
       rw at
 
-  pub run-come : (s : State) → run m rooms own (startOf m) before ≡ ran s → Come laws m rooms own (withStarts 0 before) (s .due) (s .content)
+  pub run-come : (s : State) → run m rooms own (startOf m) before ≡ ran s → Come m rooms own (withStarts 0 before) (s .due) (s .content)
   unfolding startOf
-  run-come s e = lines-come laws m rooms own (withStarts 0 before) stand (s .due) (s .content) (run-steps m rooms own before (startOf m) s e)
+  run-come s e = lines-come m rooms own (withStarts 0 before) stand (s .due) (s .content) (run-steps m rooms own before (startOf m) s e)
 
   -- a line that was refused there
-  pub line-refused : (l : List ℕ) (s : State) (n k : ℕ) → run m rooms own (startOf m) before ≡ ran s → (h : Come laws m rooms own (withStarts 0 before) (s .due) (s .content)) → stepOf m rooms own l s ≡ no n k
+  pub line-refused : (l : List ℕ) (s : State) (n k : ℕ) → run m rooms own (startOf m) before ≡ ran s → (h : Come m rooms own (withStarts 0 before) (s .due) (s .content)) → stepOf m rooms own l s ≡ no n k
       → Refused m rooms own (h .used) (s .due) (s .content) (h .place) (lineBehind before l) n k
   line-refused l s n k e h q =
-      laws .refused m rooms own (h .used) (s .due) (s .content) (h .place) (lineBehind before l) (h .stands .at) (h .stands .names) (h .room) n k (sym (step-behind l s e) ∙ q)
+      refused m rooms own (h .used) (s .due) (s .content) (h .place) (lineBehind before l) (h .stands .at) (h .stands .names) (h .room) n k (sym (step-behind l s e) ∙ q)
 
   -- lines that have come to a place are read to it
   pub record RunsTo (x : Place) (used : List (List ℕ)) (cells points : ℕ) : Type 0 where
     pub state : State
     pub runs : run m rooms own (startOf m) before ≡ ran state
-    pub stands : StandsAt laws m rooms own x used (state .due) (state .content)
+    pub stands : StandsAt m rooms own x used (state .due) (state .content)
     pub cellCount : length (state .content .cells) ≡ cells
     pub pointCells : length (state .content .points) ≡ points
 
-  pub come-run : {x : Place} {used : List (List ℕ)} {cells points : ℕ} → GoodModel m → ComeTo m rooms before x used cells points → RunsTo x used cells points
+  pub come-run : StepLaws → {x : Place} {used : List (List ℕ)} {cells points : ℕ} → GoodModel m → ComeTo m rooms before x used cells points → RunsTo x used cells points
   unfolding startOf
-  come-run {x = x} {used = used} good k =
-      let r = reached-lead laws m rooms own good (k .reached) stand (k .room) in
+  come-run laws good k =
+      let r = reached-lead m rooms own laws good (k .reached) stand (k .room) in
       let s = steps-run m rooms own before (startOf m) (r .due) (r .content) (r .goes) in
       record {
         state = s .final;
@@ -114,7 +115,7 @@ module _ (laws : StepLaws) (m : Model) (rooms : Rooms) (own : List ℕ) (before 
         pointCells = rw (s .content) (r .pointCells);
       }
 
-  module _ {x : Place} {used : List (List ℕ)} {cells points : ℕ} (good : GoodModel m) (k : ComeTo m rooms before x used cells points) (r : RunsTo x used cells points) (l : List ℕ) where
+  module _ {x : Place} {used : List (List ℕ)} {cells points : ℕ} (laws : StepLaws) (good : GoodModel m) (k : ComeTo m rooms before x used cells points) (r : RunsTo x used cells points) (l : List ℕ) where
     -- a line with a reason is refused for it
     pub reason-refuses : (n field : ℕ) → Reason m used x (lineBehind before l) n field → stepOf m rooms own l (r .state) ≡ no n field
     reason-refuses n field why =
@@ -134,5 +135,5 @@ module _ (laws : StepLaws) (m : Model) (rooms : Rooms) (own : List ℕ) (before 
         by (stops e f) = e
         by (on d b e at effect) =
             let s = r .state in
-            let w = laws .went m rooms own used (s .due) (s .content) x (lineBehind before l) (r .stands .at) (r .stands .names) room d b e in
+            let w = went m rooms own used (s .due) (s .content) x (lineBehind before l) (r .stands .at) (r .stands .names) room d b e in
             absurd (full (rw (r .cellCount, r .pointCells) at (room-alike rooms used (used-length own (s .content) used (r .stands .names)) (w .effect) effect (w .room))))

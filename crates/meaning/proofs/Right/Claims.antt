@@ -16,7 +16,6 @@ use Rattle.meaning.specs.Answer.{accepted, refusal}
 use Rattle.meaning.specs.Reading.{Content, State, Rooms}
 use Rattle.meaning.specs.Lines.{ran, stopped}
 use Rattle.meaning.specs.Table.{Resolved, resolve, Result, refusedWith, acceptedWith, readResolved, readRun, readChecked, read}
-use Rattle.meaning.specs.Claims.{FaultExactly}
 use Rattle.meaning.specs.Right.{DeliveredTopic, objectsOfTopics, Right, tableOf}
 use Rattle.meaning.specs.RightClaims.{RightIsRead, ReadIsRight, IsAccepted, RightFile, AcceptedExactlyWhenRight, AcceptedWithItsTable, RefusedMeansNotRight, ReferenceIsItsObject, SampleRight, Opened, HasRoom, RefusalIsFirst, FirstIsRefusal, ReachedExactly}
 use Rattle.meaning.specs.Compute.{computeRead}
@@ -132,13 +131,13 @@ module _ (model file : List ℕ) (m : Model) (rooms : Rooms) (number first secon
 pub refused-means-not-right : RefusedMeansNotRight
 refused-means-not-right model file m rooms number first second e h a b c ls ds cut r = not-right model file m rooms number first second e h a b c ls ds cut r
 
-module _ (laws : StepLaws) (faults : FaultExactly) where
+module _ (laws : StepLaws) where
   pub refusal-is-first : RefusalIsFirst
-  refusal-is-first model file rooms number first second h = order.refusal-is-first laws faults model file rooms number first second h
+  refusal-is-first model file rooms number first second h = order.refusal-is-first laws model file rooms number first second h
 
   pub first-is-refusal : FirstIsRefusal
-  first-is-refusal model file rooms number first second f = order.first-is-refusal laws faults model file rooms f
+  first-is-refusal model file rooms number first second f = order.first-is-refusal laws model file rooms f
 
   pub reached-exactly : ReachedExactly
   reached-exactly m ls used cells points g =
-      (λ r. complete.reached-complete m ls laws g used cells points r, λ k. complete.complete-reached m ls laws g used cells points k)
+      (λ r. complete.reached-complete m ls g used cells points laws r, λ k. complete.complete-reached m ls g used cells points k)

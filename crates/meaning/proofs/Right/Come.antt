@@ -15,20 +15,17 @@ use Rattle.meaning.specs.Reasons as reasons
 use Rattle.meaning.proofs.Reading.Stretches.{AllStand}
 use Rattle.meaning.proofs.Reading.PointsRead.{told-of}
 use Rattle.meaning.proofs.Right.Steps.{stepAt, steps, step-on, steps-on, first-of}
-use Rattle.meaning.proofs.Right.Places.{At, atStart, identificationsIn, UsedIn, Effect, Full, Went, Refused, Goes, on, stops}
+use Rattle.meaning.proofs.Right.Places.{At, atStart, identificationsIn, UsedIn, Effect, Goes, on, stops}
 use Rattle.meaning.proofs.Right.Objects.{LinesStand, stand-left, stand-right}
+use Rattle.meaning.proofs.Right.StepLines.{went}
 use Rattle.meaning.proofs.Right.Kept.{Kept, kept-step, used-on, cells-on, points-on}
 
--- what a step says of a line, and the other way round
+-- what is said of a line, and its step
 pub record StepLaws : Type 0 where
   pub reasoned : (m : Model) (rooms : Rooms) (own : List ℕ) (used : List (List ℕ)) (due : Due) (c : Content) (x : Place) (l : Line) → GoodModel m → At due x → UsedIn own c used → (n k : ℕ) → Reason m used x l n k
       → stepAt m rooms own due c l ≡ no n k
   pub followed : (m : Model) (rooms : Rooms) (own : List ℕ) (used : List (List ℕ)) (due : Due) (c : Content) (x : Place) (l : Line) → GoodModel m → At due x → UsedIn own c used → (y : Place) (g : Gain) → Follows m used x l y g
       → Goes m rooms own used due c x l y g
-  pub went : (m : Model) (rooms : Rooms) (own : List ℕ) (used : List (List ℕ)) (due : Due) (c : Content) (x : Place) (l : Line) → At due x → UsedIn own c used → Within rooms used (length (c .cells)) (length (c .points))
-      → (d : Due) (b : Content) → stepAt m rooms own due c l ≡ go d b → Went m rooms own used due c x l d b
-  pub refused : (m : Model) (rooms : Rooms) (own : List ℕ) (used : List (List ℕ)) (due : Due) (c : Content) (x : Place) (l : Line) → At due x → UsedIn own c used → Within rooms used (length (c .cells)) (length (c .points))
-      → (n k : ℕ) → stepAt m rooms own due c l ≡ no n k → Refused m rooms own used due c x l n k
 
 -- there is room for what was there before
 pub room-before : (rooms : Rooms) (g : Gain) (used : List (List ℕ)) (cells points : ℕ) → Within rooms (usedWith g used) (cellsWith g cells) (pointsWith g points) → Within rooms used cells points
@@ -38,7 +35,7 @@ room-before rooms (object i n) used cells points r =
     record { forRows = omega (arith, length-append used (i ∷ []), r .forRows); forCells = omega (arith, r .forCells); forPoints = r .forPoints }
 room-before rooms point used cells points r = record { forRows = r .forRows; forCells = r .forCells; forPoints = omega (arith, r .forPoints) }
 
-module _ (laws : StepLaws) (m : Model) (rooms : Rooms) (own : List ℕ) where
+module _ (m : Model) (rooms : Rooms) (own : List ℕ) where
   -- what is due and the table so far are those of a place
   pub record StandsAt (x : Place) (used : List (List ℕ)) (due : Due) (c : Content) : Type 0 where
     pub at : At due x
@@ -73,7 +70,7 @@ module _ (laws : StepLaws) (m : Model) (rooms : Rooms) (own : List ℕ) where
   come-on : {ls : List Line} {due d : Due} {c b : Content} (l : Line) → Come ls due c → AllStand own (fieldsOf (l .start) (l .bytes)) → stepAt m rooms own due c l ≡ go d b → Come (ls ++ (l ∷ [])) d b
   come-on {ls = ls} {due = due} {d = d} {c = c} {b = b} l k stand e =
       let s = k .stands in
-      let w = laws .went m rooms own (k .used) due c (k .place) l (s .at) (s .names) (k .room) d b e in
+      let w = went m rooms own (k .used) due c (k .place) l (s .at) (s .names) (k .room) d b e in
       let cells = sym (cells-on (w .effect)) in
       let points = sym (points-on (w .effect)) in
       record {
@@ -106,10 +103,10 @@ module _ (laws : StepLaws) (m : Model) (rooms : Rooms) (own : List ℕ) where
     pub cellCount : length (content .cells) ≡ cells
     pub pointCells : length (content .points) ≡ points
 
-  lead-on : {ls : List Line} {x y : Place} {used : List (List ℕ)} {cells points : ℕ} {g : Gain} (l : Line) → GoodModel m → LeadTo ls x used cells points → AllStand own (fieldsOf (l .start) (l .bytes)) → Follows m used x l y g
+  lead-on : StepLaws → {ls : List Line} {x y : Place} {used : List (List ℕ)} {cells points : ℕ} {g : Gain} (l : Line) → GoodModel m → LeadTo ls x used cells points → AllStand own (fieldsOf (l .start) (l .bytes)) → Follows m used x l y g
       → Within rooms (usedWith g used) (cellsWith g cells) (pointsWith g points) → LeadTo (ls ++ (l ∷ [])) y (usedWith g used) (cellsWith g cells) (pointsWith g points)
   unfolding steps
-  lead-on {ls = ls} {x = x} {y = y} {used = used} {cells = cells} {points = points} {g = g} l good k stand f room =
+  lead-on laws {ls = ls} {x = x} {y = y} {used = used} {cells = cells} {points = points} {g = g} l good k stand f room =
       by (laws .followed m rooms own used (k .due) (k .content) x l good (k .stands .at) (k .stands .names) y g f)
     where
       by : Goes m rooms own used (k .due) (k .content) x l y g → LeadTo (ls ++ (l ∷ [])) y (usedWith g used) (cellsWith g cells) (pointsWith g points)
@@ -123,8 +120,8 @@ module _ (laws : StepLaws) (m : Model) (rooms : Rooms) (own : List ℕ) where
         pointCells = points-on effect ∙ rw (k .pointCells);
       }
 
-  pub reached-lead : GoodModel m → {ls : List Line} {x : Place} {used : List (List ℕ)} {cells points : ℕ} → Reached m ls x used cells points → LinesStand own ls → Within rooms used cells points → LeadTo ls x used cells points
+  pub reached-lead : StepLaws → GoodModel m → {ls : List Line} {x : Place} {used : List (List ℕ)} {cells points : ℕ} → Reached m ls x used cells points → LinesStand own ls → Within rooms used cells points → LeadTo ls x used cells points
   unfolding steps nothingRead
-  reached-lead good reasons.Reached.none h room = record { due = opening; content = nothingRead m; goes = refl; stands = none-stand; cellCount = refl; pointCells = refl }
-  reached-lead good (reasons.Reached.more {ls = ls} {l = l} {used = used} {cells = cells} {points = points} {g = g} r f) h room =
-      lead-on l good (reached-lead good r (stand-left own ls (l ∷ []) h) (room-before rooms g used cells points room)) (stand-right own ls (l ∷ []) h .0) f room
+  reached-lead laws good reasons.Reached.none h room = record { due = opening; content = nothingRead m; goes = refl; stands = none-stand; cellCount = refl; pointCells = refl }
+  reached-lead laws good (reasons.Reached.more {ls = ls} {l = l} {used = used} {cells = cells} {points = points} {g = g} r f) h room =
+      lead-on laws l good (reached-lead laws good r (stand-left own ls (l ∷ []) h) (room-before rooms g used cells points room)) (stand-right own ls (l ∷ []) h .0) f room

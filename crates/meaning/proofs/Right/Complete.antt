@@ -53,14 +53,14 @@ module _ (m : Model) (ls : List (List ℕ)) where
       let os : List Delivered = objectsOfTopics ds in
       ap identificationsIn (objects-names own [] os (read-names m own os (file-read m own structure stand))) ∙ names-identifications os
 
-  module _ (laws : StepLaws) (good : GoodModel m) (used : List (List ℕ)) (cells points : ℕ) where
+  module _ (good : GoodModel m) (used : List (List ℕ)) (cells points : ℕ) where
     -- ## To the end
 
     -- with room for all of it
     abbrev rooms : Rooms
     rooms = record { text = 0; marks = 0; rows = length used; cells = cells; points = points }
 
-    complete-of : (k : LeadTo laws m rooms own (withStarts 0 ls) end used cells points) → FileOf m rooms own (k .content) (noMarks m) (withStarts 0 ls) → Complete m ls used cells points
+    complete-of : (k : LeadTo m rooms own (withStarts 0 ls) end used cells points) → FileOf m rooms own (k .content) (noMarks m) (withStarts 0 ls) → Complete m ls used cells points
     complete-of k f =
         let s = f .structure in
         record {
@@ -72,10 +72,10 @@ module _ (m : Model) (ls : List (List ℕ)) where
           pointCells = sym (point-cells m (f .ds)) ∙ (ap (λ (c : Content). length (c .points)) (f .same) ∙ k .pointCells);
         }
 
-    pub reached-complete : Reached m (withStarts 0 ls) end used cells points → Complete m ls used cells points
+    pub reached-complete : StepLaws → Reached m (withStarts 0 ls) end used cells points → Complete m ls used cells points
     unfolding nothingRead rowsFrom flatRows rowStarts pointsOf cellsOfPoints
-    reached-complete r =
-        let k = reached-lead laws m rooms own good r stand (record { forRows = omega arith; forCells = omega arith; forPoints = omega arith }) in
+    reached-complete laws r =
+        let k = reached-lead m rooms own laws good r stand (record { forRows = omega arith; forCells = omega arith; forPoints = omega arith }) in
         complete-of k (file-of m rooms own (k .content) (noMarks m) (withStarts 0 ls) stand (k .goes ∙ ap (λ (d : Due). go d (k .content)) (due-nothing (k .stands .at) refl)))
 
     -- ## And back
@@ -91,7 +91,7 @@ module _ (m : Model) (ls : List (List ℕ)) where
         let q : Rooms = roomsFor os in
         let to = lines-read m good q ls (k .delivered) (k .file) (k .unique) (record { rows = omega arith; cells = omega arith; points = omega arith }) in
         let goes : steps m q own opening (nothingRead m) (withStarts 0 ls) ≡ go nothing (contentOf marks os) = rw (to .due, to .content) at (run-steps m q own ls (startOf m) (to .final) (to .runs)) in
-        let come = lines-come laws m q own (withStarts 0 ls) stand nothing (contentOf marks os) goes in
+        let come = lines-come m q own (withStarts 0 ls) stand nothing (contentOf marks os) goes in
         let place : come .place ≡ end = at-end (come .stands .at) refl in
         let names : come .used ≡ used = sym (come .stands .names) ∙ (used-in (k .delivered) (k .file) ∙ k .identifications) in
         let cells-e : length (contentOf marks os .cells) ≡ cells = cell-count m (k .delivered) ∙ k .cellCount in

@@ -16,7 +16,6 @@ use Rattle.meaning.specs.Reading.{Due, isComplete, Content, State, start
 use Rattle.meaning.specs.Lines.{no, stepOf, Run, ran, stopped, run, readLines}
 use Rattle.meaning.specs.Table.{Resolved, unresolved, resolve, Result, refusedWith, acceptedWith, readResolved, readRun, readText, readUnfolded, readChecked, read}
 use Rattle.meaning.specs.Row.{Pair}
-use Rattle.meaning.specs.Claims.{FaultExactly}
 use Rattle.meaning.specs.WritingClaims.{Enough}
 use Rattle.meaning.specs.Right.{Entry, Delivered, DeliveredTopic, objectsOfTopics, withStarts, File, Unique, tableOf}
 use Rattle.meaning.specs.Reasons.{Place, end}
@@ -25,6 +24,7 @@ use Rattle.meaning.specs.RightClaims as claims
 use Rattle.meaning.proofs.Tests.Unequal.{not-accepted}
 use Rattle.meaning.proofs.Model.Marks as marks
 use Rattle.meaning.proofs.Model.GoodModels as models
+use Rattle.meaning.proofs.Reading.Claims.{fault-exactly}
 use Rattle.meaning.proofs.Writing.Writable.{read-to-end}
 use Rattle.meaning.proofs.Right.Content.{contentOf}
 use Rattle.meaning.proofs.Right.Objects.{LinesStand, lines-stand}
@@ -102,7 +102,7 @@ unnamed m rooms own marks os c object field (firstUnnamed a b f′ h) e f =
     let there : resolve m own c ≡ unresolved object field = ap (λ (x : Content). resolve m own x) e ∙ (h ∙ (ap (λ (x : ℕ). unresolved x b) (q .0) ∙ ap (λ (x : ℕ). unresolved object x) (q .1))) in
     rw there
 
-module _ (laws : StepLaws) (faults : FaultExactly) (model file : List ℕ) (rooms : Rooms) where
+module _ (laws : StepLaws) (model file : List ℕ) (rooms : Rooms) where
   -- ## The first one is given
 
   -- a line that is refused behind lines that passed
@@ -119,7 +119,7 @@ module _ (laws : StepLaws) (faults : FaultExactly) (model file : List ℕ) (room
   unfolding readRun startOf
   missing-given m ls {x = x} o room k other =
       let own : List ℕ = unfoldedText ls in
-      let r = come-run laws m rooms own ls (lines-stand own 0 ls refl) (models.checked-good model m (o .isGood)) k in
+      let r = come-run m rooms own ls (lines-stand own 0 ls refl) laws (models.checked-good model m (o .isGood)) k in
       read-opened model file rooms m ls o room _ (missing-lines m rooms own (startOf m) (r .state) ls (r .runs) (by (r .state .due) (r .stands .at) _ refl))
     where
       by : (due : Due) → At due x → (b : Bool) → isComplete due ≡ b → isComplete due ≡ false
@@ -140,20 +140,20 @@ module _ (laws : StepLaws) (faults : FaultExactly) (model file : List ℕ) (room
   first-is-refusal (tooLarge l) = read-large model file rooms l
   first-is-refusal (badModel {at = at} short e) = read-bad model file rooms at short e
   first-is-refusal (badUnfolding {m = m} {number = number} {line = line} short e f) =
-      read-faulty model file rooms m number line short e (faults (m .mark) (marks.good-mark model m e) file number line .1 f)
+      read-faulty model file rooms m number line short e (fault-exactly (m .mark) (marks.good-mark model m e) file number line .1 f)
   first-is-refusal (noRoom {m = m} {ls = ls} o h) = read-crowded model file rooms m ls o (no-room model file rooms m ls h)
   first-is-refusal (badLine {m = m} {number = number} {field = field} before l after o room k why) =
       let good = models.checked-good model m (o .isGood) in
       let own : List ℕ = unfoldedText (before ++ (l ∷ after)) in
       let stand = before-stand before (l ∷ after) in
-      let r = come-run laws m rooms own before stand good k in
-      refused-given m before l after (r .state) number field o room (r .runs) (reason-refuses laws m rooms own before stand good k r l number field why)
+      let r = come-run m rooms own before stand laws good k in
+      refused-given m before l after (r .state) number field o room (r .runs) (reason-refuses m rooms own before stand laws good k r l number field why)
   first-is-refusal (fullLine {m = m} {y = y} {g = g} before l after o room k f no-space) =
       let good = models.checked-good model m (o .isGood) in
       let own : List ℕ = unfoldedText (before ++ (l ∷ after)) in
       let stand = before-stand before (l ∷ after) in
-      let r = come-run laws m rooms own before stand good k in
-      refused-given m before l after (r .state) 16 0 o room (r .runs) (full-refuses laws m rooms own before stand good k r l y g f no-space)
+      let r = come-run m rooms own before stand laws good k in
+      refused-given m before l after (r .state) 16 0 o room (r .runs) (full-refuses m rooms own before stand laws good k r l y g f no-space)
   first-is-refusal (lineMissing {m = m} {ls = ls} o room k other) = missing-given m ls o room k other
   first-is-refusal (objectMissing {m = m} {ls = ls} {ds = ds} {object = object} {field = field} o structure unique enough f) = object-given m ls ds object field o structure unique enough f
 
@@ -176,7 +176,7 @@ module _ (laws : StepLaws) (faults : FaultExactly) (model file : List ℕ) (room
     -- a line that was refused
     stop-given : (m : Model) (before : List (List ℕ)) (l : List ℕ) (after : List (List ℕ)) (s : State) (n field : ℕ) → Opened model file m (before ++ (l ∷ after)) → HasRoom m (before ++ (l ∷ after)) rooms
         → run m rooms (unfoldedText (before ++ (l ∷ after))) (startOf m) before ≡ ran s → stepOf m rooms (unfoldedText (before ++ (l ∷ after))) l s ≡ no n field → Answered
-    stop-given m before l after s n field o room e q = by n field (line-refused laws m rooms own before stand l s n field e come q)
+    stop-given m before l after s n field o room e q = by n field (line-refused m rooms own before stand l s n field e come q)
       where
         own : List ℕ
         own = unfoldedText (before ++ (l ∷ after))
@@ -184,8 +184,8 @@ module _ (laws : StepLaws) (faults : FaultExactly) (model file : List ℕ) (room
         stand : LinesStand (unfoldedText (before ++ (l ∷ after))) (withStarts 0 before)
         stand = before-stand before (l ∷ after)
 
-        come : Come laws m rooms (unfoldedText (before ++ (l ∷ after))) (withStarts 0 before) (s .due) (s .content)
-        come = run-come laws m rooms own before stand s e
+        come : Come m rooms (unfoldedText (before ++ (l ∷ after))) (withStarts 0 before) (s .due) (s .content)
+        come = run-come m rooms own before stand s e
 
         come-to : ComeTo m rooms before (come .place) (come .used) (length (s .content .cells)) (length (s .content .points))
         come-to = record { reached = come .reached; room = come .room }
@@ -206,7 +206,7 @@ module _ (laws : StepLaws) (faults : FaultExactly) (model file : List ℕ) (room
     unfolding isComplete
     lacks-given m ls o room s e d =
         let own : List ℕ = unfoldedText ls in
-        let come = run-come laws m rooms own ls (lines-stand own 0 ls refl) s e in
+        let come = run-come m rooms own ls (lines-stand own 0 ls refl) s e in
         given 7 (1 + length ls) 1
         (lineMissing o room (record { reached = come .reached; room = come .room }) (λ q. true≢false (sym (ap isComplete (due-nothing (come .stands .at) q)) ∙ d)))
 
@@ -246,7 +246,7 @@ module _ (laws : StepLaws) (faults : FaultExactly) (model file : List ℕ) (room
     model-given short = by (checkModel model) refl
       where
         unfolded : (m : Model) → checkModel model ≡ good m → (u : Unfolded) → unfoldFile (m .mark) file ≡ u → Answered
-        unfolded m e (fault n line) q = given n line 0 (badUnfolding short e (faults (m .mark) (marks.good-mark model m e) file n line .0 q))
+        unfolded m e (fault n line) q = given n line 0 (badUnfolding short e (fault-exactly (m .mark) (marks.good-mark model m e) file n line .0 q))
         unfolded m e (lines ls) q = room-given m ls (record { short = short; isGood = e; unfolds = q })
 
         by : (c : Checked) → checkModel model ≡ c → Answered
