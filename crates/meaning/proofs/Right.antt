@@ -1,5 +1,10 @@
 pub mod Steps
 pub mod Places
+pub mod FieldReasons
+pub mod LineSteps
+pub mod Reasoned
+pub mod Followed
+pub mod OneReason
 pub mod Content
 pub mod Points
 pub mod Rows

@@ -85,7 +85,7 @@ no-code l code another e h others k = eqb-false (rank code) (rank another) h (ap
 
 -- ## The place behind the fields of an object or a line attribute
 
-at-lines : (t k cell : ℕ) (ps : List Pair) → At (dueLines t k (lineAttributes cell ps)) (behindPair t ps)
+pub at-lines : (t k cell : ℕ) (ps : List Pair) → At (dueLines t k (lineAttributes cell ps)) (behindPair t ps)
 unfolding dueLines lineAttributes behindPair
 at-lines t k cell [] = At.atObjects
 at-lines t k cell (OfAttribute o type ∷ ps) = at-lines t k (cell + 2) ps

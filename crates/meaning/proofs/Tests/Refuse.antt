@@ -44,6 +44,15 @@ pub neither : (a b : Bool) → (a || b) ≡ false → (a ≡ false) × (b ≡ fa
 neither true b h = absurd (false≢true (sym h))
 neither false b h = (refl, h)
 
+-- a test that cannot hold, and one that cannot fail
+pub no-true : (t : Bool) → (t ≡ true → ⊥) → t ≡ false
+no-true true h = absurd (h refl)
+no-true false h = refl
+
+pub no-false : (t : Bool) → (t ≡ false → ⊥) → t ≡ true
+no-false true h = refl
+no-false false h = absurd (h refl)
+
 -- one of the tests that all hold
 pub holds : (ts : List Bool) (n : ℕ) → allOf ts ≡ true → getD ts n true ≡ true
 unfolding allOf
