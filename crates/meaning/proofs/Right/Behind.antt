@@ -1,26 +1,28 @@
--- Behind the first lines of a file: a run over them, and the place that they have come to.
+-- Behind the first lines of a file: a run over them, and the place that they have come to. Assumes nothing.
 use Prim.Native.Nat.{ℕ, _+_}
 use native.Mathlib.Omega.{arith}
-use mathlib.Core.Path.{_≡_, refl, sym, ap, subst, _∙_}
-use mathlib.Core.Bool.{true, false, true≢false}
-use mathlib.Core.List.{List, [], _∷_, _++_, append-nil}
+use mathlib.Core.Path.{_≡_, refl, sym, _∙_}
+use mathlib.Core.Bool.{true, true≢false}
+use mathlib.Core.List.{List, [], _∷_, _++_}
 use lib.ListN.{length, length-append}
 use Rattle.meaning.specs.Unfold.{unfoldedText}
 use Rattle.meaning.specs.Model.{Model}
 use Rattle.meaning.specs.Check.{GoodModel}
-use Rattle.meaning.specs.Field.{fieldsOf}
 use Rattle.meaning.specs.Reading.{Due, nothing, isComplete, Content, State, startOf, Rooms}
-use Rattle.meaning.specs.Lines.{Step, go, no, lineDue, stepOf, ran, run}
+use Rattle.meaning.specs.Lines.{no, stepOf, ran, run}
 use Rattle.meaning.specs.Right.{withStarts}
 use Rattle.meaning.specs.Reasons.{Place, end, Gain, Follows, Reason, usedWith, cellsWith, pointsWith, Within}
 use Rattle.meaning.specs.RightClaims.{ComeTo, lineBehind}
-use Rattle.meaning.proofs.Right.Steps.{stepAt, run-steps, RanTo, steps-run}
+use Rattle.meaning.proofs.Right.Steps.{stepAt, run-steps, steps-run}
 use Rattle.meaning.proofs.Right.Objects.{LinesStand, lines-stand, stand-left}
-use Rattle.meaning.proofs.Right.Places.{At, atStart, atDescription, atTransfer, atModel, atTopics, atTables, atObjects, atLine, atClosing, atNothing, Effect, marked, drawn, stored, pointed, Refused, Goes, on, stops}
+use Rattle.meaning.proofs.Right.Places.{At, atStart, atDescription, atTransfer, atModel, atTopics, atTables, atObjects, atLine, atClosing, atNothing, Effect, Refused, Goes, on, stops}
 use Rattle.meaning.proofs.Right.Runs.{run-start}
 use Rattle.meaning.proofs.Right.StepLines.{went, refused}
-use Rattle.meaning.proofs.Right.Kept.{used-length, cells-on, points-on, rows-on}
-use Rattle.meaning.proofs.Right.Come.{StepLaws, StandsAt, Come, lines-come, reached-lead}
+use Rattle.meaning.proofs.Right.Reasoned.{reasoned}
+use Rattle.meaning.proofs.Right.Followed.{followed}
+use Rattle.meaning.proofs.Right.StepNames.{used-length}
+use Rattle.meaning.proofs.Right.Kept.{cells-on, points-on, rows-on}
+use Rattle.meaning.proofs.Right.Come.{StandsAt, Come, lines-come, reached-lead}
 
 -- ## Where lines start
 
@@ -102,10 +104,10 @@ module _ (m : Model) (rooms : Rooms) (own : List ℕ) (before : List (List ℕ))
     pub cellCount : length (state .content .cells) ≡ cells
     pub pointCells : length (state .content .points) ≡ points
 
-  pub come-run : StepLaws → {x : Place} {used : List (List ℕ)} {cells points : ℕ} → GoodModel m → ComeTo m rooms before x used cells points → RunsTo x used cells points
+  pub come-run : {x : Place} {used : List (List ℕ)} {cells points : ℕ} → GoodModel m → ComeTo m rooms before x used cells points → RunsTo x used cells points
   unfolding startOf
-  come-run laws good k =
-      let r = reached-lead m rooms own laws good (k .reached) stand (k .room) in
+  come-run good k =
+      let r = reached-lead m rooms own good (k .reached) stand (k .room) in
       let s = steps-run m rooms own before (startOf m) (r .due) (r .content) (r .goes) in
       record {
         state = s .final;
@@ -115,18 +117,18 @@ module _ (m : Model) (rooms : Rooms) (own : List ℕ) (before : List (List ℕ))
         pointCells = rw (s .content) (r .pointCells);
       }
 
-  module _ {x : Place} {used : List (List ℕ)} {cells points : ℕ} (laws : StepLaws) (good : GoodModel m) (k : ComeTo m rooms before x used cells points) (r : RunsTo x used cells points) (l : List ℕ) where
+  module _ {x : Place} {used : List (List ℕ)} {cells points : ℕ} (good : GoodModel m) (k : ComeTo m rooms before x used cells points) (r : RunsTo x used cells points) (l : List ℕ) where
     -- a line with a reason is refused for it
     pub reason-refuses : (n field : ℕ) → Reason m used x (lineBehind before l) n field → stepOf m rooms own l (r .state) ≡ no n field
     reason-refuses n field why =
         let s = r .state in
-        step-behind l s (r .runs) ∙ laws .reasoned m rooms own used (s .due) (s .content) x (lineBehind before l) good (r .stands .at) (r .stands .names) n field why
+        step-behind l s (r .runs) ∙ reasoned m rooms own used (s .due) (s .content) x (lineBehind before l) good (r .stands .at) (r .stands .names) n field why
 
     -- and one that may follow, without room, is refused with 16
     pub full-refuses : (y : Place) (g : Gain) → Follows m used x (lineBehind before l) y g → (Within rooms (usedWith g used) (cellsWith g cells) (pointsWith g points) → ⊥) → stepOf m rooms own l (r .state) ≡ no 16 0
     full-refuses y g f full =
         let s = r .state in
-        step-behind l s (r .runs) ∙ by (laws .followed m rooms own used (s .due) (s .content) x (lineBehind before l) good (r .stands .at) (r .stands .names) y g f)
+        step-behind l s (r .runs) ∙ by (followed m rooms own used (s .due) (s .content) x (lineBehind before l) good (r .stands .at) (r .stands .names) y g f)
       where
         room : Within rooms used (length (r .state .content .cells)) (length (r .state .content .points))
         room = rw (r .cellCount, r .pointCells) (k .room)

@@ -1,16 +1,16 @@
--- Where lines have come to: they are read, with room, exactly where each may follow the ones before it.
-use Prim.Native.Nat.{ℕ, _+_}
+-- Where lines have come to: they are read, with room, exactly where each may follow the ones before it. Assumes nothing.
+use Prim.Native.Nat.{ℕ}
 use native.Mathlib.Omega.{arith}
-use mathlib.Core.Path.{_≡_, refl, sym, ap, subst, _∙_}
+use mathlib.Core.Path.{_≡_, refl, sym, _∙_}
 use mathlib.Core.List.{List, [], _∷_, _++_, append-assoc, append-nil}
 use lib.ListN.{length, length-append}
 use Rattle.meaning.specs.Model.{Model}
 use Rattle.meaning.specs.Check.{GoodModel}
 use Rattle.meaning.specs.Field.{fieldsOf}
 use Rattle.meaning.specs.Reading.{Due, opening, Content, nothingRead, Rooms, objectsOf}
-use Rattle.meaning.specs.Lines.{go, no}
+use Rattle.meaning.specs.Lines.{go}
 use Rattle.meaning.specs.Right.{Line}
-use Rattle.meaning.specs.Reasons.{Place, start, Gain, nothing, object, point, Follows, Reason, usedWith, cellsWith, pointsWith, Reached, Within}
+use Rattle.meaning.specs.Reasons.{Place, start, Gain, nothing, object, point, Follows, usedWith, cellsWith, pointsWith, Reached, Within}
 use Rattle.meaning.specs.Reasons as reasons
 use Rattle.meaning.proofs.Reading.Stretches.{AllStand}
 use Rattle.meaning.proofs.Reading.PointsRead.{told-of}
@@ -18,17 +18,11 @@ use Rattle.meaning.proofs.Right.Steps.{stepAt, steps, step-on, steps-on
 use Rattle.meaning.proofs.Right.Places.{At, atStart, identificationsIn, UsedIn, Effect, Goes, on, stops}
 use Rattle.meaning.proofs.Right.Objects.{LinesStand, stand-left, stand-right}
 use Rattle.meaning.proofs.Right.StepLines.{went}
+use Rattle.meaning.proofs.Right.Followed.{followed}
 use Rattle.meaning.proofs.Right.Kept.{Kept, kept-step, used-on, cells-on, points-on}
 
--- what is said of a line, and its step
-pub record StepLaws : Type 0 where
-  pub reasoned : (m : Model) (rooms : Rooms) (own : List ℕ) (used : List (List ℕ)) (due : Due) (c : Content) (x : Place) (l : Line) → GoodModel m → At due x → UsedIn own c used → (n k : ℕ) → Reason m used x l n k
-      → stepAt m rooms own due c l ≡ no n k
-  pub followed : (m : Model) (rooms : Rooms) (own : List ℕ) (used : List (List ℕ)) (due : Due) (c : Content) (x : Place) (l : Line) → GoodModel m → At due x → UsedIn own c used → (y : Place) (g : Gain) → Follows m used x l y g
-      → Goes m rooms own used due c x l y g
-
 -- there is room for what was there before
-pub room-before : (rooms : Rooms) (g : Gain) (used : List (List ℕ)) (cells points : ℕ) → Within rooms (usedWith g used) (cellsWith g cells) (pointsWith g points) → Within rooms used cells points
+room-before : (rooms : Rooms) (g : Gain) (used : List (List ℕ)) (cells points : ℕ) → Within rooms (usedWith g used) (cellsWith g cells) (pointsWith g points) → Within rooms used cells points
 unfolding usedWith cellsWith pointsWith
 room-before rooms nothing used cells points r = r
 room-before rooms (object i n) used cells points r =
@@ -103,11 +97,11 @@ module _ (m : Model) (rooms : Rooms) (own : List ℕ) where
     pub cellCount : length (content .cells) ≡ cells
     pub pointCells : length (content .points) ≡ points
 
-  lead-on : StepLaws → {ls : List Line} {x y : Place} {used : List (List ℕ)} {cells points : ℕ} {g : Gain} (l : Line) → GoodModel m → LeadTo ls x used cells points → AllStand own (fieldsOf (l .start) (l .bytes)) → Follows m used x l y g
+  lead-on : {ls : List Line} {x y : Place} {used : List (List ℕ)} {cells points : ℕ} {g : Gain} (l : Line) → GoodModel m → LeadTo ls x used cells points → AllStand own (fieldsOf (l .start) (l .bytes)) → Follows m used x l y g
       → Within rooms (usedWith g used) (cellsWith g cells) (pointsWith g points) → LeadTo (ls ++ (l ∷ [])) y (usedWith g used) (cellsWith g cells) (pointsWith g points)
   unfolding steps
-  lead-on laws {ls = ls} {x = x} {y = y} {used = used} {cells = cells} {points = points} {g = g} l good k stand f room =
-      by (laws .followed m rooms own used (k .due) (k .content) x l good (k .stands .at) (k .stands .names) y g f)
+  lead-on {ls = ls} {x = x} {y = y} {used = used} {cells = cells} {points = points} {g = g} l good k stand f room =
+      by (followed m rooms own used (k .due) (k .content) x l good (k .stands .at) (k .stands .names) y g f)
     where
       by : Goes m rooms own used (k .due) (k .content) x l y g → LeadTo (ls ++ (l ∷ [])) y (usedWith g used) (cellsWith g cells) (pointsWith g points)
       by (stops e full) = absurd (full (rw (k .cellCount, k .pointCells) room))
@@ -120,8 +114,8 @@ module _ (m : Model) (rooms : Rooms) (own : List ℕ) where
         pointCells = points-on effect ∙ rw (k .pointCells);
       }
 
-  pub reached-lead : StepLaws → GoodModel m → {ls : List Line} {x : Place} {used : List (List ℕ)} {cells points : ℕ} → Reached m ls x used cells points → LinesStand own ls → Within rooms used cells points → LeadTo ls x used cells points
+  pub reached-lead : GoodModel m → {ls : List Line} {x : Place} {used : List (List ℕ)} {cells points : ℕ} → Reached m ls x used cells points → LinesStand own ls → Within rooms used cells points → LeadTo ls x used cells points
   unfolding steps nothingRead
-  reached-lead laws good reasons.Reached.none h room = record { due = opening; content = nothingRead m; goes = refl; stands = none-stand; cellCount = refl; pointCells = refl }
-  reached-lead laws good (reasons.Reached.more {ls = ls} {l = l} {used = used} {cells = cells} {points = points} {g = g} r f) h room =
-      lead-on laws l good (reached-lead laws good r (stand-left own ls (l ∷ []) h) (room-before rooms g used cells points room)) (stand-right own ls (l ∷ []) h .0) f room
+  reached-lead good reasons.Reached.none h room = record { due = opening; content = nothingRead m; goes = refl; stands = none-stand; cellCount = refl; pointCells = refl }
+  reached-lead good (reasons.Reached.more {ls = ls} {l = l} {used = used} {cells = cells} {points = points} {g = g} r f) h room =
+      lead-on l good (reached-lead good r (stand-left own ls (l ∷ []) h) (room-before rooms g used cells points room)) (stand-right own ls (l ∷ []) h .0) f room

@@ -1,27 +1,27 @@
--- Lines that may follow one another to the end are right, references aside, and the other way round.
-use Prim.Native.Nat.{ℕ, _+_}
+-- Lines that may follow one another to the end are right, references aside, and the other way round. Assumes nothing.
+use Prim.Native.Nat.{ℕ}
 use native.Mathlib.Omega.{arith}
-use mathlib.Core.Path.{_≡_, refl, sym, ap, subst, _∙_}
+use mathlib.Core.Path.{_≡_, refl, sym, ap, _∙_}
 use mathlib.Core.List.{List, [], _∷_}
 use lib.ListN.{length}
 use Rattle.meaning.specs.Unfold.{unfoldedText}
 use Rattle.meaning.specs.Model.{Model}
 use Rattle.meaning.specs.Check.{GoodModel}
 use Rattle.meaning.specs.Reading.{Due, opening, nothing, isComplete, Content, nothingRead, startOf, Rooms, objectsOf}
-use Rattle.meaning.specs.Lines.{Step, go}
-use Rattle.meaning.specs.Right.{Delivered, DeliveredTopic, objectsOfTopics, withStarts, File, Unique, namesOf, pointsOf, cellsOfPoints, tableOf}
-use Rattle.meaning.specs.Reasons.{Place, end, Reached, Within}
+use Rattle.meaning.specs.Lines.{go}
+use Rattle.meaning.specs.Right.{Delivered, DeliveredTopic, objectsOfTopics, withStarts, File, namesOf, pointsOf, cellsOfPoints, tableOf}
+use Rattle.meaning.specs.Reasons.{end, Reached}
 use Rattle.meaning.specs.RightClaims.{identificationsOf, Complete}
 use Rattle.meaning.proofs.Reading.References.{flatRows, rowStarts}
-use Rattle.meaning.proofs.Right.Steps.{steps, RanTo, run-steps}
-use Rattle.meaning.proofs.Right.Content.{rowsFrom, contentOf, cells-length, AllNamesStand, objects-names}
-use Rattle.meaning.proofs.Right.Objects.{LinesStand, lines-stand, RoomFor, read-names}
+use Rattle.meaning.proofs.Right.Steps.{steps, run-steps}
+use Rattle.meaning.proofs.Right.Content.{rowsFrom, contentOf, cells-length, objects-names}
+use Rattle.meaning.proofs.Right.Objects.{LinesStand, lines-stand, read-names}
 use Rattle.meaning.proofs.Right.Topics.{file-read}
 use Rattle.meaning.proofs.Right.Table.{lines-read}
 use Rattle.meaning.proofs.Right.BackTopics.{FileOf, file-of}
 use Rattle.meaning.proofs.Right.Accepted.{noMarks}
 use Rattle.meaning.proofs.Right.Places.{identificationsIn, UsedIn}
-use Rattle.meaning.proofs.Right.Come.{StepLaws, Come, lines-come, LeadTo, reached-lead}
+use Rattle.meaning.proofs.Right.Come.{lines-come, LeadTo, reached-lead}
 use Rattle.meaning.proofs.Right.Behind.{at-end, due-nothing}
 
 -- ## What a content says of what it is the table of
@@ -72,10 +72,10 @@ module _ (m : Model) (ls : List (List ℕ)) where
           pointCells = sym (point-cells m (f .ds)) ∙ (ap (λ (c : Content). length (c .points)) (f .same) ∙ k .pointCells);
         }
 
-    pub reached-complete : StepLaws → Reached m (withStarts 0 ls) end used cells points → Complete m ls used cells points
+    pub reached-complete : Reached m (withStarts 0 ls) end used cells points → Complete m ls used cells points
     unfolding nothingRead rowsFrom flatRows rowStarts pointsOf cellsOfPoints
-    reached-complete laws r =
-        let k = reached-lead m rooms own laws good r stand (record { forRows = omega arith; forCells = omega arith; forPoints = omega arith }) in
+    reached-complete r =
+        let k = reached-lead m rooms own good r stand (record { forRows = omega arith; forCells = omega arith; forPoints = omega arith }) in
         complete-of k (file-of m rooms own (k .content) (noMarks m) (withStarts 0 ls) stand (k .goes ∙ ap (λ (d : Due). go d (k .content)) (due-nothing (k .stands .at) refl)))
 
     -- ## And back

@@ -1,9 +1,9 @@
--- The first refusal in the fixed order: a refusal is the first one, and the first one is given.
+-- The first refusal in the fixed order: a refusal is the first one, and the first one is given. Assumes nothing.
 use Prim.Native.Nat.{ℕ, _+_, _<_}
 use native.Mathlib.Omega.{arith}
 use mathlib.Core.Path.{_≡_, refl, sym, ap, subst, _∙_}
 use mathlib.Core.Bool.{Bool, true, false, _||_, true≢false}
-use mathlib.Core.List.{List, [], _∷_, _++_}
+use mathlib.Core.List.{List, _∷_, _++_}
 use lib.Dec.{ltb}
 use lib.ListN.{length}
 use borrow.Author.Tests.{ltb-true, ltb-false, le-ltb, lt-ltb}
@@ -34,7 +34,7 @@ use Rattle.meaning.proofs.Right.BackTopics.{FileOf}
 use Rattle.meaning.proofs.Right.Accepted.{noMarks, lines-right, enough-of, references-read, content-is}
 use Rattle.meaning.proofs.Right.Runs.{StoppedAt, stopped-at, passed-then, stopped-lines, missing-lines, complete-lines, LinesCame, stopsAt, lacks, passes, lines-came}
 use Rattle.meaning.proofs.Right.Places.{At, Refused, reason, full}
-use Rattle.meaning.proofs.Right.Come.{StepLaws, Come}
+use Rattle.meaning.proofs.Right.Come.{Come}
 use Rattle.meaning.proofs.Right.Behind.{before-stand, at-end, due-nothing, run-come, line-refused, come-run, reason-refuses, full-refuses}
 
 -- ## One first reference that names no object
@@ -102,7 +102,7 @@ unnamed m rooms own marks os c object field (firstUnnamed a b f′ h) e f =
     let there : resolve m own c ≡ unresolved object field = ap (λ (x : Content). resolve m own x) e ∙ (h ∙ (ap (λ (x : ℕ). unresolved x b) (q .0) ∙ ap (λ (x : ℕ). unresolved object x) (q .1))) in
     rw there
 
-module _ (laws : StepLaws) (model file : List ℕ) (rooms : Rooms) where
+module _ (model file : List ℕ) (rooms : Rooms) where
   -- ## The first one is given
 
   -- a line that is refused behind lines that passed
@@ -119,7 +119,7 @@ module _ (laws : StepLaws) (model file : List ℕ) (rooms : Rooms) where
   unfolding readRun startOf
   missing-given m ls {x = x} o room k other =
       let own : List ℕ = unfoldedText ls in
-      let r = come-run m rooms own ls (lines-stand own 0 ls refl) laws (models.checked-good model m (o .isGood)) k in
+      let r = come-run m rooms own ls (lines-stand own 0 ls refl) (models.checked-good model m (o .isGood)) k in
       read-opened model file rooms m ls o room _ (missing-lines m rooms own (startOf m) (r .state) ls (r .runs) (by (r .state .due) (r .stands .at) _ refl))
     where
       by : (due : Due) → At due x → (b : Bool) → isComplete due ≡ b → isComplete due ≡ false
@@ -146,14 +146,14 @@ module _ (laws : StepLaws) (model file : List ℕ) (rooms : Rooms) where
       let good = models.checked-good model m (o .isGood) in
       let own : List ℕ = unfoldedText (before ++ (l ∷ after)) in
       let stand = before-stand before (l ∷ after) in
-      let r = come-run m rooms own before stand laws good k in
-      refused-given m before l after (r .state) number field o room (r .runs) (reason-refuses m rooms own before stand laws good k r l number field why)
+      let r = come-run m rooms own before stand good k in
+      refused-given m before l after (r .state) number field o room (r .runs) (reason-refuses m rooms own before stand good k r l number field why)
   first-is-refusal (fullLine {m = m} {y = y} {g = g} before l after o room k f no-space) =
       let good = models.checked-good model m (o .isGood) in
       let own : List ℕ = unfoldedText (before ++ (l ∷ after)) in
       let stand = before-stand before (l ∷ after) in
-      let r = come-run m rooms own before stand laws good k in
-      refused-given m before l after (r .state) 16 0 o room (r .runs) (full-refuses m rooms own before stand laws good k r l y g f no-space)
+      let r = come-run m rooms own before stand good k in
+      refused-given m before l after (r .state) 16 0 o room (r .runs) (full-refuses m rooms own before stand good k r l y g f no-space)
   first-is-refusal (lineMissing {m = m} {ls = ls} o room k other) = missing-given m ls o room k other
   first-is-refusal (objectMissing {m = m} {ls = ls} {ds = ds} {object = object} {field = field} o structure unique enough f) = object-given m ls ds object field o structure unique enough f
 

@@ -1,7 +1,7 @@
 -- The identifications of a content as lines join it: the three first cells of a row are never written again. Assumes nothing.
 use Prim.Native.Nat.{ℕ, _+_, _-_, _≤_}
 use native.Mathlib.Omega.{arith}
-use mathlib.Core.Path.{_≡_, refl, sym, ap, subst, _∙_}
+use mathlib.Core.Path.{_≡_, refl, sym, ap, _∙_}
 use mathlib.Core.List.{List, [], _∷_, _++_}
 use lib.IntN.{ℤ, pos}
 use lib.ListN.{length, getD, set, length-append, length-set, List·getD-append}
@@ -19,6 +19,7 @@ use Rattle.meaning.proofs.Reading.Stretches.{AllStand}
 use Rattle.meaning.proofs.Reading.PointsRead.{LineStep, skip, finish, adds, line-step}
 use Rattle.meaning.proofs.Right.Steps.{stepAt}
 use Rattle.meaning.proofs.Right.Places.{identificationsIn, UsedIn, Effect, marked, drawn, stored, pointed}
+use Rattle.meaning.proofs.Right.StepNames.{used-length}
 use Rattle.meaning.proofs.Right.BackLines.{FrameStep, scnt, described, ends, mtid, modl, ende, TopicStep, emod, topi, TableStep, etop, tabl, ObjectStep, etab, obje, opening-step, description-step, transfer-step, model-step, closing-step, topic-step, table-step, object-step}
 
 -- ## Rows whose first cells stay
@@ -61,11 +62,6 @@ module _ (own : List ℕ) where
   object-last cs xs t start size =
       let row : List ℤ = pos t ∷ pos start ∷ pos size ∷ xs in
       rw (getD-append-seam cs (pos t) (pos start ∷ pos size ∷ xs) (pos 0), getD-append-add cs row 1 (pos 0), getD-append-add cs row 2 (pos 0))
-
-  pub objects-length : (cs : List ℤ) (rows : List ℕ) → length (objectsOf own cs rows) ≡ length rows
-  unfolding objectsOf
-  objects-length cs [] = refl
-  objects-length cs (row ∷ rows) = rw (objects-length cs rows)
 
 -- ## Where lines are written
 
@@ -206,15 +202,6 @@ unfolding identificationsIn
 identifications-append [] ds = refl
 identifications-append (o ∷ os) ds = rw (identifications-append os ds)
 
-pub identifications-length : (os : List Object) → length (identificationsIn os) ≡ length os
-unfolding identificationsIn
-identifications-length [] = refl
-identifications-length (o ∷ os) = rw (identifications-length os)
-
--- so many are used as there are rows
-pub used-length : (own : List ℕ) (c : Content) (used : List (List ℕ)) → UsedIn own c used → length used ≡ length (c .rows)
-used-length own c used h = ap length (sym h) ∙ (identifications-length (objectsOf own (c .cells) (c .rows)) ∙ objects-length own (c .cells) (c .rows))
-
 -- a line that adds an object has its identification
 gain-field : (m : Model) (used : List (List ℕ)) {x y : Place} {l : Line} {g : Gain} → Follows m used x l y g → (b : List ℕ) (n : ℕ) → g ≡ object b n → (i : Field) (fs : List Field) → Coded OBJE l (i ∷ fs) → i .bytes ≡ b
 gain-field m used (reasons.Follows.bare h a) b n e i fs k = absurd (let z : _≡_ {A = ℕ} 0 1 = cc in omega arith)
@@ -228,32 +215,34 @@ gain-field m used (reasons.Follows.obje {i = j} {fs = gs} h ident fresh right) b
     ap (λ (f : Field). f .bytes) alike ∙ bytes
 gain-field m used (reasons.Follows.pointed h a) b n e i fs k = absurd (let z : _≡_ {A = ℕ} 0 1 = cc in omega arith)
 
-module _ (m : Model) (own : List ℕ) (used : List (List ℕ)) (c b : Content) (l : Line) where
+module _ (m : Model) (own : List ℕ) (used : List (List ℕ)) (c b : Content) (l : Line) (k : UsedIn own c used) where
+  stayed-used : objectsOf own (b .cells) (b .rows) ≡ objectsOf own (c .cells) (c .rows) → UsedIn own b used
+  stayed-used h = rw h k
+
+  joined-used : (o : Object) → objectsOf own (b .cells) (b .rows) ≡ objectsOf own (c .cells) (c .rows) ++ (o ∷ []) → UsedIn own b (used ++ (o .identification ∷ []))
+  unfolding identificationsIn
+  joined-used o h = ap identificationsIn h ∙ (identifications-append (objectsOf own (c .cells) (c .rows)) (o ∷ []) ∙ rw k)
+
   -- no object joins where there are as many rows
-  none-joined : b .rows ≡ c .rows → Named own l c b → UsedIn own c used → UsedIn own b used
-  none-joined e (stayed h) k = rw h k
-  none-joined e (joined t i fs coded h) k =
-      let o : Object = record { table = t; identification = i .bytes } in
-      let size = sym (objects-length own (b .cells) (b .rows)) ∙ (ap length h ∙ length-append (objectsOf own (c .cells) (c .rows)) (o ∷ [])) in
-      absurd (omega (arith, size, ap length e, objects-length own (c .cells) (c .rows)))
+  none-joined : b .rows ≡ c .rows → Named own l c b → UsedIn own b used
+  none-joined e (stayed h) = stayed-used h
+  none-joined e (joined t i fs coded h) =
+      let more = used-length own b (used ++ (i .bytes ∷ [])) (joined-used _ h) in
+      absurd (omega (arith, more, used-length own c used k, ap length e, length-append used (i .bytes ∷ [])))
 
   -- and one does where there is a row more
-  one-joined : {x y : Place} (i : List ℕ) (n row : ℕ) → Follows m used x l y (object i n) → b .rows ≡ c .rows ++ (row ∷ []) → Named own l c b → UsedIn own c used → UsedIn own b (used ++ (i ∷ []))
-  unfolding identificationsIn
-  one-joined i n row f e (stayed h) k =
-      let size = sym (objects-length own (b .cells) (b .rows)) ∙ (ap length h ∙ objects-length own (c .cells) (c .rows)) in
-      absurd (omega (arith, size, ap length e, length-append (c .rows) (row ∷ [])))
-  one-joined i n row f e (joined t j fs coded h) k =
-      let o : Object = record { table = t; identification = j .bytes } in
-      ap identificationsIn h
-      ∙ (identifications-append (objectsOf own (c .cells) (c .rows)) (o ∷ []) ∙ rw (k, gain-field m used f i n refl j fs coded))
+  one-joined : {x y : Place} (i : List ℕ) (n row : ℕ) → Follows m used x l y (object i n) → b .rows ≡ c .rows ++ (row ∷ []) → Named own l c b → UsedIn own b (used ++ (i ∷ []))
+  one-joined i n row f e (stayed h) =
+      let same = used-length own b used (stayed-used h) in
+      absurd (omega (arith, same, used-length own c used k, ap length e, length-append (c .rows) (row ∷ [])))
+  one-joined i n row f e (joined t j fs coded h) = rw (gain-field m used f i n refl j fs coded) at (joined-used _ h)
 
 pub used-on : (m : Model) (own : List ℕ) (used : List (List ℕ)) {c b : Content} {x y : Place} {l : Line} {g : Gain} → Follows m used x l y g → Effect g c b → Named own l c b → UsedIn own c used → UsedIn own b (usedWith g used)
 unfolding usedWith withLine
-used-on m own used {c = c} {b = b} {l = l} f (marked r e p) h k = none-joined m own used c b l r h k
-used-on m own used {c = c} {b = b} {l = l} f (drawn w) h k = none-joined m own used c b l refl h k
-used-on m own used {c = c} {b = b} {l = l} f (stored t i xs) h k = one-joined m own used c b l (i .bytes) (3 + length xs) (length (c .cells)) f refl h k
-used-on m own used {c = c} {b = b} {l = l} f (pointed four e) h k = none-joined m own used c b l refl h k
+used-on m own used {c = c} {b = b} {l = l} f (marked r e p) h k = none-joined m own used c b l k r h
+used-on m own used {c = c} {b = b} {l = l} f (drawn w) h k = none-joined m own used c b l k refl h
+used-on m own used {c = c} {b = b} {l = l} f (stored t i xs) h k = one-joined m own used c b l k (i .bytes) (3 + length xs) (length (c .cells)) f refl h
+used-on m own used {c = c} {b = b} {l = l} f (pointed four e) h k = none-joined m own used c b l k refl h
 
 -- ## Counts
 
