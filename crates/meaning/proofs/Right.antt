@@ -23,6 +23,11 @@ pub mod StepFields
 pub mod StepNames
 pub mod StepLines
 pub mod Rooms
+pub mod Runs
+pub mod Kept
+pub mod Come
+pub mod Behind
 pub mod Accepted
+pub mod Complete
 pub mod First
 pub mod Claims
