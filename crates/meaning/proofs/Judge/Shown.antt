@@ -2,7 +2,7 @@
 use Prim.Native.Nat.{ℕ, _+_, _-_, _≤_}
 use native.Mathlib.Omega.{arith}
 use mathlib.Core.Path.{_≡_, refl, sym, ap, subst, _∙_}
-use mathlib.Core.Bool.{Bool, true, false, not, _&&_, true≢false}
+use mathlib.Core.Bool.{Bool, true, false, not, _&&_}
 use mathlib.Core.List.{List}
 use lib.Dec.{eqb}
 use lib.IntN.{ℤ, pos, natAbs}
@@ -138,8 +138,7 @@ identification-shows text cs row h e =
 -- a pair of no text
 cells-inside : (t : Bool) (x : Shown) (a b : ℤ) → t ≡ false → Inside (choose t x (ofCells a b))
 unfolding choose
-cells-inside true x a b e = absurd (true≢false e)
-cells-inside false x a b e = tt
+cells-inside t x a b e = rw e tt
 
 word-inside : (text : List ℕ) (o : Bool) (longest : ℕ) (b : ℤ) (f : List ℕ) → Solid f → stretchBytes text b (length f) ≡ f
     → Inside (choose (hasStart (OfAttribute o (Text longest)) (pos (1 + length f))) (shownStretch text b 1 (pos (1 + length f))) (ofCells (pos (1 + length f)) b))
