@@ -1,4 +1,6 @@
 pub mod Valid
+pub mod SameTables
+pub mod Shown
 pub mod EqualTables
 pub mod Unwritable
 pub mod Cells

@@ -2,8 +2,8 @@
 -- Short names: m the model, c a table's content, cs its cells, ps the pairs that are left.
 use Prim.Native.Nat.{ℕ, _+_, _-_}
 use mathlib.Core.Bool.{Bool, true, false, not, _&&_}
-use mathlib.Core.List.{List, [], _∷_, _++_}
-use lib.Dec.{eqb}
+use mathlib.Core.List.{List, [], _∷_}
+use lib.Dec.{leb, eqb}
 use lib.IntN.{ℤ, pos, natAbs}
 use lib.Signed.{ltZ}
 use lib.ListN.{length, drop, getD}
@@ -12,12 +12,32 @@ use Rattle.meaning.specs.Unfold.{unfoldedText}
 use Rattle.meaning.specs.Model.{AttributeType, Reference, Coordinate, Number, Text, Date, Enumeration, Line}
 use Rattle.meaning.specs.Model.{Model, tableAt}
 use Rattle.meaning.specs.Row.{Pair, OfAttribute, OfComponent, OfLine, pairsOf}
-use Rattle.meaning.specs.Reading.{Content, startOf, Rooms, cellAt}
+use Rattle.meaning.specs.Reading.{Content, startOf, Rooms, stretch, cellAt}
 use Rattle.meaning.specs.Lines.{Run, ran, stopped, readLines}
 use Rattle.meaning.specs.Table.{Resolved, resolved, unresolved, resolve}
-use Rattle.meaning.specs.Writing.{Lent, countsFit, contentOf, stretchBytes, identificationBytes, linesOf}
+use Rattle.meaning.specs.Writing.{Lent, countsFit, contentOf, linesOf}
 
--- ## Tables without the starts of their texts
+-- ## A table as objects, the starts of their texts aside
+
+-- what a table shows:
+--   ofCells   two cells of a pair: undefined, a value, the object of a reference, a line's count and first point
+--   ofBytes   the bytes of a text or of an identification
+--   outside   a stretch outside the text, which shows nothing
+pub data Shown : Type 0 where
+  ofCells : (a b : ℤ) → Shown
+  ofBytes : List ℕ → Shown
+  outside : Shown
+
+-- does a stretch of so many bytes lie in the text?
+unfoldable pub isWithin : (text : List ℕ) (start : ℤ) (size : ℕ) → Bool
+isWithin text start size = not (ltZ start (pos 0)) && leb (natAbs start + size) (length text)
+
+-- "a stretch outside the lent text is 19": the stretch from this start on, where a cell says its length plus `more`:
+-- 1 for a text, 0 for an identification
+unfoldable pub shownStretch : (text : List ℕ) (start : ℤ) (more : ℕ) (cell : ℤ) → Shown
+shownStretch text start more cell =
+    let size : ℕ = natAbs cell - more in
+    choose (not (ltZ cell (pos more)) && isWithin text start size) (ofBytes (stretch text (natAbs start) size)) outside
 
 unfoldable pub isText : AttributeType → Bool
 isText (Reference t) = false
@@ -34,34 +54,27 @@ hasStart (OfAttribute o type) a = isText type && not (eqb (natAbs a) 0)
 hasStart (OfComponent c) a = false
 hasStart (OfLine o forms cs) a = false
 
--- "ignores .. the starts of texts and identifications": 0 in their place. The pair 4 54 of a text is 4 0, the row 0 51
--- 2 .. is 0 0 2 ..
-unfoldable pub pairsWithoutStarts : List Pair → List ℤ → List ℤ
-pairsWithoutStarts [] cs = []
-pairsWithoutStarts (p ∷ ps) cs =
+-- a row's pairs, whose cells are cs
+unfoldable pub shownPairs : (text : List ℕ) → List Pair → List ℤ → List Shown
+shownPairs text [] cs = []
+shownPairs text (p ∷ ps) cs =
     let a : ℤ = getD cs 0 (pos 0) in
-    a ∷ choose (hasStart p a) (pos 0) (getD cs 1 (pos 0)) ∷ pairsWithoutStarts ps (drop 2 cs)
+    let b : ℤ = getD cs 1 (pos 0) in
+    choose (hasStart p a) (shownStretch text b 1 a) (ofCells a b) ∷ shownPairs text ps (drop 2 cs)
 
-unfoldable pub cellsWithoutStarts : Model → List ℤ → (rows : List ℕ) → List ℤ
-cellsWithoutStarts m cs [] = []
-cellsWithoutStarts m cs (row ∷ rows) =
-    (getD cs row (pos 0) ∷ pos 0 ∷ getD cs (row + 2) (pos 0)
-    ∷ pairsWithoutStarts (pairsOf (tableAt (m .tables) (cellAt cs row) .attributes)) (drop (row + 3) cs))
-    ++ cellsWithoutStarts m cs rows
+-- an object: its table, its identification and its pairs
+pub record ShownObject : Type 0 where
+  pub table : ℤ
+  pub identification : Shown
+  pub pairs : List Shown
 
--- and the bytes that stand there: of each object its identification and its texts
-unfoldable pub pairTexts : (text : List ℕ) → List Pair → List ℤ → List (List ℕ)
-pairTexts text [] cs = []
-pairTexts text (p ∷ ps) cs =
-    let a : ℤ = getD cs 0 (pos 0) in
-    choose (hasStart p a) (stretchBytes text (getD cs 1 (pos 0)) (natAbs a - 1)) [] ∷ pairTexts text ps (drop 2 cs)
-
-unfoldable pub textsOf : Model → (text : List ℕ) → List ℤ → (rows : List ℕ) → List (List ℕ)
-textsOf m text cs [] = []
-textsOf m text cs (row ∷ rows) =
-    (identificationBytes text cs row
-    ∷ pairTexts text (pairsOf (tableAt (m .tables) (cellAt cs row) .attributes)) (drop (row + 3) cs))
-    ++ textsOf m text cs rows
+unfoldable pub shownObjects : Model → (text : List ℕ) → List ℤ → (rows : List ℕ) → List ShownObject
+shownObjects m text cs [] = []
+shownObjects m text cs (row ∷ rows) = record {
+  table = getD cs row (pos 0);
+  identification = shownStretch text (getD cs (row + 1) (pos 0)) 0 (getD cs (row + 2) (pos 0));
+  pairs = shownPairs text (pairsOf (tableAt (m .tables) (cellAt cs row) .attributes)) (drop (row + 3) cs);
+} ∷ shownObjects m text cs rows
 
 -- ## The same table
 
@@ -71,21 +84,41 @@ sameCells [] (b ∷ k) = false
 sameCells (a ∷ l) [] = false
 sameCells (a ∷ l) (b ∷ k) = allOf (not (ltZ a b) ∷ not (ltZ b a) ∷ sameCells l k ∷ [])
 
-unfoldable pub sameTexts : List (List ℕ) → List (List ℕ) → Bool
-sameTexts [] [] = true
-sameTexts [] (b ∷ k) = false
-sameTexts (a ∷ l) [] = false
-sameTexts (a ∷ l) (b ∷ k) = allOf (same a b ∷ sameTexts l k ∷ [])
+-- what lies outside the text is the same as nothing
+unfoldable pub sameShown : Shown → Shown → Bool
+sameShown (ofCells a b) (ofCells a′ b′) = sameCells (a ∷ b ∷ []) (a′ ∷ b′ ∷ [])
+sameShown (ofCells a b) (ofBytes s) = false
+sameShown (ofCells a b) outside = false
+sameShown (ofBytes s) (ofCells a b) = false
+sameShown (ofBytes s) (ofBytes s′) = same s s′
+sameShown (ofBytes s) outside = false
+sameShown outside x = false
 
--- "row list, cells, points and marks must be exactly those of a reading", starts aside; texts and identifications
--- compare by their bytes. text and c are the table that was read, text′ and c′ the one that was lent
+unfoldable pub samePairs : List Shown → List Shown → Bool
+samePairs [] [] = true
+samePairs [] (y ∷ ys) = false
+samePairs (x ∷ xs) [] = false
+samePairs (x ∷ xs) (y ∷ ys) = sameShown x y && samePairs xs ys
+
+unfoldable pub sameObjects : List ShownObject → List ShownObject → Bool
+sameObjects [] [] = true
+sameObjects [] (y ∷ ys) = false
+sameObjects (x ∷ xs) [] = false
+sameObjects (x ∷ xs) (y ∷ ys) = allOf
+    (sameCells (x .table ∷ []) (y .table ∷ [])
+    ∷ sameShown (x .identification) (y .identification)
+    ∷ samePairs (x .pairs) (y .pairs)
+    ∷ sameObjects xs ys
+    ∷ [])
+
+-- "row list, cells, points and marks must be exactly those of a reading"; 19 "ignores .. the starts of texts and
+-- identifications", which compare by their bytes
 unfoldable pub sameTable : Model → (text : List ℕ) → Content → (text′ : List ℕ) → Content → Bool
 sameTable m text c text′ c′ = allOf
     (same (c .marks) (c′ .marks)
     ∷ same (c .rows) (c′ .rows)
     ∷ eqb (length (c .cells)) (length (c′ .cells))
-    ∷ sameCells (cellsWithoutStarts m (c .cells) (c .rows)) (cellsWithoutStarts m (c′ .cells) (c .rows))
-    ∷ sameTexts (textsOf m text (c .cells) (c .rows)) (textsOf m text′ (c′ .cells) (c .rows))
+    ∷ sameObjects (shownObjects m text (c .cells) (c .rows)) (shownObjects m text′ (c′ .cells) (c′ .rows))
     ∷ sameCells (c .points) (c′ .points)
     ∷ [])
 

@@ -18,7 +18,8 @@ use Rattle.meaning.specs.Reading.{Content, Rooms}
 use Rattle.meaning.specs.Table.{Result, acceptedWith, read}
 use Rattle.meaning.specs.Right.{DeliveredTopic, Right, tableOf}
 use Rattle.meaning.specs.Writing.{Lent, countsFit, contentOf, linesOf}
-use Rattle.meaning.specs.Readback.{sameTable, readsAs, isTable}
+use Rattle.meaning.specs.Readback.{Shown, ofCells, ofBytes, outside, ShownObject, shownObjects, sameTable, readsAs}
+use Rattle.meaning.specs.Readback.{isTable}
 use Rattle.meaning.specs.Judge.{judge}
 use Rattle.meaning.specs.Width.{cutLines, write}
 
@@ -58,6 +59,37 @@ NoLinesEither = (model : List ℕ) (m : Model) (t : Lent) → checkModel model �
 -- the judge of a lent table, which reads no lines, says exactly whether the table's own lines read as it
 abbrev pub JudgedExactly : Type 0
 JudgedExactly = (model : List ℕ) (m : Model) (t : Lent) → checkModel model ≡ good m → judge m t ≡ isTable m t
+
+-- ## The same table
+
+-- nothing of these lies outside the text
+abbrev pub Inside : Shown → Type 0
+Inside (ofCells a b) = Unit {0}
+Inside (ofBytes s) = Unit {0}
+Inside outside = ⊥
+
+abbrev pub PairsInside : List Shown → Type 0
+PairsInside [] = Unit {0}
+PairsInside (x ∷ xs) = Inside x × PairsInside xs
+
+abbrev pub ObjectsInside : List ShownObject → Type 0
+ObjectsInside [] = Unit {0}
+ObjectsInside (x ∷ xs) = Inside (x .identification) × PairsInside (x .pairs) × ObjectsInside xs
+
+-- the same marks, row list, count of cells, objects and points
+pub record SameTable (m : Model) (text : List ℕ) (c : Content) (text′ : List ℕ) (c′ : Content) : Type 0 where
+  pub marks : c .marks ≡ c′ .marks
+  pub rows : c .rows ≡ c′ .rows
+  pub cells : length (c .cells) ≡ length (c′ .cells)
+  pub objects : shownObjects m text (c .cells) (c .rows) ≡ shownObjects m text′ (c′ .cells) (c′ .rows)
+  pub inside : ObjectsInside (shownObjects m text (c .cells) (c .rows))
+  pub points : c .points ≡ c′ .points
+
+-- the test of tables is equality of their objects, of which nothing lies outside the text: so it goes both ways and on,
+-- and holds of a table and itself where nothing does
+abbrev pub SameExactly : Type 0
+SameExactly = (m : Model) (text : List ℕ) (c : Content) (text′ : List ℕ) (c′ : Content)
+    → (sameTable m text c text′ c′ ≡ true) ↔ SameTable m text c text′ c′
 
 -- ## What is written, and when: "In writing: 2, 20, 19, 21"
 

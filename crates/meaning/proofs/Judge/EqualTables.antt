@@ -1,135 +1,88 @@
 -- Tables that compare equal are fine together. Assumes nothing.
-use Prim.Native.Nat.{ℕ, suc, _+_, _*_, _-_}
+use Prim.Native.Nat.{ℕ, suc, _+_, _-_}
 use native.Mathlib.Omega.{arith}
-use mathlib.Core.Path.{_≡_, refl, sym, ap, ap₂, subst, _∙_}
-use mathlib.Core.Bool.{Bool, true, false, not, _&&_, false≢true, true≢false}
+use mathlib.Core.Path.{_≡_, refl, sym, ap, subst, _∙_}
+use mathlib.Core.Bool.{Bool, true, false, true≢false}
 use mathlib.Core.List.{List, [], _∷_, _++_}
-use lib.Dec.{eqb}
-use lib.IntN.{ℤ, pos, negsuc, natAbs}
-use lib.Signed.{ltZ}
+use lib.IntN.{ℤ, pos, natAbs}
 use lib.ListN.{length, drop, getD, replicate, length-drop}
-use borrow.Author.Tests.{eqb-true, ne-eqb, not-true, ltb-false}
 use Rattle.meaning.specs.Bytes.{choose}
 use Rattle.meaning.specs.Model.{AttributeType, Reference, Coordinate, Number, Text, Date, Enumeration, Line, found, missing, targetOf, Model, tableAt}
 use Rattle.meaning.specs.Row.{Pair, OfAttribute, OfComponent, OfLine, pairsOf}
 use Rattle.meaning.specs.Reading.{Content, cellAt}
 use Rattle.meaning.specs.Table.{findObject}
 use Rattle.meaning.specs.Writing.{stretchBytes, identificationBytes, typeBytes, rowsOfTable, rowsBehindTable, rowsBehindTopic}
-use Rattle.meaning.specs.Readback.{isText, hasStart, pairsWithoutStarts, cellsWithoutStarts, pairTexts, textsOf, sameCells, sameTexts, sameTable}
+use Rattle.meaning.specs.Readback.{Shown, ofCells, ofBytes, ShownObject, shownStretch, isText, hasStart, shownPairs, shownObjects}
+use Rattle.meaning.specs.WritingClaims.{ObjectsInside, SameTable}
 use Rattle.meaning.proofs.Tests.Unequal.{no-found}
-use Rattle.meaning.proofs.Tests.Refuse.{holds}
-use Rattle.meaning.proofs.Tests.Same.{same-is}
+use Rattle.meaning.proofs.Reading.Fields.{Solid}
 use Rattle.meaning.proofs.Judge.Valid.{RowOk, done, absent, plain, word, name, without, along, noLine, line, lentObjects, ObjectOk, Place, topicsFrom, Rest, finished, topicOut, topicIn, topicEnd, tableOut, tableIn, object, tableEnd, Valid}
+use Rattle.meaning.proofs.Judge.Shown.{no-bytes, no-cells, cells-same, start-zero, start-plain, start-word, start-reference, shows, inside-shows, shown-shows, text-shows, shows-identification}
 use Rattle.meaning.proofs.Reading.RowsRead.{found-at}
 
--- ## Equal cells and texts
-
-same-integer : (a b : ℤ) → not (ltZ a b) ≡ true → not (ltZ b a) ≡ true → a ≡ b
-same-integer (pos a) (pos b) p q = ap pos (omega (arith, ltb-false a b (not-true _ p), ltb-false b a (not-true _ q)))
-same-integer (pos a) (negsuc b) p q = absurd (false≢true q)
-same-integer (negsuc a) (pos b) p q = absurd (false≢true p)
-same-integer (negsuc a) (negsuc b) p q = ap negsuc (omega (arith, ltb-false b a (not-true _ p), ltb-false a b (not-true _ q)))
-
-cells-are : (l k : List ℤ) → sameCells l k ≡ true → l ≡ k
-unfolding sameCells
-cells-are [] [] h = refl
-cells-are [] (b ∷ k) h = absurd (false≢true h)
-cells-are (a ∷ l) [] h = absurd (false≢true h)
-cells-are (a ∷ l) (b ∷ k) h = ap₂ (λ (x : ℤ) (y : List ℤ). x ∷ y) (same-integer a b (holds _ 0 h) (holds _ 1 h)) (cells-are l k (holds _ 2 h))
-
-texts-are : (l k : List (List ℕ)) → sameTexts l k ≡ true → l ≡ k
-unfolding sameTexts
-texts-are [] [] h = refl
-texts-are [] (b ∷ k) h = absurd (false≢true h)
-texts-are (a ∷ l) [] h = absurd (false≢true h)
-texts-are (a ∷ l) (b ∷ k) h = ap₂ (λ (x : List ℕ) (y : List (List ℕ)). x ∷ y) (same-is a b (holds _ 0 h)) (texts-are l k (holds _ 1 h))
+-- ## One pair
 
 pub cons-inv : {A : Type 0} (x y : A) (xs ys : List A) → x ∷ xs ≡ y ∷ ys → (x ≡ y) × (xs ≡ ys)
 cons-inv x y xs ys e = (cc, cc)
 
-append-inv : {A : Type 0} (a b c d : List A) → length a ≡ length b → a ++ c ≡ b ++ d → (a ≡ b) × (c ≡ d)
-append-inv [] [] c d l e = (refl, e)
-append-inv [] (y ∷ b) c d l e = absurd (omega arith)
-append-inv (x ∷ a) [] c d l e = absurd (omega arith)
-append-inv (x ∷ a) (y ∷ b) c d l e =
-    let q = cons-inv x y (a ++ c) (b ++ d) e in
-    let r = append-inv a b c d (omega arith) (q .1) in
-    (ap₂ (λ (h : _) (t : List _). h ∷ t) (q .0) (r .0), r .1)
+module _ (text text′ : List ℕ) (ps : List Pair) (xs ys : List ℤ) where
+  -- the other table's cells ys begin with the pair a b, and the pairs behind it show what those of the cells xs do
+  pub record PairAlike (a b : ℤ) : Type 0 where
+    pub others : List ℤ
+    pub is : ys ≡ a ∷ b ∷ others
+    pub long : length others ≡ length xs
+    pub pairs : shownPairs text ps xs ≡ shownPairs text′ ps others
 
-pairs-length : (ps : List Pair) (cs : List ℤ) → length (pairsWithoutStarts ps cs) ≡ 2 * length ps
-unfolding pairsWithoutStarts
-pairs-length [] cs = refl
-pairs-length (p ∷ ps) cs = let ih = pairs-length ps (drop 2 cs) in omega arith
+  -- the pair of a text that stands elsewhere
+  pub record WordAlike (f : List ℕ) : Type 0 where
+    pub b′ : ℤ
+    pub there : stretchBytes text′ b′ (length f) ≡ f
+    pub pair : PairAlike (pos (1 + length f)) b′
 
-texts-length : (text : List ℕ) (ps : List Pair) (cs : List ℤ) → length (pairTexts text ps cs) ≡ length ps
-unfolding pairTexts
-texts-length text [] cs = refl
-texts-length text (p ∷ ps) cs = let ih = texts-length text ps (drop 2 cs) in omega arith
+-- what a pair shows
+abbrev shownPair : (text : List ℕ) → Pair → (a b : ℤ) → Shown
+shownPair text p a b = choose (hasStart p a) (shownStretch text b 1 a) (ofCells a b)
 
--- ## One pair
-
-pub record PairAlike (text text′ : List ℕ) (p : Pair) (ps : List Pair) (a b : ℤ) (xs ys : List ℤ) : Type 0 where
-  pub b′ : ℤ
-  pub others : List ℤ
-  pub is : ys ≡ a ∷ b′ ∷ others
-  pub second : choose (hasStart p a) (pos 0) b ≡ choose (hasStart p a) (pos 0) b′
-  pub bytes : choose (hasStart p a) (stretchBytes text b (natAbs a - 1)) [] ≡ choose (hasStart p a) (stretchBytes text′ b′ (natAbs a - 1)) []
-  pub long : length others ≡ length xs
-  pub cells : pairsWithoutStarts ps xs ≡ pairsWithoutStarts ps others
-  pub texts : pairTexts text ps xs ≡ pairTexts text′ ps others
-
-pub pair-alike : (text text′ : List ℕ) (p : Pair) (ps : List Pair) (a b : ℤ) (xs ys : List ℤ) → length ys ≡ suc (suc (length xs)) → pairsWithoutStarts (p ∷ ps) (a ∷ b ∷ xs) ≡ pairsWithoutStarts (p ∷ ps) ys
-    → pairTexts text (p ∷ ps) (a ∷ b ∷ xs) ≡ pairTexts text′ (p ∷ ps) ys → PairAlike text text′ p ps a b xs ys
-unfolding pairsWithoutStarts pairTexts
-pair-alike text text′ p ps a b xs [] l e t = absurd (omega arith)
-pair-alike text text′ p ps a b xs (y ∷ []) l e t = absurd (omega arith)
-pair-alike text text′ p ps a b xs (a′ ∷ (b′ ∷ ys)) l e t =
-    let q = cons-inv a a′ _ _ e in
-    let r = cons-inv _ _ _ _ (q .1) in
-    let s = cons-inv _ _ _ _ t in
-    record {
-      b′ = b′;
-      others = ys;
-      is = rw (q .0);
-      second = rw (q .0) (rw (q .0) at (r .0));
-      bytes = rw (q .0) (rw (q .0) at (s .0));
-      long = omega arith;
-      cells = r .1;
-      texts = s .1;
-    }
-
-pub start-zero : (p : Pair) → hasStart p (pos 0) ≡ false
-unfolding hasStart
-start-zero (OfAttribute o type) = by (isText type)
+-- cells that are shown are those of the pair
+cells-shown : (text : List ℕ) (p : Pair) (a b a′ b′ : ℤ) → ofCells a b ≡ shownPair text p a′ b′ → (a ≡ a′) × (b ≡ b′)
+unfolding choose
+cells-shown text p a b a′ b′ e = by (hasStart p a′) e
   where
-    by : (x : Bool) → (x && not (eqb 0 0)) ≡ false
-    by true = refl
-    by false = refl
-start-zero (OfComponent x) = refl
-start-zero (OfLine o forms ks) = refl
+    by : (t : Bool) → ofCells a b ≡ choose t (shownStretch text b′ 1 a′) (ofCells a′ b′) → (a ≡ a′) × (b ≡ b′)
+    by true e = absurd (no-cells text b′ 1 a′ a b e)
+    by false e = cells-same a b a′ b′ e
 
-pub start-plain : (o : Bool) (type : AttributeType) (a : ℤ) → isText type ≡ false → hasStart (OfAttribute o type) a ≡ false
-unfolding hasStart
-start-plain o type a e = rw e
-
-pub start-word : (o : Bool) (longest size : ℕ) → hasStart (OfAttribute o (Text longest)) (pos (1 + size)) ≡ true
-unfolding hasStart isText
-start-word o longest size = rw (ne-eqb (1 + size) 0 (omega arith))
-
-pub reference-start : (o : Bool) (target : ℕ) → hasStart (OfAttribute o (Reference target)) (pos 1) ≡ false
-unfolding hasStart isText
-reference-start o target = refl
-
--- a second cell that is no start is the same
-pub kept : (t : Bool) (b b′ : ℤ) → t ≡ false → choose t (pos 0) b ≡ choose t (pos 0) b′ → b ≡ b′
+-- bytes that are shown are those of a text
+bytes-shown : (text : List ℕ) (p : Pair) (a b : ℤ) (s : List ℕ) → ofBytes s ≡ shownPair text p a b → shownStretch text b 1 a ≡ ofBytes s
 unfolding choose
-kept true b b′ h e = absurd (true≢false h)
-kept false b b′ h e = e
+bytes-shown text p a b s e = by (hasStart p a) e
+  where
+    by : (t : Bool) → ofBytes s ≡ choose t (shownStretch text b 1 a) (ofCells a b) → shownStretch text b 1 a ≡ ofBytes s
+    by true e = sym e
+    by false e = absurd (no-bytes a b s (sym e))
 
-pub taken : (t : Bool) (s s′ : List ℕ) → t ≡ true → choose t s [] ≡ choose t s′ [] → s ≡ s′
-unfolding choose
-taken true s s′ h e = e
-taken false s s′ h e = absurd (false≢true h)
+-- a pair without a start is the same
+pub pair-alike : (text text′ : List ℕ) (p : Pair) (ps : List Pair) (a b : ℤ) (xs ys : List ℤ) → hasStart p a ≡ false → length ys ≡ suc (suc (length xs))
+    → shownPairs text (p ∷ ps) (a ∷ b ∷ xs) ≡ shownPairs text′ (p ∷ ps) ys → PairAlike text text′ ps xs ys a b
+unfolding shownPairs choose
+pair-alike text text′ p ps a b xs [] h l e = absurd (omega arith)
+pair-alike text text′ p ps a b xs (y ∷ []) h l e = absurd (omega arith)
+pair-alike text text′ p ps a b xs (a′ ∷ (b′ ∷ ys)) h l e =
+    let q = cons-inv _ _ _ _ e in
+    let r = cells-shown text′ p a b a′ b′ (rw h at (q .0)) in
+    record { others = ys; is = rw (r .0, r .1); long = omega arith; pairs = q .1 }
+
+-- a text has the same bytes
+pub word-alike : (text text′ : List ℕ) (o : Bool) (longest : ℕ) (ps : List Pair) (f : List ℕ) (b : ℤ) (xs ys : List ℤ) → Solid f → stretchBytes text b (length f) ≡ f → length ys ≡ suc (suc (length xs))
+    → shownPairs text (OfAttribute o (Text longest) ∷ ps) (pos (1 + length f) ∷ b ∷ xs) ≡ shownPairs text′ (OfAttribute o (Text longest) ∷ ps) ys → WordAlike text text′ ps xs ys f
+unfolding shownPairs choose
+word-alike text text′ o longest ps f b xs [] h there l e = absurd (omega arith)
+word-alike text text′ o longest ps f b xs (y ∷ []) h there l e = absurd (omega arith)
+word-alike text text′ o longest ps f b xs (a′ ∷ (b′ ∷ ys)) h there l e =
+    let q = cons-inv _ _ _ _ e in
+    let s = shows text b 1 (pos (1 + length f)) f (text-shows text b 1 (pos (1 + length f)) f h refl there) in
+    let r = shown-shows text′ b′ 1 a′ f (bytes-shown text′ (OfAttribute o (Text longest)) a′ b′ f (rw (start-word o longest (length f), s) at (q .0))) in
+    record { b′ = b′; there = r .bytes; pair = record { others = ys; is = rw (r .says); long = omega arith; pairs = q .1 } }
 
 -- ## A row
 
@@ -146,41 +99,37 @@ module _ (text : List ℕ) (c : Content) (text′ : List ℕ) (c′ : Content) (
   plain-bytes (Line forms ks) a b h g = refl
 
   row-alike : {u : ℕ} {before : Bool} {k k′ : ℕ} {ps : List Pair} {xs : List ℤ} → RowOk u text c before k ps xs k′ → (ys : List ℤ) → length ys ≡ length xs
-      → pairsWithoutStarts ps xs ≡ pairsWithoutStarts ps ys → pairTexts text ps xs ≡ pairTexts text′ ps ys → RowOk u text′ c′ before k ps ys k′
+      → shownPairs text ps xs ≡ shownPairs text′ ps ys → RowOk u text′ c′ before k ps ys k′
   unfolding hasStart
-  row-alike done ys l e t = done
-  row-alike (absent {type = type} {ps = ps} {cs = xs} r) ys l e t =
-      let q = pair-alike text text′ (OfAttribute true type) ps (pos 0) (pos 0) xs ys l e t in
-      rw (q .is, sym (kept _ (pos 0) (q .b′) (start-zero (OfAttribute true type)) (q .second))) (absent (row-alike r (q .others) (q .long) (q .cells) (q .texts)))
-  row-alike (plain {o = o} {type = type} {ps = ps} {a = a} {b = b} {cs = xs} h g z d v r) ys l e t =
-      let q = pair-alike text text′ (OfAttribute o type) ps a b xs ys l e t in
+  row-alike done ys l e = done
+  row-alike (absent {type = type} {ps = ps} {cs = xs} r) ys l e =
+      let q = pair-alike text text′ (OfAttribute true type) ps (pos 0) (pos 0) xs ys (start-zero (OfAttribute true type)) l e in
+      rw (q .is) (absent (row-alike r (q .others) (q .long) (q .pairs)))
+  row-alike (plain {o = o} {type = type} {ps = ps} {a = a} {b = b} {cs = xs} h g z d v r) ys l e =
+      let q = pair-alike text text′ (OfAttribute o type) ps a b xs ys (start-plain o type a h) l e in
       let bytes : typeBytes text c type a b ≡ typeBytes text′ c′ type a b = plain-bytes type a b h g in
-      rw (q .is, sym (kept _ b (q .b′) (start-plain o type a h) (q .second)))
-      (plain h g z (rw bytes at d) (rw bytes at v) (row-alike r (q .others) (q .long) (q .cells) (q .texts)))
-  row-alike (word {o = o} {longest = longest} {ps = ps} {b = b} {cs = xs} f d v s st r) ys l e t =
-      let q = pair-alike text text′ (OfAttribute o (Text longest)) ps (pos (1 + length f)) b xs ys l e t in
-      let z : 1 + length f - 1 ≡ length f = omega arith in
-      let there : stretchBytes text b (length f) ≡ stretchBytes text′ (q .b′) (length f) = rw z at (taken _ _ _ (start-word o longest (length f)) (q .bytes)) in
-      rw (q .is) (word f d v s (sym there ∙ st) (row-alike r (q .others) (q .long) (q .cells) (q .texts)))
-  row-alike (name {o = o} {target = target} {n = n} {ps = ps} {cs = xs} f d v st g r) ys l e t =
-      let q = pair-alike text text′ (OfAttribute o (Reference target)) ps (pos 1) (pos n) xs ys l e t in
+      rw (q .is) (plain h g z (rw bytes at d) (rw bytes at v) (row-alike r (q .others) (q .long) (q .pairs)))
+  row-alike (word {o = o} {longest = longest} {ps = ps} {b = b} {cs = xs} f d v s st r) ys l e =
+      let q = word-alike text text′ o longest ps f b xs ys (d .solid) st l e in
+      rw (q .pair .is) (word f d v s (q .there) (row-alike r (q .pair .others) (q .pair .long) (q .pair .pairs)))
+  row-alike (name {o = o} {target = target} {n = n} {ps = ps} {cs = xs} f d v st g r) ys l e =
+      let q = pair-alike text text′ (OfAttribute o (Reference target)) ps (pos 1) (pos n) xs ys (start-reference o target (pos 1)) l e in
       let g′ : findObject target 0 f (lentObjects text′ (c′ .cells) (c′ .rows)) ≡ found n = rw same-objects at g in
       let y : n - 0 ≡ n = omega arith in
       let at : identificationBytes text′ (c′ .cells) (getD (c′ .rows) n 0) ≡ f = rw y at (found-at text′ (c′ .cells) target 0 f (c′ .rows) n g′ .1) in
-      rw (q .is, sym (kept _ (pos n) (q .b′) (reference-start o target) (q .second))) (name f d v at g′ (row-alike r (q .others) (q .long) (q .cells) (q .texts)))
-  row-alike (without {x = x} {ps = ps} {cs = xs} r) ys l e t =
-      let q = pair-alike text text′ (OfComponent x) ps (pos 0) (pos 0) xs ys l e t in
-      rw (q .is, sym (kept _ (pos 0) (q .b′) refl (q .second))) (without (row-alike r (q .others) (q .long) (q .cells) (q .texts)))
-  row-alike (along {x = x} {ps = ps} {b = b} {cs = xs} w r) ys l e t =
-      let q = pair-alike text text′ (OfComponent x) ps (pos 1) b xs ys l e t in
-      rw (q .is, sym (kept _ b (q .b′) refl (q .second))) (along w (row-alike r (q .others) (q .long) (q .cells) (q .texts)))
-  row-alike (noLine {forms = forms} {ks = ks} {ps = ps} {cs = xs} r) ys l e t =
-      let q = pair-alike text text′ (OfLine true forms ks) ps (pos 0) (pos 0) xs ys l e t in
-      rw (q .is, sym (kept _ (pos 0) (q .b′) refl (q .second))) (noLine (row-alike r (q .others) (q .long) (q .cells) (q .texts)))
-  row-alike (line {o = o} {k = k} {forms = forms} {ks = ks} {ps = ps} {cs = xs} n room p r) ys l e t =
-      let q = pair-alike text text′ (OfLine o forms ks) ps (pos (1 + suc n)) (pos k) xs ys l e t in
-      rw (q .is, sym (kept _ (pos k) (q .b′) refl (q .second)))
-      (line n (rw same-points at room) (rw same-points at p) (row-alike r (q .others) (q .long) (q .cells) (q .texts)))
+      rw (q .is) (name f d v at g′ (row-alike r (q .others) (q .long) (q .pairs)))
+  row-alike (without {x = x} {ps = ps} {cs = xs} r) ys l e =
+      let q = pair-alike text text′ (OfComponent x) ps (pos 0) (pos 0) xs ys refl l e in
+      rw (q .is) (without (row-alike r (q .others) (q .long) (q .pairs)))
+  row-alike (along {x = x} {ps = ps} {b = b} {cs = xs} w r) ys l e =
+      let q = pair-alike text text′ (OfComponent x) ps (pos 1) b xs ys refl l e in
+      rw (q .is) (along w (row-alike r (q .others) (q .long) (q .pairs)))
+  row-alike (noLine {forms = forms} {ks = ks} {ps = ps} {cs = xs} r) ys l e =
+      let q = pair-alike text text′ (OfLine true forms ks) ps (pos 0) (pos 0) xs ys refl l e in
+      rw (q .is) (noLine (row-alike r (q .others) (q .long) (q .pairs)))
+  row-alike (line {o = o} {k = k} {forms = forms} {ks = ks} {ps = ps} {cs = xs} n room p r) ys l e =
+      let q = pair-alike text text′ (OfLine o forms ks) ps (pos (1 + suc n)) (pos k) xs ys refl l e in
+      rw (q .is) (line n (rw same-points at room) (rw same-points at p) (row-alike r (q .others) (q .long) (q .pairs)))
 
 -- ## Rows
 
@@ -192,8 +141,7 @@ module _ (m : Model) (text : List ℕ) (cs : List ℤ) (text′ : List ℕ) (cs�
     pub table : getD cs row (pos 0) ≡ getD cs′ row (pos 0)
     pub size : getD cs (row + 2) (pos 0) ≡ getD cs′ (row + 2) (pos 0)
     pub identification : identificationBytes text cs row ≡ identificationBytes text′ cs′ row
-    pub pairs : pairsWithoutStarts (pairsAt row) (drop (row + 3) cs) ≡ pairsWithoutStarts (pairsAt row) (drop (row + 3) cs′)
-    pub texts : pairTexts text (pairsAt row) (drop (row + 3) cs) ≡ pairTexts text′ (pairsAt row) (drop (row + 3) cs′)
+    pub pairs : shownPairs text (pairsAt row) (drop (row + 3) cs) ≡ shownPairs text′ (pairsAt row) (drop (row + 3) cs′)
 
   abbrev pub AllAlike : List ℕ → Type 0
   AllAlike [] = Unit {0}
@@ -203,21 +151,22 @@ module _ (m : Model) (text : List ℕ) (cs : List ℤ) (text′ : List ℕ) (cs�
   alike-append [] others h k = k
   alike-append (row ∷ rows) others h k = (h .0, alike-append rows others (h .1) k)
 
-  pub rows-alike : (rows : List ℕ) → cellsWithoutStarts m cs rows ≡ cellsWithoutStarts m cs′ rows → textsOf m text cs rows ≡ textsOf m text′ cs′ rows → AllAlike rows
-  unfolding cellsWithoutStarts textsOf
-  rows-alike [] e t = tt
-  rows-alike (row ∷ rows) e t =
-      let ps : List Pair = pairsAt row in
+  pub rows-alike : (rows : List ℕ) → shownObjects m text cs rows ≡ shownObjects m text′ cs′ rows → ObjectsInside (shownObjects m text cs rows) → AllAlike rows
+  unfolding shownObjects
+  rows-alike [] e i = tt
+  rows-alike (row ∷ rows) e i =
       let a = cons-inv _ _ _ _ e in
-      let b = cons-inv _ _ _ _ (cons-inv _ _ _ _ (a .1) .1) in
-      let tail : pairsWithoutStarts ps (drop (row + 3) cs) ++ cellsWithoutStarts m cs rows ≡ pairsWithoutStarts ps (drop (row + 3) cs′) ++ cellsWithoutStarts m cs′ rows =
-      rw (← (a .0)) at (b .1) in
-      let p = append-inv _ _ _ _ (pairs-length ps (drop (row + 3) cs) ∙ sym (pairs-length ps (drop (row + 3) cs′))) tail in
-      let d = cons-inv _ _ _ _ t in
-      let tail-t : pairTexts text ps (drop (row + 3) cs) ++ textsOf m text cs rows ≡ pairTexts text′ ps (drop (row + 3) cs′) ++ textsOf m text′ cs′ rows =
-      rw (← (a .0)) at (d .1) in
-      let q = append-inv _ _ _ _ (texts-length text ps (drop (row + 3) cs) ∙ sym (texts-length text′ ps (drop (row + 3) cs′))) tail-t in
-      (record { table = a .0; size = b .0; identification = d .0; pairs = p .0; texts = q .0 }, rows-alike rows (p .1) (q .1))
+      let table : getD cs row (pos 0) ≡ getD cs′ row (pos 0) = ap (λ (x : ShownObject). x .table) (a .0) in
+      let s = inside-shows text (getD cs (row + 1) (pos 0)) 0 (getD cs (row + 2) (pos 0)) (i .0) in
+      let s′ = shown-shows text′ (getD cs′ (row + 1) (pos 0)) 0 (getD cs′ (row + 2) (pos 0)) _ (sym (ap (λ (x : ShownObject). x .identification) (a .0)) ∙ shows text _ 0 _ _ s) in (
+        record {
+          table = table;
+          size = s .says ∙ sym (s′ .says);
+          identification = shows-identification text cs row _ s ∙ sym (shows-identification text′ cs′ row _ s′);
+          pairs = rw (← table) at (ap (λ (x : ShownObject). x .pairs) (a .0));
+        },
+        rows-alike rows (a .1) (i .2),
+      )
 
   pub objects-alike : (rows : List ℕ) → AllAlike rows → lentObjects text cs rows ≡ lentObjects text′ cs′ rows
   unfolding lentObjects
@@ -241,53 +190,36 @@ module _ (m : Model) (text : List ℕ) (cs : List ℤ) (text′ : List ℕ) (cs�
 
 -- ## The rest of a table
 
-pub record TablesAlike (m : Model) (text : List ℕ) (c : Content) (text′ : List ℕ) (c′ : Content) : Type 0 where
-  pub marks : c .marks ≡ c′ .marks
-  pub rows : c .rows ≡ c′ .rows
-  pub long : length (c .cells) ≡ length (c′ .cells)
-  pub cells : cellsWithoutStarts m (c .cells) (c .rows) ≡ cellsWithoutStarts m (c′ .cells) (c .rows)
-  pub texts : textsOf m text (c .cells) (c .rows) ≡ textsOf m text′ (c′ .cells) (c .rows)
-  pub points : c .points ≡ c′ .points
-
-pub tables-alike : (m : Model) (text : List ℕ) (c : Content) (text′ : List ℕ) (c′ : Content) → sameTable m text c text′ c′ ≡ true → TablesAlike m text c text′ c′
-unfolding sameTable
-tables-alike m text c text′ c′ h = record {
-  marks = same-is (c .marks) (c′ .marks) (holds _ 0 h);
-  rows = same-is (c .rows) (c′ .rows) (holds _ 1 h);
-  long = eqb-true (length (c .cells)) (length (c′ .cells)) (holds _ 2 h);
-  cells = cells-are _ _ (holds _ 3 h);
-  texts = texts-are _ _ (holds _ 4 h);
-  points = cells-are (c .points) (c′ .points) (holds _ 5 h);
-}
-
-module _ (m : Model) (text : List ℕ) (c : Content) (text′ : List ℕ) (c′ : Content) (s : TablesAlike m text c text′ c′) where
+module _ (m : Model) (text : List ℕ) (c : Content) (text′ : List ℕ) (c′ : Content) (s : SameTable m text c text′ c′) where
   abbrev pub Alikes : List ℕ → Type 0
   Alikes rows = AllAlike m text (c .cells) text′ (c′ .cells) rows
 
+  pub all-alike : Alikes (c .rows)
+  all-alike = rows-alike m text (c .cells) text′ (c′ .cells) (c .rows) (s .objects ∙ ap (shownObjects m text′ (c′ .cells)) (sym (s .rows))) (s .inside)
+
   pub all-objects : lentObjects text (c .cells) (c .rows) ≡ lentObjects text′ (c′ .cells) (c′ .rows)
-  all-objects = objects-alike m text (c .cells) text′ (c′ .cells) (c .rows) (rows-alike m text (c .cells) text′ (c′ .cells) (c .rows) (s .cells) (s .texts)) ∙ ap (lentObjects text′ (c′ .cells)) (s .rows)
+  all-objects = objects-alike m text (c .cells) text′ (c′ .cells) (c .rows) all-alike ∙ ap (lentObjects text′ (c′ .cells)) (s .rows)
 
   object-alike : {t : ℕ} {before : List ℕ} {at k k′ : ℕ} → Alikes before → RowAlike m text (c .cells) text′ (c′ .cells) at → ObjectOk m text c t before at k k′ → ObjectOk m text′ c′ t before at k k′
   object-alike {t = t} {before = before} {at = at} before-a h o =
       let ps : List Pair = pairsOf (tableAt (m .tables) t .attributes) in
       let here : cellAt (c .cells) at ≡ t = ap natAbs (o .table) in
       let same-t : pairsAt m text (c .cells) text′ (c′ .cells) at ≡ ps = ap (λ (n : ℕ). pairsOf (tableAt (m .tables) n .attributes)) here in
-      let pairs : pairsWithoutStarts ps (drop (at + 3) (c .cells)) ≡ pairsWithoutStarts ps (drop (at + 3) (c′ .cells)) = rw same-t at (h .pairs) in
-      let texts : pairTexts text ps (drop (at + 3) (c .cells)) ≡ pairTexts text′ ps (drop (at + 3) (c′ .cells)) = rw same-t at (h .texts) in
+      let pairs : shownPairs text ps (drop (at + 3) (c .cells)) ≡ shownPairs text′ ps (drop (at + 3) (c′ .cells)) = rw same-t at (h .pairs) in
       let long : length (drop (at + 3) (c′ .cells)) ≡ length (drop (at + 3) (c .cells)) =
-      length-drop (at + 3) (c′ .cells) ∙ (ap (λ (n : ℕ). n - (at + 3)) (sym (s .long)) ∙ sym (length-drop (at + 3) (c .cells))) in
+      length-drop (at + 3) (c′ .cells) ∙ (ap (λ (n : ℕ). n - (at + 3)) (sym (s .cells)) ∙ sym (length-drop (at + 3) (c .cells))) in
       let objects-e : lentObjects text (c .cells) before ≡ lentObjects text′ (c′ .cells) before = objects-alike m text (c .cells) text′ (c′ .cells) before before-a in
       record {
         table = sym (h .table) ∙ o .table;
         size = sym (h .size) ∙ (o .size ∙ ap (λ (i : List ℕ). pos (length i)) (h .identification));
         identification = rw (h .identification) at (o .identification);
         fresh = rw (h .identification, objects-e) at (o .fresh);
-        row = row-alike text c text′ c′ (s .points) all-objects (o .row) (drop (at + 3) (c′ .cells)) long pairs texts;
-        room = rw (s .long) at (o .room);
+        row = row-alike text c text′ c′ (s .points) all-objects (o .row) (drop (at + 3) (c′ .cells)) long pairs;
+        room = rw (s .cells) at (o .room);
       }
 
   rest-alike : {place : Place} {marks before : List ℕ} {at k : ℕ} {rows : List ℕ} → Rest m text c place marks before at k rows → Alikes before → Alikes rows → Rest m text′ c′ place marks before at k rows
-  rest-alike (finished a b d e) before-a rows-a = finished (a ∙ s .marks) (b ∙ s .rows) (d ∙ s .long) (e ∙ ap length (s .points))
+  rest-alike (finished a b d e) before-a rows-a = finished (a ∙ s .marks) (b ∙ s .rows) (d ∙ s .cells) (e ∙ ap length (s .points))
   rest-alike (topicOut e r) before-a rows-a = topicOut (rw (s .marks) at e) (rest-alike r before-a rows-a)
   rest-alike (topicIn e d f r) before-a rows-a = topicIn (rw (s .marks) at e) d f (rest-alike r before-a rows-a)
   rest-alike (topicEnd {p = p} {rows = rows} g e r) before-a rows-a =
@@ -303,4 +235,4 @@ module _ (m : Model) (text : List ℕ) (c : Content) (text′ : List ℕ) (c′ 
   pub valid-alike : Valid m text c → Valid m text′ c′
   valid-alike v =
       subst (λ (rows : List ℕ). Rest m text′ c′ (topicsFrom 0 0 (m .topics)) (replicate (length (m .topics) + length (m .tables)) 0) [] 0 0 rows) (s .rows)
-      (rest-alike v tt (rows-alike m text (c .cells) text′ (c′ .cells) (c .rows) (s .cells) (s .texts)))
+      (rest-alike v tt all-alike)

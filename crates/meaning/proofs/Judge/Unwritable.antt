@@ -24,7 +24,8 @@ use Rattle.meaning.proofs.Model.GoodModels.{checked-good}
 use Rattle.meaning.proofs.Judge.Valid.{Valid}
 use Rattle.meaning.proofs.Writing.Writable.{valid-reads}
 use Rattle.meaning.proofs.Reading.LinesRead.{read-valid}
-use Rattle.meaning.proofs.Judge.EqualTables.{tables-alike, valid-alike}
+use Rattle.meaning.proofs.Judge.SameTables.{same-exactly}
+use Rattle.meaning.proofs.Judge.EqualTables.{valid-alike}
 use Rattle.meaning.proofs.Writing.Permits.{valid-permits}
 use Rattle.meaning.proofs.Right.Table.{room-for, right-run}
 use Rattle.meaning.proofs.Right.Accepted.{right-read}
@@ -59,7 +60,7 @@ reads-to m ls text c h = by-run (readLines m (roomsOf c) (unfoldedText ls) (star
 pub reads-valid : (m : Model) → GoodModel m → (ls : List (List ℕ)) (text : List ℕ) (c : Content) → readsAs m ls text c ≡ true → Valid m text c
 reads-valid m g ls text c h =
     let r = reads-to m ls text c h in
-    valid-alike m (unfoldedText ls) _ text c (tables-alike m (unfoldedText ls) _ text c (r .same)) (read-valid m g (roomsOf c) ls (r .state) (r .cells) (r .reads) (r .resolves))
+    valid-alike m (unfoldedText ls) _ text c (same-exactly m (unfoldedText ls) _ text c .0 (r .same)) (read-valid m g (roomsOf c) ls (r .state) (r .cells) (r .reads) (r .resolves))
 
 -- where some lines read as a table, the table's own lines do
 pub own-lines-read : (m : Model) → GoodModel m → (ls : List (List ℕ)) (text : List ℕ) (c : Content) → readsAs m ls text c ≡ true → readsAs m (linesOf m text c) text c ≡ true
@@ -101,9 +102,9 @@ unfolding readsAs isRunAs isResolvedAs
 right-reads m g t ls r =
     let c : Content = contentOf m t in
     let ds : List DeliveredTopic = r .delivered in
-    let s = tables-alike m (unfoldedText ls) (tableOf m ds) (t .text) c (r .same) in
+    let s = same-exactly m (unfoldedText ls) (tableOf m ds) (t .text) c .0 (r .same) in
     let rows = ap length (s .rows) in
-    let cells = s .long in
+    let cells = s .cells in
     let points = ap length (s .points) in
     let run = right-run m g (roomsOf c) ls ds (r .right) (room-for m (roomsOf c) ds (omega arith) (omega arith) (omega arith)) in
     record { fits = r .fits; reads = rw (run .reads) (rw (run .resolves) (rw (run .table) (r .same))) }

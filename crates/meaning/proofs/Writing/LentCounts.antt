@@ -9,8 +9,8 @@ use borrow.Author.Tests.{leb-true}
 use Rattle.meaning.specs.Model.{Model, markCount}
 use Rattle.meaning.specs.Reading.{Content}
 use Rattle.meaning.specs.Writing.{Lent, countsFit, contentOf}
+use Rattle.meaning.specs.WritingClaims.{SameTable}
 use Rattle.meaning.proofs.Tests.Refuse.{holds}
-use Rattle.meaning.proofs.Judge.EqualTables.{TablesAlike}
 
 pub record Counted (m : Model) (t : Lent) (c : Content) : Type 0 where
   pub marks : length (c .marks) ≡ markCount m
@@ -27,7 +27,7 @@ lent-counted m t h = record {
   points = length-take-le (4 * t .pointCount) (t .points) (leb-true (4 * t .pointCount) (length (t .points)) (holds _ 3 h));
 }
 
-pub alike-counted : (m : Model) (t : Lent) (text : List ℕ) (c : Content) → countsFit m t ≡ true → TablesAlike m text c (t .text) (contentOf m t) → Counted m t c
+pub alike-counted : (m : Model) (t : Lent) (text : List ℕ) (c : Content) → countsFit m t ≡ true → SameTable m text c (t .text) (contentOf m t) → Counted m t c
 alike-counted m t text c h s =
     let lent = lent-counted m t h in
-    record { marks = ap length (s .marks) ∙ lent .marks; rows = ap length (s .rows) ∙ lent .rows; cells = s .long ∙ lent .cells; points = ap length (s .points) ∙ lent .points }
+    record { marks = ap length (s .marks) ∙ lent .marks; rows = ap length (s .rows) ∙ lent .rows; cells = s .cells ∙ lent .cells; points = ap length (s .points) ∙ lent .points }

@@ -1,76 +1,60 @@
--- A table that is fine is the same with more bytes behind its text. Assumes nothing.
-use Prim.Native.Nat.{ℕ, zero, suc, _+_, _-_, _≤_}
+-- A table of which nothing lies outside its text is the same with more bytes behind the text. Assumes nothing.
+use Prim.Native.Nat.{ℕ, _+_, _-_, _≤_}
 use native.Mathlib.Omega.{arith}
-use mathlib.Core.Path.{_≡_, refl, sym, ap, ap₂, subst, _∙_}
+use mathlib.Core.Path.{_≡_, refl, sym, ap, ap₂, _∙_}
 use mathlib.Core.Bool.{Bool, true, false}
 use mathlib.Core.List.{List, [], _∷_, _++_}
 use lib.IntN.{ℤ, pos, natAbs}
-use lib.Signed.{ltZ}
-use lib.ListN.{length, take, drop, getD, length-take, length-drop}
+use lib.ListN.{length, take, drop, getD, length-append, length-drop}
 use lib.Seq.{take-append-le, drop-append-le}
 use Rattle.meaning.specs.Bytes.{choose}
-use Rattle.meaning.specs.Model.{Text, Model, tableAt}
-use Rattle.meaning.specs.Row.{Pair, OfAttribute, pairsOf}
+use Rattle.meaning.specs.Model.{Model, tableAt}
+use Rattle.meaning.specs.Row.{Pair, pairsOf}
 use Rattle.meaning.specs.Reading.{Content, cellAt, stretch}
-use Rattle.meaning.specs.Writing.{stretchBytes, identificationBytes}
-use Rattle.meaning.specs.Readback.{hasStart, pairTexts, textsOf}
-use Rattle.meaning.proofs.Judge.Valid.{RowOk, done, absent, plain, word, name, without, along, noLine, line, Place, Rest, finished, topicOut, topicIn, topicEnd, tableOut, tableIn, object, tableEnd, Valid}
-use Rattle.meaning.proofs.Judge.EqualTables.{start-zero, start-plain, reference-start, TablesAlike}
+use Rattle.meaning.specs.Writing.{stretchBytes}
+use Rattle.meaning.specs.Readback.{Shown, ofCells, ShownObject, shownStretch, hasStart, shownPairs, shownObjects}
+use Rattle.meaning.specs.WritingClaims.{Inside, PairsInside, ObjectsInside, SameTable}
+use Rattle.meaning.proofs.Reading.Stretches.{stretch-pos}
+use Rattle.meaning.proofs.Judge.Valid.{Valid}
+use Rattle.meaning.proofs.Judge.Shown.{shows, inside-shows, Shows, valid-inside}
 
 module _ (text zs : List ℕ) where
-  -- a stretch of which no byte is missing
-  inside : (i n : ℕ) → length (stretch text i n) ≡ n → stretch text i n ≡ stretch (text ++ zs) i n
-  inside i zero h = refl
-  inside i (suc n) h =
-      let k : length (take (suc n) (drop i text)) ≡ suc n = h in
-      let fits : i + suc n ≤ length text = omega (arith, k, length-take (suc n) (drop i text), length-drop i text) in
-      sym (ap (take (suc n)) (drop-append-le i text zs (omega arith)) ∙ take-append-le (suc n) (drop i text) zs (rw length-drop (omega arith)))
+  bytes-longer : (i n : ℕ) → i + n ≤ length text → stretch text i n ≡ stretch (text ++ zs) i n
+  bytes-longer i n h = sym (ap (take n) (drop-append-le i text zs (omega arith)) ∙ take-append-le n (drop i text) zs (rw length-drop (omega arith)))
 
-  stretch-longer : (b : ℤ) (n : ℕ) → length (stretchBytes text b n) ≡ n → stretchBytes text b n ≡ stretchBytes (text ++ zs) b n
-  unfolding stretchBytes choose
-  stretch-longer b n h = go (ltZ b (pos 0)) h
-    where
-      go : (t : Bool) → length (choose t [] (stretch text (natAbs b) n)) ≡ n → choose t [] (stretch text (natAbs b) n) ≡ choose t [] (stretch (text ++ zs) (natAbs b) n)
-      go true h = refl
-      go false h = inside (natAbs b) n h
+  shows-longer : (start : ℤ) (more : ℕ) (cell : ℤ) (s : List ℕ) → Shows text start more cell s → Shows (text ++ zs) start more cell s
+  shows-longer start more cell s h =
+      let i : ℕ = natAbs start in
+      let fits = h .fits in
+      let same : stretchBytes text start (length s) ≡ stretchBytes (text ++ zs) start (length s) =
+      rw (h .starts) (stretch-pos text i (length s) ∙ (bytes-longer i (length s) fits ∙ sym (stretch-pos (text ++ zs) i (length s)))) in
+      record { starts = h .starts; says = h .says; fits = rw (length-append text zs) (omega arith); bytes = sym same ∙ h .bytes }
 
-  -- a pair without a start has no text
-  without-start : (t : Bool) (s s′ : List ℕ) → t ≡ false → choose t s [] ≡ choose t s′ []
+  stretch-longer : (start : ℤ) (more : ℕ) (cell : ℤ) → Inside (shownStretch text start more cell) → shownStretch text start more cell ≡ shownStretch (text ++ zs) start more cell
+  stretch-longer start more cell h =
+      let s = inside-shows text start more cell h in
+      shows text start more cell _ s ∙ sym (shows (text ++ zs) start more cell _ (shows-longer start more cell _ s))
+
+  pair-longer : (t : Bool) (a b : ℤ) → Inside (choose t (shownStretch text b 1 a) (ofCells a b)) → choose t (shownStretch text b 1 a) (ofCells a b) ≡ choose t (shownStretch (text ++ zs) b 1 a) (ofCells a b)
   unfolding choose
-  without-start t s s′ e = rw e
+  pair-longer true a b h = stretch-longer b 1 a h
+  pair-longer false a b h = refl
 
-  module _ (c : Content) where
-    texts-longer : {u : ℕ} {before : Bool} {k k′ : ℕ} {ps : List Pair} {xs : List ℤ} → RowOk u text c before k ps xs k′ → pairTexts text ps xs ≡ pairTexts (text ++ zs) ps xs
-    unfolding pairTexts hasStart
-    texts-longer done = refl
-    texts-longer (absent {type = type} r) = ap₂ (λ (s : List ℕ) (l : List (List ℕ)). s ∷ l) (without-start _ _ _ (start-zero (OfAttribute true type))) (texts-longer r)
-    texts-longer (plain {o = o} {type = type} {a = a} h g z d v r) = ap₂ (λ (s : List ℕ) (l : List (List ℕ)). s ∷ l) (without-start _ _ _ (start-plain o type a h)) (texts-longer r)
-    texts-longer (word {o = o} {longest = longest} {b = b} f d v s st r) =
-        let z : length f ≡ 1 + length f - 1 = omega arith in
-        let full : length (stretchBytes text b (1 + length f - 1)) ≡ 1 + length f - 1 = subst (λ (n : ℕ). length (stretchBytes text b n) ≡ n) z (ap length st) in
-        ap₂ (λ (s : List ℕ) (l : List (List ℕ)). s ∷ l) (ap (λ (s : List ℕ). choose (hasStart (OfAttribute o (Text longest)) (pos (1 + length f))) s []) (stretch-longer b _ full)) (texts-longer r)
-    texts-longer (name {o = o} {target = target} f d v st g r) = ap₂ (λ (s : List ℕ) (l : List (List ℕ)). s ∷ l) (without-start _ _ _ (reference-start o target)) (texts-longer r)
-    texts-longer (without r) = ap₂ (λ (s : List ℕ) (l : List (List ℕ)). s ∷ l) (without-start _ _ _ refl) (texts-longer r)
-    texts-longer (along w r) = ap₂ (λ (s : List ℕ) (l : List (List ℕ)). s ∷ l) (without-start _ _ _ refl) (texts-longer r)
-    texts-longer (noLine r) = ap₂ (λ (s : List ℕ) (l : List (List ℕ)). s ∷ l) (without-start _ _ _ refl) (texts-longer r)
-    texts-longer (line n room p r) = ap₂ (λ (s : List ℕ) (l : List (List ℕ)). s ∷ l) (without-start _ _ _ refl) (texts-longer r)
+  pairs-longer : (ps : List Pair) (cs : List ℤ) → PairsInside (shownPairs text ps cs) → shownPairs text ps cs ≡ shownPairs (text ++ zs) ps cs
+  unfolding shownPairs
+  pairs-longer [] cs h = refl
+  pairs-longer (p ∷ ps) cs h = ap₂ (λ (x : Shown) (xs : List Shown). x ∷ xs) (pair-longer (hasStart p (getD cs 0 (pos 0))) (getD cs 0 (pos 0)) (getD cs 1 (pos 0)) (h .0)) (pairs-longer ps (drop 2 cs) (h .1))
 
-    module _ (m : Model) where
-      rest-longer : {place : Place} {marks before : List ℕ} {at k : ℕ} {rows : List ℕ} → Rest m text c place marks before at k rows → textsOf m text (c .cells) rows ≡ textsOf m (text ++ zs) (c .cells) rows
-      unfolding textsOf identificationBytes
-      rest-longer (finished a b d e) = refl
-      rest-longer (topicOut e r) = rest-longer r
-      rest-longer (topicIn e d f r) = rest-longer r
-      rest-longer (topicEnd g e r) = rest-longer r
-      rest-longer (tableOut e r) = rest-longer r
-      rest-longer (tableIn e here d f g r) = rest-longer r
-      rest-longer (object {t = t} {at = at} o topic r) =
-          let here : cellAt (c .cells) at ≡ t = ap natAbs (o .table) in
-          let size : cellAt (c .cells) (at + 2) ≡ length (identificationBytes text (c .cells) at) = ap natAbs (o .size) in
-          let pairs : pairTexts text (pairsOf (tableAt (m .tables) (cellAt (c .cells) at) .attributes)) (drop (at + 3) (c .cells)) ≡ pairTexts (text ++ zs) (pairsOf (tableAt (m .tables) (cellAt (c .cells) at) .attributes)) (drop (at + 3) (c .cells)) =
-          rw here (texts-longer (o .row)) in
-          ap₂ (λ (l k : List (List ℕ)). l ++ k) (ap₂ (λ (s : List ℕ) (l : List (List ℕ)). s ∷ l) (stretch-longer (getD (c .cells) (at + 1) (pos 0)) (cellAt (c .cells) (at + 2)) (sym size)) pairs) (rest-longer r)
-      rest-longer (tableEnd topic none behind r) = rest-longer r
+  module _ (m : Model) (cs : List ℤ) where
+    objects-longer : (rows : List ℕ) → ObjectsInside (shownObjects m text cs rows) → shownObjects m text cs rows ≡ shownObjects m (text ++ zs) cs rows
+    unfolding shownObjects
+    objects-longer [] h = refl
+    objects-longer (row ∷ rows) h =
+        let i = stretch-longer (getD cs (row + 1) (pos 0)) 0 (getD cs (row + 2) (pos 0)) (h .0) in
+        let ps = pairs-longer (pairsOf (tableAt (m .tables) (cellAt cs row) .attributes)) (drop (row + 3) cs) (h .1) in
+        ap₂ (λ (x : ShownObject) (xs : List ShownObject). x ∷ xs) (ap₂ (λ (i : Shown) (ps : List Shown). record { table = getD cs row (pos 0); identification = i; pairs = ps }) i ps) (objects-longer rows (h .2))
 
-      pub longer-alike : Valid m text c → TablesAlike m text c (text ++ zs) c
-      longer-alike v = record { marks = refl; rows = refl; long = refl; cells = refl; texts = rest-longer v; points = refl }
+  pub longer-alike : (m : Model) (c : Content) → Valid m text c → SameTable m text c (text ++ zs) c
+  longer-alike m c v =
+      let inside = valid-inside m text c v in
+      record { marks = refl; rows = refl; cells = refl; objects = objects-longer m (c .cells) (c .rows) inside; inside = inside; points = refl }

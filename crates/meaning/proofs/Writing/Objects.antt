@@ -16,7 +16,10 @@ use Rattle.meaning.specs.Row.{Pair, pairsOf, cells, pairCells}
 use Rattle.meaning.specs.Reading.{lineAttributes, objectOf, dueLines, Content, Rooms, stretch, objectAt, objectsOf}
 use Rattle.meaning.specs.Lines.{go, storeRow, objectFields, objectLine, lineDue}
 use Rattle.meaning.specs.Writing.{identificationBytes, pairFields, attributeLines, objectLines, lineBytes}
+use Rattle.meaning.specs.Readback.{shownStretch}
 use Rattle.meaning.proofs.Reading.Fields.{solid, Solid, placed}
+use Rattle.meaning.proofs.Reading.Stretches.{stretch-pos}
+use Rattle.meaning.proofs.Judge.Shown.{shows, text-shows, identification-shows}
 use Rattle.meaning.proofs.Judge.Valid.{RowOk, done, absent, plain, word, name, without, along, noLine, line, lentObjects, ObjectOk}
 use Rattle.meaning.proofs.Writing.Rows.{Like, nil, also, RowRead, row-solid, row-reads}
 use Rattle.meaning.proofs.Writing.OwnLines.{Reads, reads-line}
@@ -25,32 +28,43 @@ use Rattle.meaning.proofs.Writing.Attributes.{attributes-read}
 -- ## Rows as they are read, against the rows of the table
 
 module _ (m : Model) (text : List ℕ) (c : Content) (own : List ℕ) where
+  -- the row at this cell shows the identification that the text `own` has at this start, with this size
+  abbrev pub IdentificationShown : (at start size : ℕ) → Type 0
+  IdentificationShown at start size = shownStretch own (pos start) 0 (pos size) ≡ shownStretch text (getD (c .cells) (at + 1) (pos 0)) 0 (getD (c .cells) (at + 2) (pos 0))
+
+  identification-shown : (at start : ℕ) → let i : List ℕ = identificationBytes text (c .cells) at in
+      Solid i → getD (c .cells) (at + 2) (pos 0) ≡ pos (length i) → stretch own start (length i) ≡ i → IdentificationShown at start (length i)
+  identification-shown at start h e there =
+      let i : List ℕ = identificationBytes text (c .cells) at in
+      shows own (pos start) 0 (pos (length i)) i (text-shows own (pos start) 0 (pos (length i)) i h (ap pos (omega arith)) (stretch-pos own start (length i) ∙ there))
+      ∙ sym (shows text _ 0 _ i (identification-shows text (c .cells) at h e))
+
   -- the rows from one cell to another, and what is read for them
   pub data RowsLike : (at : ℕ) → List ℕ → List ℤ → (to : ℕ) → Type 0 where
     stop : {at : ℕ} → RowsLike at [] [] at
     row : {at to t start size : ℕ} {rows : List ℕ} {xs zs : List ℤ} → getD (c .cells) at (pos 0) ≡ pos t → getD (c .cells) (at + 2) (pos 0) ≡ pos size
-        → stretch own start size ≡ identificationBytes text (c .cells) at → Like text c own true (pairsOf (tableAt (m .tables) t .attributes)) (drop (at + 3) (c .cells)) xs
+        → stretch own start size ≡ identificationBytes text (c .cells) at → IdentificationShown at start size → Like text c own true (pairsOf (tableAt (m .tables) t .attributes)) (drop (at + 3) (c .cells)) xs
         → RowsLike (at + (3 + length xs)) rows zs to → RowsLike at (at ∷ rows) (pos t ∷ pos start ∷ pos size ∷ (xs ++ zs)) to
 
   pub rows-size : {at to : ℕ} {rows : List ℕ} {zs : List ℤ} → RowsLike at rows zs to → at + length zs ≡ to
   rows-size stop = omega arith
-  rows-size (row {xs = xs} {zs = zs} a b e l r) = let ih = rows-size r in let z = length-append xs zs in omega arith
+  rows-size (row {xs = xs} {zs = zs} a b e v l r) = let ih = rows-size r in let z = length-append xs zs in omega arith
 
   rows-more : (start : ℕ) {at to t size : ℕ} {rows : List ℕ} {xs zs : List ℤ} → RowsLike at rows zs to → getD (c .cells) to (pos 0) ≡ pos t → getD (c .cells) (to + 2) (pos 0) ≡ pos size
-      → stretch own start size ≡ identificationBytes text (c .cells) to → Like text c own true (pairsOf (tableAt (m .tables) t .attributes)) (drop (to + 3) (c .cells)) xs
+      → stretch own start size ≡ identificationBytes text (c .cells) to → IdentificationShown to start size → Like text c own true (pairsOf (tableAt (m .tables) t .attributes)) (drop (to + 3) (c .cells)) xs
       → RowsLike at (rows ++ (to ∷ [])) (zs ++ (pos t ∷ pos start ∷ pos size ∷ xs)) (to + (3 + length xs))
-  rows-more start {t = t} {size = size} {xs = ys} (stop {at = at}) a b e l =
-      subst (λ (l : List ℤ). RowsLike at (at ∷ []) (pos t ∷ pos start ∷ pos size ∷ l) (at + (3 + length ys))) (append-nil ys) (row a b e l stop)
-  rows-more start {t = t} {size = size} {xs = ys} (row {at = at} {to = to} {t = t′} {start = start′} {size = size′} {rows = rows} {xs = xs} {zs = zs} a′ b′ e′ l′ r) a b e l =
+  rows-more start {t = t} {size = size} {xs = ys} (stop {at = at}) a b e v l =
+      subst (λ (l : List ℤ). RowsLike at (at ∷ []) (pos t ∷ pos start ∷ pos size ∷ l) (at + (3 + length ys))) (append-nil ys) (row a b e v l stop)
+  rows-more start {t = t} {size = size} {xs = ys} (row {at = at} {to = to} {t = t′} {start = start′} {size = size′} {rows = rows} {xs = xs} {zs = zs} a′ b′ e′ v′ l′ r) a b e v l =
       subst (λ (l : List ℤ). RowsLike at (at ∷ (rows ++ (to ∷ []))) (pos t′ ∷ pos start′ ∷ pos size′ ∷ l) (to + (3 + length ys))) (sym (append-assoc xs zs (pos t ∷ pos start ∷ pos size ∷ ys)))
-      (row a′ b′ e′ l′ (rows-more start r a b e l))
+      (row a′ b′ e′ v′ l′ (rows-more start r a b e v l))
 
   -- the objects that are read are those of the table
   pub rows-objects : {at to : ℕ} {rows : List ℕ} {zs : List ℤ} → RowsLike at rows zs to → (front rest : List ℤ) → length front ≡ at
       → objectsOf own (front ++ (zs ++ rest)) rows ≡ lentObjects text (c .cells) rows
   unfolding objectsOf objectAt lentObjects
   rows-objects stop front rest e = refl
-  rows-objects (row {at = at} {t = t} {start = start} {size = size} {rows = rows} {xs = xs} {zs = zs} a b i l r) front rest e =
+  rows-objects (row {at = at} {t = t} {start = start} {size = size} {rows = rows} {xs = xs} {zs = zs} a b i v l r) front rest e =
       let here : List ℤ = pos t ∷ pos start ∷ pos size ∷ xs in
       let all : List ℤ = here ++ (zs ++ rest) in
       let whole : (pos t ∷ pos start ∷ pos size ∷ (xs ++ zs)) ++ rest ≡ all = ap (λ (l : List ℤ). pos t ∷ pos start ∷ pos size ∷ l) (append-assoc xs zs rest) in
@@ -142,7 +156,7 @@ module _ (m : Model) (rooms : Rooms) (text : List ℕ) (c : Content) (own : List
       let more : (ys : List ℤ) → Like text c own true ps cs ys → Reads m rooms own P (objectOf t) (readSoFar c marks (before ++ (at ∷ [])) ((zs ++ head) ++ ys) k′) ks = λ ys l.
       rw (append-assoc zs head ys) (then (zs ++ (head ++ ys))
       (subst (λ (n : ℕ). RowsLike m text c own 0 (before ++ (at ∷ [])) (zs ++ (head ++ ys)) (at + (3 + n))) (like-length l)
-      (rows-more m text c own start-i like (o .table) (o .size) (st .1 .0) l))) in
+      (rows-more m text c own start-i like (o .table) (o .size) (st .1 .0) (identification-shown m text c own at start-i (o .identification .field .solid) (o .size) (st .1 .0)) l))) in
       let rest : Reads m rooms own P (dueLines t k (lineAttributes (at + 3) ps)) (readSoFar c marks (before ++ (at ∷ [])) ((zs ++ head) ++ q .xs) k) (attributeLines c (lineAttributes (at + 3) ps) ++ ks) =
       attributes-read m rooms own P text c roomPoint t ks (o .row) (q .like) (readSoFar c marks (before ++ (at ∷ [])) zs k) (at + 3) (zs ++ head) (length-append zs head) refl more in
       record {

@@ -4,25 +4,23 @@ use native.Mathlib.Omega.{arith}
 use mathlib.Core.Path.{_≡_, refl, sym, ap, subst, _∙_}
 use mathlib.Core.Bool.{Bool, true, false, false≢true}
 use mathlib.Core.List.{List, [], _∷_, _++_, append-assoc, append-nil}
-use lib.IntN.{ℤ, pos, negsuc}
-use lib.Signed.{ltZ}
+use lib.IntN.{ℤ, pos}
 use lib.ListN.{length, drop, getD, length-append}
 use lib.Seq.{getD-append-seam, getD-append-add, drop-append-add}
-use borrow.Author.Tests.{ne-eqb, eq-eqb, le-ltb}
-use Rattle.meaning.specs.Bytes.{choose, allOf}
+use borrow.Author.Tests.{ne-eqb}
+use Rattle.meaning.specs.Bytes.{choose}
 use Rattle.meaning.specs.Model.{Component, AttributeType, Reference, Coordinate, Number, Text, Date, Enumeration, Line, found, targetOf, Model, tableAt}
 use Rattle.meaning.specs.Row.{Pair, OfAttribute, OfComponent, OfLine, pairsOf}
 use Rattle.meaning.specs.Reading.{Content, Object, stretch, objectsOf}
 use Rattle.meaning.specs.Table.{findObject, Resolved, resolved, putReference, resolvePair, resolvePairs, resolveRows, resolve}
-use Rattle.meaning.specs.Writing.{stretchBytes, identificationBytes}
-use Rattle.meaning.specs.Readback.{isText, hasStart, pairsWithoutStarts, cellsWithoutStarts, pairTexts, textsOf, sameCells, sameTexts, sameTable, isResolvedAs}
-use Rattle.meaning.proofs.Reading.Stretches.{stretch-pos}
-use Rattle.meaning.proofs.Tests.Same.{same-refl}
-use Rattle.meaning.proofs.Judge.Valid.{lentObjects}
-use Rattle.meaning.proofs.Judge.EqualTables.{start-word}
+use Rattle.meaning.specs.Readback.{shownStretch, isText, hasStart, shownPairs, shownObjects, isResolvedAs}
+use Rattle.meaning.specs.WritingClaims.{ObjectsInside, SameTable}
+use Rattle.meaning.proofs.Judge.Valid.{lentObjects, Valid}
+use Rattle.meaning.proofs.Judge.SameTables.{same-exactly}
+use Rattle.meaning.proofs.Judge.Shown.{start-word, start-reference, valid-inside}
 use Rattle.meaning.proofs.Writing.Rows.{isPlain, PairLike, alike, wordAt, nameAt, isDrawn, Like, nil, also}
 use Rattle.meaning.proofs.Writing.Attributes.{set-pair, moved, moved-length}
-use Rattle.meaning.proofs.Writing.Objects.{RowsLike, stop, row, rows-objects, like-length}
+use Rattle.meaning.proofs.Writing.Objects.{IdentificationShown, RowsLike, stop, row, rows-objects, like-length}
 use Rattle.meaning.proofs.Writing.Tables.{AllRead}
 
 -- ## Pairs
@@ -31,7 +29,7 @@ module _ (text own : List ℕ) where
   -- the pair a b of the table, and the pair x y that is left when references are resolved
   pub data PairSettled : Pair → (a b x y : ℤ) → Type 0 where
     equal : {p : Pair} {a b : ℤ} → hasStart p a ≡ false → PairSettled p a b a b
-    elsewhere : {o : Bool} {longest start : ℕ} {b : ℤ} (size : ℕ) → stretch own start size ≡ stretchBytes text b size
+    elsewhere : {o : Bool} {longest start : ℕ} {b : ℤ} (size : ℕ) → shownStretch own (pos start) 1 (pos (1 + size)) ≡ shownStretch text b 1 (pos (1 + size))
         → PairSettled (OfAttribute o (Text longest)) (pos (1 + size)) b (pos (1 + size)) (pos start)
 
   pub data Settled : List Pair → List ℤ → List ℤ → Type 0 where
@@ -42,19 +40,11 @@ module _ (text own : List ℕ) where
   settled-length none = refl
   settled-length (one p s) = let ih = settled-length s in omega arith
 
-  settled-cells : {ps : List Pair} {cs ys : List ℤ} → Settled ps cs ys → (rest : List ℤ) → pairsWithoutStarts ps (ys ++ rest) ≡ pairsWithoutStarts ps cs
-  unfolding pairsWithoutStarts hasStart isText choose
-  settled-cells none rest = refl
-  settled-cells (one (equal h) s) rest = rw (settled-cells s rest)
-  settled-cells (one (elsewhere size e) s) rest = rw (ne-eqb (1 + size) 0 (omega arith), settled-cells s rest)
-
-  settled-texts : {ps : List Pair} {cs ys : List ℤ} → Settled ps cs ys → (rest : List ℤ) → pairTexts own ps (ys ++ rest) ≡ pairTexts text ps cs
-  unfolding pairTexts choose
-  settled-texts none rest = refl
-  settled-texts (one (equal h) s) rest = rw (h, settled-texts s rest)
-  settled-texts (one (elsewhere {o = o} {longest = longest} {start = start} {b = b} size e) s) rest =
-      let z : 1 + size - 1 ≡ size = omega arith in
-      rw (start-word o longest size, z, stretch-pos own start size, e, settled-texts s rest)
+  settled-shown : {ps : List Pair} {cs ys : List ℤ} → Settled ps cs ys → (rest : List ℤ) → shownPairs own ps (ys ++ rest) ≡ shownPairs text ps cs
+  unfolding shownPairs choose
+  settled-shown none rest = refl
+  settled-shown (one (equal h) s) rest = rw (h, settled-shown s rest)
+  settled-shown (one (elsewhere {o = o} {longest = longest} size e) s) rest = rw (start-word o longest size, e, settled-shown s rest)
 
 -- ## References
 
@@ -144,10 +134,6 @@ module _ (text : List ℕ) (c : Content) (own : List ℕ) where
   plain-resolved (OfComponent k) a b h object field front = component-resolved k object field front a b (equal (plain-start (OfComponent k) a h))
   plain-resolved (OfLine o forms ks) a b h object field front = line-resolved o forms ks object field front a b (equal (plain-start (OfLine o forms ks) a h))
 
-  reference-start : (o : Bool) (target : ℕ) (a : ℤ) → hasStart (OfAttribute o (Reference target)) a ≡ false
-  unfolding hasStart isText
-  reference-start o target a = refl
-
   line-start : (o : Bool) (forms : ℕ) (ks : List Component) (a : ℤ) → hasStart (OfLine o forms ks) a ≡ false
   unfolding hasStart
   line-start o forms ks a = refl
@@ -158,7 +144,7 @@ module _ (text : List ℕ) (c : Content) (own : List ℕ) where
       attribute-resolved o (Text longest) object field front (pos (1 + size)) b (pos (1 + size)) (pos start) (pos (1 + size)) (pos start) (elsewhere size e)
       (λ rest. text-stays own all object field longest (length front) (front ++ (pos (1 + size) ∷ pos start ∷ rest)))
   pair-resolved (nameAt {o = o} {target = target} {start = start} {n = n} size e) object field front =
-      attribute-resolved o (Reference target) object field front (pos 1) (pos n) (pos (1 + size)) (pos start) (pos 1) (pos n) (equal (reference-start o target (pos 1)))
+      attribute-resolved o (Reference target) object field front (pos 1) (pos n) (pos (1 + size)) (pos start) (pos 1) (pos n) (equal (start-reference o target (pos 1)))
       (λ rest. name-resolved own all object field target n start size front rest e)
   pair-resolved (isDrawn {o = o} {forms = forms} {ks = ks} {a = a} {b = b}) object field front = line-resolved o forms ks object field front a b (equal (line-start o forms ks a))
 
@@ -202,17 +188,13 @@ module _ (at t start size : ℕ) (ys zs front rest : List ℤ) (e : length front
   row-long : length (front ++ (pos t ∷ pos start ∷ pos size ∷ ys)) ≡ at + (3 + length ys)
   row-long = length-append front (pos t ∷ pos start ∷ pos size ∷ ys) ∙ (let z : length (pos t ∷ pos start ∷ pos size ∷ ys) ≡ 3 + length ys = omega arith in rw (e, z))
 
-identification : (own : List ℕ) (cs : List ℤ) (at start size : ℕ) → getD cs (at + 1) (pos 0) ≡ pos start → getD cs (at + 2) (pos 0) ≡ pos size → identificationBytes own cs at ≡ stretch own start size
-unfolding identificationBytes
-identification own cs at start size e f = rw (e, f) (stretch-pos own start size)
-
 -- ## Rows
 
 module _ (m : Model) (text : List ℕ) (c : Content) (own : List ℕ) where
   pub data RowsSettled : (at : ℕ) → List ℕ → List ℤ → (to : ℕ) → Type 0 where
     end : {at : ℕ} → RowsSettled at [] [] at
     next : {at to t start size : ℕ} {rows : List ℕ} {ys zs : List ℤ} → getD (c .cells) at (pos 0) ≡ pos t → getD (c .cells) (at + 2) (pos 0) ≡ pos size
-        → stretch own start size ≡ identificationBytes text (c .cells) at → Settled text own (pairsOf (tableAt (m .tables) t .attributes)) (drop (at + 3) (c .cells)) ys
+        → IdentificationShown m text c own at start size → Settled text own (pairsOf (tableAt (m .tables) t .attributes)) (drop (at + 3) (c .cells)) ys
         → RowsSettled (at + (3 + length ys)) rows zs to → RowsSettled at (at ∷ rows) (pos t ∷ pos start ∷ pos size ∷ (ys ++ zs)) to
 
   record RowsResolved (at : ℕ) (rows : List ℕ) (front : List ℤ) (to : ℕ) (out : Resolved) : Type 0 where
@@ -226,7 +208,7 @@ module _ (m : Model) (text : List ℕ) (c : Content) (own : List ℕ) where
 
   -- a resolved row before resolved rows
   row-on : {at to : ℕ} {rows : List ℕ} (t start size n object : ℕ) (front xs zs : List ℤ) → length front ≡ at → getD (c .cells) at (pos 0) ≡ pos t
-      → getD (c .cells) (at + 2) (pos 0) ≡ pos size → stretch own start size ≡ identificationBytes text (c .cells) at
+      → getD (c .cells) (at + 2) (pos 0) ≡ pos size → IdentificationShown m text c own at start size
       → (q : PairsResolved text c own (pairsOf (tableAt (m .tables) t .attributes)) (drop (at + 3) (c .cells)) (front ++ rowHead t start size) zs
       (resolvePairs own (lentObjects text (c .cells) (c .rows)) object 3 (at + 3) (pairsOf (tableAt (m .tables) t .attributes)) (front ++ (rowHead t start size ++ (xs ++ zs)))))
       → length (q .ys) ≡ n
@@ -252,7 +234,7 @@ module _ (m : Model) (text : List ℕ) (c : Content) (own : List ℕ) where
       → RowsResolved at rows front to (resolveRows own (lentObjects text (c .cells) (c .rows)) (m .tables) object rows (front ++ zs))
   unfolding resolveRows
   resolve-rows stop object front e = record { ys = []; is = refl; settled = end }
-  resolve-rows (row {at = at} {to = to} {t = t} {start = start} {size = size} {rows = rows} {xs = xs} {zs = zs} a b i l r) object front e =
+  resolve-rows (row {at = at} {to = to} {t = t} {start = start} {size = size} {rows = rows} {xs = xs} {zs = zs} a b i v l r) object front e =
       by (rw (long, append-assoc front (rowHead t start size) (xs ++ zs)) at (resolve-pairs text c own l object 3 (front ++ rowHead t start size) zs))
       (λ front′ e′. resolve-rows r (object + 1) front′ e′)
     where
@@ -268,82 +250,40 @@ module _ (m : Model) (text : List ℕ) (c : Content) (own : List ℕ) where
       by q ih =
           let count : length (q .ys) ≡ length xs = settled-length text own (q .settled) ∙ sym (like-length l) in
           let long′ : length (rowHead t start size ++ q .ys) ≡ 3 + length xs = omega arith in
-          row-on t start size (length xs) object front xs zs e a b i q count (ih (front ++ (rowHead t start size ++ q .ys)) (length-append front (rowHead t start size ++ q .ys) ∙ rw (e, long′)))
+          row-on t start size (length xs) object front xs zs e a b v q count (ih (front ++ (rowHead t start size ++ q .ys)) (length-append front (rowHead t start size ++ q .ys) ∙ rw (e, long′)))
 
   -- ## The same table
 
-  rows-cells : {at to : ℕ} {rows : List ℕ} {zs : List ℤ} → RowsSettled at rows zs to → (front rest : List ℤ) → length front ≡ at
-      → cellsWithoutStarts m (front ++ (zs ++ rest)) rows ≡ cellsWithoutStarts m (c .cells) rows
-  unfolding cellsWithoutStarts
-  rows-cells end front rest e = refl
-  rows-cells (next {at = at} {t = t} {start = start} {size = size} {rows = rows} {ys = ys} {zs = zs} a b i s r) front rest e =
-      let ih = rw (row-joins at t start size ys zs front rest e) at (rows-cells r (front ++ (pos t ∷ pos start ∷ pos size ∷ ys)) rest (row-long at t start size ys zs front rest e)) in
+  rows-shown : {at to : ℕ} {rows : List ℕ} {zs : List ℤ} → RowsSettled at rows zs to → (front rest : List ℤ) → length front ≡ at
+      → shownObjects m own (front ++ (zs ++ rest)) rows ≡ shownObjects m text (c .cells) rows
+  unfolding shownObjects
+  rows-shown end front rest e = refl
+  rows-shown (next {at = at} {t = t} {start = start} {size = size} {rows = rows} {ys = ys} {zs = zs} a b v s r) front rest e =
+      let ih = rw (row-joins at t start size ys zs front rest e) at (rows-shown r (front ++ (pos t ∷ pos start ∷ pos size ∷ ys)) rest (row-long at t start size ys zs front rest e)) in
       rw (
         cell-0 at t start size ys zs front rest e,
+        cell-1 at t start size ys zs front rest e,
         cell-2 at t start size ys zs front rest e,
         cells-3 at t start size ys zs front rest e,
         a,
-        b,
-        settled-cells text own s (zs ++ rest),
+        v,
+        settled-shown text own s (zs ++ rest),
         ih,
       )
-
-  rows-texts : {at to : ℕ} {rows : List ℕ} {zs : List ℤ} → RowsSettled at rows zs to → (front rest : List ℤ) → length front ≡ at
-      → textsOf m own (front ++ (zs ++ rest)) rows ≡ textsOf m text (c .cells) rows
-  unfolding textsOf
-  rows-texts end front rest e = refl
-  rows-texts (next {at = at} {t = t} {start = start} {size = size} {rows = rows} {ys = ys} {zs = zs} a b i s r) front rest e =
-      let ih = rw (row-joins at t start size ys zs front rest e) at (rows-texts r (front ++ (pos t ∷ pos start ∷ pos size ∷ ys)) rest (row-long at t start size ys zs front rest e)) in
-      let cs : List ℤ = front ++ ((pos t ∷ pos start ∷ pos size ∷ (ys ++ zs)) ++ rest) in
-      let there : identificationBytes own cs at ≡ identificationBytes text (c .cells) at =
-      identification own cs at start size (cell-1 at t start size ys zs front rest e) (cell-2 at t start size ys zs front rest e) ∙ i in
-      rw (there, cell-0 at t start size ys zs front rest e, cells-3 at t start size ys zs front rest e, a, settled-texts text own s (zs ++ rest), ih)
 
   settled-size : {at to : ℕ} {rows : List ℕ} {zs : List ℤ} → RowsSettled at rows zs to → at + length zs ≡ to
   settled-size end = omega arith
   settled-size (next {ys = ys} {zs = zs} a b i s r) = let ih = settled-size r in let z = length-append ys zs in omega arith
 
-not-less : (a : ℤ) → ltZ a a ≡ false
-not-less (pos n) = le-ltb n n (omega arith)
-not-less (negsuc n) = le-ltb n n (omega arith)
-
-pub same-cells : (l : List ℤ) → sameCells l l ≡ true
-unfolding sameCells allOf
-same-cells [] = refl
-same-cells (a ∷ l) = rw (not-less a, same-cells l)
-
-pub same-texts : (l : List (List ℕ)) → sameTexts l l ≡ true
-unfolding sameTexts allOf
-same-texts [] = refl
-same-texts (a ∷ l) = rw (same-refl a, same-texts l)
-
--- two tables that agree in all that is compared
-pub same-table : (m : Model) (own : List ℕ) (d : Content) (text : List ℕ) (c : Content) → d .marks ≡ c .marks → d .rows ≡ c .rows → length (d .cells) ≡ length (c .cells)
-    → cellsWithoutStarts m (d .cells) (c .rows) ≡ cellsWithoutStarts m (c .cells) (c .rows) → textsOf m own (d .cells) (c .rows) ≡ textsOf m text (c .cells) (c .rows) → d .points ≡ c .points
-    → sameTable m own d text c ≡ true
-unfolding sameTable allOf
-same-table m own d text c marks rows long cells texts points =
-    rw (
-      marks,
-      rows,
-      cells,
-      texts,
-      points,
-      same-refl (c .marks),
-      same-refl (c .rows),
-      eq-eqb (length (d .cells)) (length (c .cells)) long,
-      same-cells (cellsWithoutStarts m (c .cells) (c .rows)),
-      same-texts (textsOf m text (c .cells) (c .rows)),
-      same-cells (c .points),
-    )
-
--- what is read of a table's own lines is that table
-pub all-same : (m : Model) (text : List ℕ) (c : Content) (own : List ℕ) (d : Content) → AllRead m text c own d → isResolvedAs m own d text c (resolve m own d) ≡ true
+-- what is read of the own lines of a table that is fine is that table
+pub all-same : (m : Model) (text : List ℕ) (c : Content) (own : List ℕ) (d : Content) → Valid m text c → AllRead m text c own d → isResolvedAs m own d text c (resolve m own d) ≡ true
 unfolding resolve isResolvedAs
-all-same m text c own d r =
+all-same m text c own d valid r =
     let objects : objectsOf own (d .cells) (d .rows) ≡ lentObjects text (c .cells) (c .rows) = rw (r .rows) (rw (append-nil (d .cells)) at (rows-objects m text c own (r .like) [] [] refl)) in
     let q = resolve-rows m text c own (r .like) 0 [] refl in
     let long : length (q .ys) ≡ length (c .cells) = let z = settled-size m text c own (q .settled) in omega arith in
-    let cells : cellsWithoutStarts m (q .ys) (c .rows) ≡ cellsWithoutStarts m (c .cells) (c .rows) = rw (append-nil (q .ys)) at (rows-cells m text c own (q .settled) [] [] refl) in
-    let texts : textsOf m own (q .ys) (c .rows) ≡ textsOf m text (c .cells) (c .rows) = rw (append-nil (q .ys)) at (rows-texts m text c own (q .settled) [] [] refl) in
-    rw (objects, r .rows, q .is) (same-table m own (record { marks = d .marks; rows = c .rows; cells = q .ys; points = d .points }) text c (r .marks) refl long cells texts (r .points))
+    let shown : shownObjects m own (q .ys) (c .rows) ≡ shownObjects m text (c .cells) (c .rows) = rw (append-nil (q .ys)) at (rows-shown m text c own (q .settled) [] [] refl) in
+    let read : Content = record { marks = d .marks; rows = c .rows; cells = q .ys; points = d .points } in
+    let same : SameTable m own read text c =
+    record { marks = r .marks; rows = refl; cells = long; objects = shown; inside = subst ObjectsInside (sym shown) (valid-inside m text c valid); points = r .points } in
+    rw (objects, r .rows, q .is) (same-exactly m own read text c .1 same)

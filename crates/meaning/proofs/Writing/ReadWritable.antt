@@ -19,10 +19,10 @@ use Rattle.meaning.specs.Table.{Resolved, resolved, unresolved, resolve,
 use Rattle.meaning.specs.Writing.{Lent, countsFit, contentOf}
 use Rattle.meaning.specs.Readback.{isTable}
 use Rattle.meaning.specs.Width.{write}
-use Rattle.meaning.specs.WritingClaims.{resolvedTable, lentAgain}
+use Rattle.meaning.specs.WritingClaims.{SameTable, resolvedTable, lentAgain}
 use Rattle.meaning.proofs.Model.GoodModels.{checked-good}
 use Rattle.meaning.proofs.Judge.Valid.{Valid}
-use Rattle.meaning.proofs.Judge.EqualTables.{TablesAlike}
+use Rattle.meaning.proofs.Judge.Shown.{valid-inside}
 use Rattle.meaning.proofs.Reading.Buffers.{Fits, Ran, lines-fit}
 use Rattle.meaning.proofs.Reading.LinesRead.{read-valid}
 use Rattle.meaning.proofs.Tests.Unequal.{not-accepted}
@@ -111,15 +111,18 @@ module _ (m : Model) (g : GoodModel m) (rooms : Rooms) (r : Result) (i : ReadInt
         take-all (4 * pointCount content) (content .points) (omega arith),
       )
 
-  itself : TablesAlike m own (resolvedTable content (i .cells)) own (resolvedTable content (i .cells))
-  itself = record { marks = refl; rows = refl; long = refl; cells = refl; texts = refl; points = refl }
+  valid : Valid m own (resolvedTable content (i .cells))
+  valid = read-valid m g rooms (i .of) (i .state) (i .cells) (i .reads) (i .resolves)
+
+  itself : SameTable m own (resolvedTable content (i .cells)) own (resolvedTable content (i .cells))
+  itself = record { marks = refl; rows = refl; cells = refl; objects = refl; inside = valid-inside m own (resolvedTable content (i .cells)) valid; points = refl }
 
   is-table : isTable m (lentAgain (acceptedWith rooms own content (i .cells)) (length (content .rows)) (length (i .cells)) (pointCount content)) ≡ true
   is-table =
       table-again m g exact counts
-      (subst (λ (x : Content). Valid m own x) (sym content-exact) (read-valid m g rooms (i .of) (i .state) (i .cells) (i .reads) (i .resolves)))
+      (subst (λ (x : Content). Valid m own x) (sym content-exact) valid)
       rooms own content (i .cells)
-      (subst (λ (x : Content). TablesAlike m own (resolvedTable content (i .cells)) own x) (sym content-exact) itself)
+      (subst (λ (x : Content). SameTable m own (resolvedTable content (i .cells)) own x) (sym content-exact) itself)
 
   lent-table : (o c p : ℕ) → r .answer ≡ accepted o c p → isTable m (lentAgain r o c p) ≡ true
   unfolding acceptedWith

@@ -26,7 +26,7 @@ use Rattle.meaning.proofs.Model.GoodModels.{checked-good}
 use Rattle.meaning.proofs.Reading.Rooms.{Wider, lines-wider}
 use Rattle.meaning.proofs.Unfolding.Cuts.{cut-long}
 use Rattle.meaning.proofs.Unfolding.Widths.{width-cuts}
-use Rattle.meaning.proofs.Judge.EqualTables.{tables-alike}
+use Rattle.meaning.proofs.Judge.SameTables.{same-exactly}
 use Rattle.meaning.proofs.Writing.LentCounts.{lent-counted, alike-counted}
 use Rattle.meaning.proofs.Judge.Unwritable.{roomsOf, ReadsTo, reads-to, table-reads, table-permitted}
 use Rattle.meaning.proofs.Reading.Claims.{cut-reads-as-lines}
@@ -108,7 +108,7 @@ counts-back : (m : Model) (t : Lent) (rooms : Rooms) (text : List ℕ) (c : Cont
     → acceptedWith rooms text c cs .answer ≡ accepted (t .objects) (t .cellCount) (t .pointCount)
 unfolding acceptedWith
 counts-back m t rooms text c cs fits same =
-    let s = alike-counted m t text (resolvedTable c cs) fits (tables-alike m text (resolvedTable c cs) (t .text) (contentOf m t) same) in
+    let s = alike-counted m t text (resolvedTable c cs) fits (same-exactly m text (resolvedTable c cs) (t .text) (contentOf m t) .0 same) in
     let points : length (c .points) / 4 ≡ t .pointCount = omega (arith, s .points) in
     rw (s .rows, s .cells, points)
 

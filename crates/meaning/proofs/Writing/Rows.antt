@@ -17,11 +17,12 @@ use Rattle.meaning.specs.Row.{Pair, OfAttribute, OfComponent, OfLine, Ce
 use Rattle.meaning.specs.Reading.{Content, stretch}
 use Rattle.meaning.specs.Table.{findObject}
 use Rattle.meaning.specs.Writing.{stretchBytes, identificationBytes, typeBytes, fieldBytes, pairFields}
-use Rattle.meaning.specs.Readback.{isText}
+use Rattle.meaning.specs.Readback.{shownStretch, isText}
 use Rattle.meaning.proofs.Tests.Unequal.{no-found}
 use Rattle.meaning.proofs.Reading.Fields.{Solid, AllSolid, placed}
-use Rattle.meaning.proofs.Reading.Stretches.{AllStand}
+use Rattle.meaning.proofs.Reading.Stretches.{AllStand, stretch-pos}
 use Rattle.meaning.proofs.Values.Numerals.{Defined, NumberOk}
+use Rattle.meaning.proofs.Judge.Shown.{shows, text-shows}
 use Rattle.meaning.proofs.Judge.Valid.{RowOk, done, absent, plain, word, name, without, along, noLine, line, lentObjects}
 
 -- ## Pairs as they are read, against the pairs of the table
@@ -41,7 +42,7 @@ isPlain (OfLine o forms ks) a = false
 -- the pair a b of the table, and the pair x y that is read from the text `own`; `drawn` says whether the lines of the row are read
 pub data PairLike (text : List ℕ) (c : Content) (own : List ℕ) : (drawn : Bool) → Pair → (a b x y : ℤ) → Type 0 where
   alike : {drawn : Bool} {p : Pair} {a b : ℤ} → isPlain p a ≡ true → PairLike text c own drawn p a b a b
-  wordAt : {drawn o : Bool} {longest start : ℕ} {b : ℤ} (size : ℕ) → stretch own start size ≡ stretchBytes text b size
+  wordAt : {drawn o : Bool} {longest start : ℕ} {b : ℤ} (size : ℕ) → shownStretch own (pos start) 1 (pos (1 + size)) ≡ shownStretch text b 1 (pos (1 + size))
       → PairLike text c own drawn (OfAttribute o (Text longest)) (pos (1 + size)) b (pos (1 + size)) (pos start)
   nameAt : {drawn o : Bool} {target start n : ℕ} (size : ℕ) → findObject target 0 (stretch own start size) (lentObjects text (c .cells) (c .rows)) ≡ found n
       → PairLike text c own drawn (OfAttribute o (Reference target)) (pos 1) (pos n) (pos (1 + size)) (pos start)
@@ -147,6 +148,12 @@ module _ (u : ℕ) (text : List ℕ) (c : Content) (own : List ℕ) where
   unfolding valueOf referenceOf stretchOf refuse
   name-reads target start f e = rw e
 
+  -- a text that stands in both
+  words-shown : (f : List ℕ) (start : ℕ) (b : ℤ) → Solid f → stretch own start (length f) ≡ f → stretchBytes text b (length f) ≡ f
+      → shownStretch own (pos start) 1 (pos (1 + length f)) ≡ shownStretch text b 1 (pos (1 + length f))
+  words-shown f start b h there s =
+      shows own (pos start) 1 _ f (text-shows own (pos start) 1 _ f h refl (stretch-pos own start (length f) ∙ there)) ∙ sym (shows text b 1 _ f (text-shows text b 1 _ f h refl s))
+
   -- where the fields of these pairs stand when they are written from `start` on
   abbrev fieldsAt : ℕ → List Pair → List ℤ → List Field
   fieldsAt start ps cs = placed start (pairFields u text c ps cs)
@@ -210,7 +217,7 @@ module _ (u : ℕ) (text : List ℕ) (c : Content) (own : List ℕ) where
       (λ st. row-reads r (start + length (typeBytes text c type a b) + 1) (place + 1) st) st
   row-reads (word {before = before} {o = o} {longest = longest} {ps = ps} {b = b} {cs = cs} f w e l s r) start place st =
       attribute-reads before o (Text longest) ps (pos (1 + length f)) b cs start place f (pos (1 + length f)) (pos start) (ne-eqb (1 + length f) 0 (omega arith)) (word-bytes text c longest b f s) w
-      (word-reads longest start f e l) (λ there. wordAt (length f) (there ∙ sym s)) (λ st. row-reads r (start + length f + 1) (place + 1) st) st
+      (word-reads longest start f e l) (λ there. wordAt (length f) (words-shown f start b (w .solid) there s)) (λ st. row-reads r (start + length f + 1) (place + 1) st) st
   row-reads (name {before = before} {o = o} {target = target} {n = n} {ps = ps} {cs = cs} f w e s g r) start place st =
       attribute-reads before o (Reference target) ps (pos 1) (pos n) cs start place f (pos (1 + length f)) (pos start) refl (name-bytes text c target n f s) w
       (name-reads target start f e) (λ there. nameAt (length f) (rw there g)) (λ st. row-reads r (start + length f + 1) (place + 1) st) st

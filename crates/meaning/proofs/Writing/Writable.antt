@@ -68,4 +68,4 @@ valid-reads m text c good valid =
     let e : Ends m rooms own (AllRead m text c own) (startOf m) (fieldLines m text c) =
     table-reads m text c rooms own (special-solid (m .undefined) (good .undefined)) (omega arith) (omega arith)
     (name-solid 63 (m .transfer) (good .transfer)) (name-solid 63 (m .name) (good .name)) (omega arith) valid 1 0 refl in
-    rw (read-to-end m rooms own (startOf m) (e .final) (linesBytes (fieldLines m text c)) (e .runs) (e .complete)) (all-same m text c own (e .final .content) (e .good))
+    rw (read-to-end m rooms own (startOf m) (e .final) (linesBytes (fieldLines m text c)) (e .runs) (e .complete)) (all-same m text c own (e .final .content) valid (e .good))

@@ -1,7 +1,8 @@
 -- The claims of specs/WritingClaims.antt. Assumes nothing.
-use Rattle.meaning.specs.WritingClaims.{Unwritable, NoLinesEither, JudgedExactly, Writes, TooSmallExactly, WidthExactly, BadModelWrites, WrittenIsCut, RoundTrip, LentIsEnough, WrittenAgain, ReadIsWritable, WritingRefusalZeroes, WritingKeepsRoom, WrittenZeroBehind, WrittenFitsWidth}
+use Rattle.meaning.specs.WritingClaims.{Unwritable, NoLinesEither, JudgedExactly, SameExactly, Writes, TooSmallExactly, WidthExactly, BadModelWrites, WrittenIsCut, RoundTrip, LentIsEnough, WrittenAgain, ReadIsWritable, WritingRefusalZeroes, WritingKeepsRoom, WrittenZeroBehind, WrittenFitsWidth}
 use Rattle.meaning.proofs.Judge.Unwritable as lines
 use Rattle.meaning.proofs.Judge.Exactly as judged
+use Rattle.meaning.proofs.Judge.SameTables as tables
 use Rattle.meaning.proofs.Writing.Refusals as refusals
 use Rattle.meaning.proofs.Writing.RoundTrip as back
 use Rattle.meaning.proofs.Writing.RoomsLeft as left
@@ -16,6 +17,9 @@ no-lines-either = lines.no-lines-either
 
 pub judged-exactly : JudgedExactly
 judged-exactly = judged.judged-exactly
+
+pub same-exactly : SameExactly
+same-exactly = tables.same-exactly
 
 pub writes : Writes
 writes = refusals.writes

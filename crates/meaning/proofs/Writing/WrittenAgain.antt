@@ -16,12 +16,13 @@ use Rattle.meaning.specs.Answer.{accepted, filled}
 use Rattle.meaning.specs.Reading.{Content, Rooms}
 use Rattle.meaning.specs.Table.{Result, acceptedWith, read}
 use Rattle.meaning.specs.Writing.{Lent, countsFit, contentOf, linesOf}
-use Rattle.meaning.specs.Readback.{cellsWithoutStarts, textsOf, isTable}
+use Rattle.meaning.specs.Readback.{isTable}
 use Rattle.meaning.specs.Width.{writeChecked, write}
-use Rattle.meaning.specs.WritingClaims.{Enough, resolvedTable, lentAgain}
+use Rattle.meaning.specs.WritingClaims.{ObjectsInside, SameTable, Enough, resolvedTable, lentAgain}
 use Rattle.meaning.proofs.Model.GoodModels.{checked-good}
 use Rattle.meaning.proofs.Judge.Valid.{Valid}
-use Rattle.meaning.proofs.Judge.EqualTables.{TablesAlike, tables-alike, valid-alike}
+use Rattle.meaning.proofs.Judge.SameTables.{same-exactly}
+use Rattle.meaning.proofs.Judge.EqualTables.{valid-alike}
 use Rattle.meaning.proofs.Writing.LentCounts.{Counted, alike-counted}
 use Rattle.meaning.proofs.Writing.EqualLines.{lines-same}
 use Rattle.meaning.proofs.Writing.LongerText.{longer-alike}
@@ -29,13 +30,13 @@ use Rattle.meaning.proofs.Writing.Writable.{valid-reads}
 use Rattle.meaning.proofs.Judge.Unwritable.{table-reads, table-valid}
 use Rattle.meaning.proofs.Writing.RoundTrip.{written-as, round-trip}
 
-alike-back : (m : Model) (text : List ℕ) (c : Content) (text′ : List ℕ) (c′ : Content) → TablesAlike m text c text′ c′ → TablesAlike m text′ c′ text c
+alike-back : (m : Model) (text : List ℕ) (c : Content) (text′ : List ℕ) (c′ : Content) → SameTable m text c text′ c′ → SameTable m text′ c′ text c
 alike-back m text c text′ c′ s = record {
   marks = sym (s .marks);
   rows = sym (s .rows);
-  long = sym (s .long);
-  cells = subst (λ (rows : List ℕ). cellsWithoutStarts m (c′ .cells) rows ≡ cellsWithoutStarts m (c .cells) rows) (s .rows) (sym (s .cells));
-  texts = subst (λ (rows : List ℕ). textsOf m text′ (c′ .cells) rows ≡ textsOf m text (c .cells) rows) (s .rows) (sym (s .texts));
+  cells = sym (s .cells);
+  objects = sym (s .objects);
+  inside = subst ObjectsInside (s .objects) (s .inside);
   points = sym (s .points);
 }
 
@@ -50,7 +51,7 @@ fits : {A : Type 0} (z : A) (room n : ℕ) (xs : List A) → length xs ≡ n →
 fits z room n xs e = le-leb n _ (rw (length-append xs (replicate (room - length xs) z)) (omega arith))
 
 module _ (m : Model) (g : GoodModel m) (t : Lent) (counts : countsFit m t ≡ true) (valid : Valid m (t .text) (contentOf m t)) (rooms : Rooms) (text : List ℕ) (c : Content) (cs : List ℤ)
-    (s : TablesAlike m text (resolvedTable c cs) (t .text) (contentOf m t)) where
+    (s : SameTable m text (resolvedTable c cs) (t .text) (contentOf m t)) where
   abbrev pub again : Lent
   again = lentAgain (acceptedWith rooms text c cs) (t .objects) (t .cellCount) (t .pointCount)
 
@@ -82,12 +83,12 @@ module _ (m : Model) (g : GoodModel m) (t : Lent) (counts : countsFit m t ≡ tr
   valid-text = valid-alike m (t .text) (contentOf m t) text (resolvedTable c cs) (alike-back m text (resolvedTable c cs) (t .text) (contentOf m t) s) valid
 
   valid-again : Valid m longer (resolvedTable c cs)
-  valid-again = valid-alike m text (resolvedTable c cs) longer (resolvedTable c cs) (longer-alike text _ (resolvedTable c cs) m valid-text) valid-text
+  valid-again = valid-alike m text (resolvedTable c cs) longer (resolvedTable c cs) (longer-alike text _ m (resolvedTable c cs) valid-text) valid-text
 
   lines-again : linesOf m longer (contentOf m again) ≡ linesOf m (t .text) (contentOf m t)
   lines-again =
       ap (linesOf m longer) content-again
-      ∙ (sym (lines-same m text (resolvedTable c cs) longer (resolvedTable c cs) (longer-alike text _ (resolvedTable c cs) m valid-text) valid-text)
+      ∙ (sym (lines-same m text (resolvedTable c cs) longer (resolvedTable c cs) (longer-alike text _ m (resolvedTable c cs) valid-text) valid-text)
       ∙ sym (lines-same m (t .text) (contentOf m t) text (resolvedTable c cs) (alike-back m text (resolvedTable c cs) (t .text) (contentOf m t) s) valid))
 
   pub table-again : isTable m again ≡ true
@@ -104,6 +105,6 @@ written-again model m t width room n rooms e h enough width′ room′ =
     let own = table-reads m t (w .table) in
     let valid : Valid m (t .text) (contentOf m t) = table-valid m g t (w .table) in
     let back = round-trip model m t width room n rooms e h enough in
-    let s = tables-alike m (back .text) (resolvedTable (back .content) (back .cells)) (t .text) (contentOf m t) (back .same) in
+    let s = same-exactly m (back .text) (resolvedTable (back .content) (back .cells)) (t .text) (contentOf m t) .0 (back .same) in
     ap (λ (r : Result). write model (lentAgain r (t .objects) (t .cellCount) (t .pointCount)) width′ room′) (back .is)
     ∙ written-alike model m _ t width′ room′ e (table-again m g t (own .fits) valid rooms (back .text) (back .content) (back .cells) s ∙ sym (w .table)) (lines-again m g t (own .fits) valid rooms (back .text) (back .content) (back .cells) s)
