@@ -8,7 +8,8 @@ use lib.ListN.{replicate}
 use Rattle.meaning.specs.Bytes.{bytesOf}
 use Rattle.meaning.specs.Answer.{Answer, accepted, refusal}
 use Rattle.meaning.specs.Compute.{computeCheck}
-use Rattle.meaning.specs.Sample.{recordBytes, componentBytes}
+use Rattle.meaning.specs.ModelBytes.{u16Bytes, u64Bytes, recordBytes}
+use Rattle.meaning.specs.Sample.{componentBytes}
 use Rattle.meaning.specs.Refusals.{Row, row, asked}
 
 -- the records of transfer and model: 8 and 5 bytes, so that a topic is at byte 13
@@ -153,5 +154,5 @@ badModels =
 
 -- each of these models is called as these rows say
 pub each-model : checked (goodModels ++ badModels) ≡ asked (goodModels ++ badModels)
-unfolding checked asked topics attributes
+unfolding checked asked topics attributes recordBytes u16Bytes u64Bytes
 each-model = refl

@@ -13,12 +13,14 @@ use Rattle.meaning.specs.Writing.{Lent}
 use Rattle.meaning.specs.Width.{Written}
 use Rattle.meaning.specs.Listing.{listingRooms}
 use Rattle.meaning.specs.Compute.{computeListing, computeRead, computeWrite}
-use Rattle.meaning.specs.Sample.{recordBytes, sampleModel, with7}
+use Rattle.meaning.specs.ModelBytes.{u16Bytes, recordBytes}
+use Rattle.meaning.specs.Sample.{sampleModel, with7}
 
 -- ## A model of one table: a mandatory date D, an optional text X and a mandatory text Y of 4 bytes; its topic's name
 -- has 24 bytes
 
 unfoldable pub dateModel : List ℕ
+unfolding recordBytes u16Bytes
 dateModel =
     recordBytes 1 (bytesOf "_@\\T")
     ++ recordBytes 2 (bytesOf "M")
@@ -65,6 +67,7 @@ dates-and-names = refl
 -- ## Writing: a model of one table with a mandatory text of 4 bytes, and an object a with the text b\
 
 unfoldable pub textModel : List ℕ
+unfolding recordBytes u16Bytes
 textModel =
     recordBytes 1 (bytesOf "_@\\T")
     ++ recordBytes 2 (bytesOf "M")

@@ -12,7 +12,8 @@ use Rattle.meaning.specs.Writing.{Lent}
 use Rattle.meaning.specs.Width.{goesWhole, cutRest, cutLine}
 use Rattle.meaning.specs.Listing.{listingRooms}
 use Rattle.meaning.specs.Compute.{computeRead, computeWrite}
-use Rattle.meaning.specs.Sample.{recordBytes, componentBytes}
+use Rattle.meaning.specs.ModelBytes.{u16Bytes, u64Bytes, recordBytes}
+use Rattle.meaning.specs.Sample.{componentBytes}
 
 -- ## A model with three tables
 -- A  an optional text X of 2 bytes, an optional coordinate P and an optional reference R to A
@@ -24,6 +25,7 @@ abbrev pub digitBytes : List ℕ
 digitBytes = componentBytes 0 0 9
 
 unfoldable pub smallModel : List ℕ
+unfolding recordBytes u16Bytes u64Bytes
 smallModel =
     recordBytes 1 (bytesOf "_@\\T")
     ++ recordBytes 2 (bytesOf "M")
@@ -202,7 +204,7 @@ pub each-room :
     ∷ refusal 11 7 4
     ∷ refusal 16 7 0
     ∷ [])
-unfolding answersIn answersB computeRead
+unfolding answersIn answersB computeRead recordBytes u16Bytes
 each-room = refl
 
 -- ## Writing
