@@ -17,3 +17,4 @@ pub mod Rooms
 pub mod Accepted
 pub mod First
 pub mod Claims
+pub mod Numbers
