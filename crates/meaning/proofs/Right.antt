@@ -18,3 +18,5 @@ pub mod Accepted
 pub mod First
 pub mod Claims
 pub mod Numbers
+pub mod MoreRoom
+pub mod UsedText
