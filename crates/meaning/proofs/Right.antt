@@ -20,3 +20,7 @@ pub mod Claims
 pub mod Numbers
 pub mod MoreRoom
 pub mod UsedText
+pub mod Lengths
+pub mod Spends
+pub mod Enough
+pub mod RoomClaims

@@ -4,7 +4,7 @@ use native.Mathlib.Omega.{arith}
 use mathlib.Core.Path.{_≡_, refl, subst}
 use mathlib.Core.Bool.{Bool, true, false, not, _||_, false≢true}
 use mathlib.Core.List.{List, [], _∷_}
-use lib.Dec.{eqb, leb, ltb}
+use lib.Dec.{eqb, ltb}
 use lib.ListN.{length}
 use borrow.Author.Tests.{le-leb, eqb-true}
 use Rattle.meaning.specs.Bytes.{choose, every}
@@ -17,7 +17,6 @@ use Rattle.meaning.specs.Field.{Field}
 use Rattle.meaning.specs.Row.{Pair, OfAttribute, OfComponent, OfLine}
 use Rattle.meaning.specs.Reading.{Rooms}
 use Rattle.meaning.specs.Readback.{isTable}
-use Rattle.meaning.specs.Writing.{Lent}
 use Rattle.meaning.specs.Width.{Written, writeBytes, writeChecked, write}
 use Rattle.meaning.specs.Right.{Line, Entry, Delivered}
 use Rattle.meaning.specs.Reasons as reasons
@@ -41,6 +40,20 @@ FineAnswer numbers (refusal number first second) = Fine numbers number first sec
 
 numbered : (numbers : List ℕ) (a : Answer) → FineAnswer numbers a → Numbered numbers a
 numbered numbers a h number first second e = subst (FineAnswer numbers) e h
+
+-- what holds of each of these numbers
+pub each : (test : ℕ → Bool) (n : ℕ) (ks : List ℕ) → every test ks ≡ true → isOneOf n ks ≡ true → test n ≡ true
+unfolding isOneOf every
+each test n [] all h = absurd (false≢true h)
+each test n (k ∷ ks) all h = by (eqb n k) refl h (each test n ks (both (test k) _ all .1))
+  where
+    by : (x : Bool) → eqb n k ≡ x → (x || isOneOf n ks) ≡ true → (isOneOf n ks ≡ true → test n ≡ true) → test n ≡ true
+    by true e h ih = rw (eqb-true n k e) (both (test k) _ all .0)
+    by false e h ih = ih h
+
+-- numbers that are all among others
+among : (number first second : ℕ) (ks numbers : List ℕ) → every (λ k. isOneOf k numbers) ks ≡ true → Fine ks number first second → Fine numbers number first second
+among number first second ks numbers all fine = (each (λ k. isOneOf k numbers) number ks all (fine .0), fine .1)
 
 -- ## The check of a model
 
@@ -73,13 +86,15 @@ writing-numbers model t width room = numbered writingNumbers (write model t widt
 
 -- ## Unfolding
 
-fault-fine : {mark : ℕ} {f : List ℕ} {number line : ℕ} (numbers : List ℕ) → isOneOf 3 numbers ≡ true → isOneOf 4 numbers ≡ true → isOneOf 5 numbers ≡ true
-    → FirstFault mark f number line → Fine numbers number line 0
+abbrev pub faultNumbers : List ℕ
+faultNumbers = 3 ∷ 4 ∷ 5 ∷ []
+
+pub fault-fine : {mark : ℕ} {f : List ℕ} {number line : ℕ} → FirstFault mark f number line → Fine faultNumbers number line 0
 unfolding isPlaceOf isOneOf choose
-fault-fine numbers three four five (unended {n = n} f x b w long) = (three, rw (le-leb 1 (n + 1) (omega arith)))
-fault-fine numbers three four five (marked {n = n} f b e h) = (three, rw (le-leb 1 (n + 1) (omega arith)))
-fault-fine numbers three four five (uncontinued {n = n} f others b e last h) = (five, rw (le-leb 1 (n + 1) (omega arith)))
-fault-fine numbers three four five (unpermitted {n = n} f p others b e last h) = (four, rw (le-leb 1 (n + 1) (omega arith)))
+fault-fine (unended {n = n} f x b w long) = (refl, rw (le-leb 1 (n + 1) (omega arith)))
+fault-fine (marked {n = n} f b e h) = (refl, rw (le-leb 1 (n + 1) (omega arith)))
+fault-fine (uncontinued {n = n} f others b e last h) = (refl, rw (le-leb 1 (n + 1) (omega arith)))
+fault-fine (unpermitted {n = n} f p others b e last h) = (refl, rw (le-leb 1 (n + 1) (omega arith)))
 
 abbrev unfoldingNumbers : List ℕ
 unfoldingNumbers = 1 ∷ 2 ∷ 3 ∷ 4 ∷ 5 ∷ 6 ∷ []
@@ -88,12 +103,12 @@ abbrev FineText : TextResult → Type 0
 FineText r = FineAnswer unfoldingNumbers (r .answer)
 
 pub unfolding-numbers : UnfoldingNumbers
-unfolding unfoldText textChecked textUnfolded isOneOf isPlaceOf choose
+unfolding unfoldText textChecked textUnfolded isOneOf isPlaceOf every choose
 unfolding-numbers model file room =
     numbered unfoldingNumbers (unfoldText model file room .answer) (refuse-keeps FineText (tooLong file) _ _ (refl, refl) (λ _. by-check (checkModel model) refl))
   where
     by-lines : (m : Model) → checkModel model ≡ good m → (u : Unfolded) → unfoldFile (m .mark) file ≡ u → FineText (textUnfolded room u)
-    by-lines m e (fault number n) h = fault-fine unfoldingNumbers refl refl refl (fault-exactly (m .mark) (marks.good-mark model m e) file number n .0 h)
+    by-lines m e (fault number n) h = among number n 0 faultNumbers unfoldingNumbers refl (fault-fine (fault-exactly (m .mark) (marks.good-mark model m e) file number n .0 h))
     by-lines m e (lines ls) h = refuse-keeps FineText (ltb room (length (unfoldedText ls))) _ _ (refl, refl) (λ _. tt)
 
     by-check : (c : Checked) → checkModel model ≡ c → FineText (textChecked file room c)
@@ -166,16 +181,6 @@ objects-field : {m : Model} {all os : List Delivered} {n object field : ℕ} →
 objects-field (claims.FirstOfObjects.here f) = entries-field f
 objects-field (claims.FirstOfObjects.later a r) = objects-field r
 
--- a number of a list whose numbers are all of another
-among : (n : ℕ) (ks numbers : List ℕ) → every (λ k. isOneOf k numbers) ks ≡ true → isOneOf n ks ≡ true → isOneOf n numbers ≡ true
-unfolding isOneOf every
-among n [] numbers all h = absurd (false≢true h)
-among n (k ∷ ks) numbers all h = by (eqb n k) refl h (among n ks numbers (both (isOneOf k numbers) _ all .1))
-  where
-    by : (x : Bool) → eqb n k ≡ x → (x || isOneOf n ks) ≡ true → (isOneOf n ks ≡ true → isOneOf n numbers ≡ true) → isOneOf n numbers ≡ true
-    by true e h ih = rw (eqb-true n k e) (both (isOneOf k numbers) _ all .0)
-    by false e h ih = ih h
-
 abbrev readingNumbers : List ℕ
 readingNumbers = 1 ∷ 2 ∷ 3 ∷ 4 ∷ 5 ∷ 6 ∷ 7 ∷ 8 ∷ 9 ∷ 10 ∷ 11 ∷ 12 ∷ 13 ∷ 14 ∷ 15 ∷ 16 ∷ 17 ∷ 18 ∷ []
 
@@ -183,11 +188,9 @@ first-fine : {model file : List ℕ} {rooms : Rooms} {number first second : ℕ}
 unfolding isPlaceOf isOneOf every choose
 first-fine (tooLarge l) = (refl, refl)
 first-fine (badModel short e) = (refl, refl)
-first-fine (badUnfolding short e f) = fault-fine readingNumbers refl refl refl f
+first-fine (badUnfolding {number = number} {line = line} short e f) = among number line 0 faultNumbers readingNumbers refl (fault-fine f)
 first-fine (noRoom o h) = (refl, refl)
-first-fine (badLine {number = number} before l after o room c r) =
-    let fine = reason-fine (1 + length before) (omega arith) r in
-    (among number lineNumbers readingNumbers refl (fine .0), fine .1)
+first-fine (badLine {number = number} {field = field} before l after o room c r) = among number (1 + length before) field lineNumbers readingNumbers refl (reason-fine (1 + length before) (omega arith) r)
 first-fine (fullLine before l after o room c f h) = (refl, rw (le-leb 1 (1 + length before) (omega arith)))
 first-fine (lineMissing {ls = ls} o room c h) = (refl, rw (le-leb 1 (1 + length ls) (omega arith)))
 first-fine (objectMissing {field = field} o f u e r) = (refl, rw (le-leb 3 field (objects-field r)))
