@@ -1,9 +1,17 @@
 pub mod Marks
 pub mod Records
+pub mod RecordBytes
+pub mod AttributeBytes
+pub mod Entries
+pub mod WholeRecords
+pub mod FirstBad
+pub mod Payloads
 pub mod Models
 pub mod Standing
 pub mod Bounds
 pub mod GoodModels
+pub mod Encoding
 pub mod GoodPairs
 pub mod Names
+pub mod Decoding
 pub mod ModelClaims

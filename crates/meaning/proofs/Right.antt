@@ -7,6 +7,7 @@ pub mod Followed
 pub mod OneReason
 pub mod Content
 pub mod Points
+pub mod PairEntries
 pub mod Rows
 pub mod Objects
 pub mod Names

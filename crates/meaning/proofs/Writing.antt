@@ -7,6 +7,8 @@ pub mod Tables
 pub mod OwnReferences
 pub mod Writable
 pub mod Permits
+pub mod LentCounts
+pub mod Refusals
 pub mod RoundTrip
 pub mod WritingClaims
 pub mod RoomsLeft

@@ -268,24 +268,6 @@ unfoldable pub inTopicOrder : (least : ℕ) → List Table → Bool
 inTopicOrder least [] = true
 inTopicOrder least (t ∷ others) = leb least (t .topic) && inTopicOrder (t .topic) others
 
--- "u16 longest length", "u16 count of leaves"
-unfoldable pub isU16 : AttributeType → Bool
-isU16 (Reference t) = true
-isU16 (Coordinate cs) = true
-isU16 (Number c) = true
-isU16 (Text longest) = leb longest 65535
-isU16 Date = true
-isU16 (Enumeration leaves) = leb leaves 65535
-isU16 (Line forms cs) = true
-
-unfoldable pub areU16 : List Attribute → Bool
-areU16 [] = true
-areU16 (a ∷ others) = isU16 (a .type) && areU16 others
-
-unfoldable pub allU16 : List Table → Bool
-allU16 [] = true
-allU16 (t ∷ others) = areU16 (t .attributes) && allU16 others
-
 -- what is known of every model that the check calls good
 pub record GoodModel (m : Model) : Type 0 where
   pub blank : special (m .blank) ≡ true
@@ -304,4 +286,3 @@ pub record GoodModel (m : Model) : Type 0 where
   pub namesInTopic : (topic : ℕ) → goodNames (tableNames topic (m .tables)) ≡ true
   pub tableOrder : inTopicOrder 0 (m .tables) ≡ true
   pub someTable : (topic : ℕ) → topic < length (m .topics) → 1 ≤ length (tableNames topic (m .tables))
-  pub sizes : allU16 (m .tables) ≡ true

@@ -1,9 +1,9 @@
 -- A model's bytes (01, "The compiled model"), written forwards from what it says. It names nothing of the check; that
 -- the check takes exactly these bytes is proved (ModelClaims).
 use Prim.Native.Nat.{ℕ, _+_, _-_, _/_, _%_, _^_}
-use mathlib.Core.Bool.{Bool, true, false}
+use mathlib.Core.Bool.{Bool, true, false, _&&_}
 use mathlib.Core.List.{List, [], _∷_, _++_}
-use lib.Dec.{eqb}
+use lib.Dec.{leb, eqb}
 use lib.IntN.{ℤ, pos, negsuc}
 use lib.ListN.{length}
 use Rattle.meaning.specs.Bytes.{choose}
@@ -23,6 +23,26 @@ bitsOf (negsuc n) = 2 ^ 64 - 1 - n
 unfoldable pub u64Bytes : ℕ → List ℕ
 u64Bytes n = n % 256 ∷ n / 256 % 256 ∷ n / 256 ^ 2 % 256 ∷ n / 256 ^ 3 % 256 ∷ n / 256 ^ 4 % 256 ∷ n / 256 ^ 5 % 256
     ∷ n / 256 ^ 6 % 256 ∷ n / 256 ^ 7 ∷ []
+
+-- ## Sizes
+
+-- "u16 longest length", "u16 count of leaves"
+unfoldable pub isU16 : AttributeType → Bool
+isU16 (Reference t) = true
+isU16 (Coordinate cs) = true
+isU16 (Number c) = true
+isU16 (Text longest) = leb longest 65535
+isU16 Date = true
+isU16 (Enumeration leaves) = leb leaves 65535
+isU16 (Line forms cs) = true
+
+unfoldable pub areU16 : List Attribute → Bool
+areU16 [] = true
+areU16 (a ∷ others) = isU16 (a .type) && areU16 others
+
+unfoldable pub allU16 : List Table → Bool
+allU16 [] = true
+allU16 (t ∷ others) = areU16 (t .attributes) && allU16 others
 
 -- ## Records
 

@@ -12,7 +12,7 @@ use Rattle.meaning.specs.Cut.{Mark}
 use Rattle.meaning.specs.Model.{recordsFrom, targetOf, Attribute, Table, Model, modelOf}
 use Rattle.meaning.specs.Check.{Seen, nothingSeen, see, keeps, follows, isOutside, good, bad, checkModel}
 use Rattle.meaning.specs.Check.{GoodModel}
-use Rattle.meaning.specs.ModelBytes.{recordBytes, recordsOf, placed}
+use Rattle.meaning.specs.ModelBytes.{allU16, recordBytes, recordsOf, placed}
 
 -- ## Good exactly when
 
@@ -24,12 +24,13 @@ AreBytes b = every (λ x. ltb x 256) b ≡ true
 abbrev pub CheckedGood : Type 0
 CheckedGood = (model : List ℕ) (m : Model) → checkModel model ≡ good m → GoodModel m
 
--- these bytes are the records of a good model, each attribute of which has the byte of its record
+-- these bytes are the records of a good model whose sizes are 16 bits, each attribute with the byte of its record
 pub record IsModel (b : List ℕ) (m : Model) : Type 0 where
   pub short : length b ≤ 65536
   pub records : b ≡ recordsOf m
   pub rules : GoodModel m
   pub places : placed m ≡ m
+  pub sizes : allU16 (m .tables) ≡ true
 
 -- bytes are called good exactly when they are the records of a good model, and at most 65,536
 abbrev pub GoodExactly : Type 0

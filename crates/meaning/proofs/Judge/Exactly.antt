@@ -1,13 +1,11 @@
 -- "writing: no lines read as this table" (01, refusal 19): the judge finds a lent table fine exactly when its own lines read as it. Assumes nothing.
-use Prim.Native.Nat.{ℕ, _+_}
+use Prim.Native.Nat.{ℕ}
 use mathlib.Core.Path.{_≡_, refl}
 use mathlib.Core.Bool.{true}
 use mathlib.Core.List.{List}
 use lib.ListN.{length}
-use lib.Seq.{length-take-le}
-use borrow.Author.Tests.{leb-true}
 use Rattle.meaning.specs.Bytes.{allOf}
-use Rattle.meaning.specs.Model.{Model, markCount}
+use Rattle.meaning.specs.Model.{Model}
 use Rattle.meaning.specs.Check.{good, checkModel, GoodModel}
 use Rattle.meaning.specs.Writing.{Lent, countsFit, contentOf}
 use Rattle.meaning.specs.Readback.{isTable}
@@ -16,23 +14,19 @@ use Rattle.meaning.proofs.Tests.Refuse.{holds, same-test}
 use Rattle.meaning.proofs.Model.GoodModels.{checked-good}
 use Rattle.meaning.proofs.Judge.Valid.{Valid}
 use Rattle.meaning.proofs.Writing.Writable.{valid-reads}
-use Rattle.meaning.proofs.Judge.Unwritable.{reads-valid}
+use Rattle.meaning.proofs.Writing.LentCounts.{lent-counted}
+use Rattle.meaning.proofs.Judge.Unwritable.{table-valid}
 use Rattle.meaning.proofs.Judge.Rows.{all-judged, judged-all}
 use Rattle.meaning.proofs.Judge.Marks.{all-tables-judged, judged-all-tables}
 use Rattle.meaning.proofs.Judge.Tables.{rows-valid}
 use Rattle.meaning.proofs.Judge.TablesBack.{valid-told}
-
--- a lent table has a mark for each topic and each table
-lent-marks : (m : Model) (t : Lent) → countsFit m t ≡ true → length (contentOf m t .marks) ≡ length (m .topics) + length (m .tables)
-unfolding countsFit contentOf
-lent-marks m t h = length-take-le (markCount m) (t .marks) (leb-true (markCount m) (length (t .marks)) (holds _ 0 h))
 
 module _ (m : Model) (g : GoodModel m) (t : Lent) where
   -- a table that the judge finds fine is fine
   pub judged-valid : judge m t ≡ true → Valid m (t .text) (contentOf m t)
   unfolding judge
   judged-valid h =
-      rows-valid m (t .text) (contentOf m t) g (lent-marks m t (holds _ 0 h)) (holds _ 1 h)
+      rows-valid m (t .text) (contentOf m t) g (lent-counted m t (holds _ 0 h) .marks) (holds _ 1 h)
       (all-tables-judged (contentOf m t) (length (m .topics)) (m .tables) (holds _ 2 h))
       (all-judged m (t .text) (contentOf m t) g (contentOf m t .rows) refl (holds _ 3 h))
 
@@ -53,7 +47,7 @@ module _ (m : Model) (g : GoodModel m) (t : Lent) where
 
   table-judged : isTable m t ≡ true → judge m t ≡ true
   unfolding isTable
-  table-judged h = valid-judged (holds _ 0 h) (reads-valid m g _ (t .text) (contentOf m t) (holds _ 1 h))
+  table-judged h = valid-judged (holds _ 0 h) (table-valid m g t h)
 
 -- the judge and the reading of a table's own lines say the same
 pub judge-is-table : (m : Model) → GoodModel m → (t : Lent) → judge m t ≡ isTable m t

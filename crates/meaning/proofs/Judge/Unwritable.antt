@@ -1,33 +1,33 @@
--- "no lines read as this table" (01, refusal 19): a table is refused as unwritable exactly when no lines read as it. Assumes nothing.
-use Prim.Native.Nat.{ℕ, _≤_}
+-- "no lines read as this table" (01, refusal 19): lines that read as a lent table, lines that are right for it, and the test whether its own lines do. Assumes nothing.
+use Prim.Native.Nat.{ℕ}
 use native.Mathlib.Omega.{arith}
-use mathlib.Core.Path.{_≡_, refl, sym, _∙_}
+use mathlib.Core.Path.{_≡_, refl, sym, ap, subst, _∙_}
 use mathlib.Core.Logic.{_↔_}
-use mathlib.Core.Bool.{Bool, true, false, not, _||_, false≢true, true≢false}
+use mathlib.Core.Bool.{Bool, true, false, false≢true, true≢false}
 use mathlib.Core.List.{List}
-use lib.Dec.{ltb}
 use lib.IntN.{ℤ}
 use lib.ListN.{length}
-use borrow.Author.Tests.{le-ltb}
-use Rattle.meaning.specs.Bytes.{refuse, allOf}
+use Rattle.meaning.specs.Bytes.{allOf}
 use Rattle.meaning.specs.Unfold.{unfoldedText}
+use Rattle.meaning.specs.Cut.{Permitted}
 use Rattle.meaning.specs.Model.{Model}
 use Rattle.meaning.specs.Check.{good, checkModel, GoodModel}
-use Rattle.meaning.specs.Answer.{Answer, refusal}
 use Rattle.meaning.specs.Reading.{Content, State, startOf, Rooms}
 use Rattle.meaning.specs.Lines.{Run, ran, stopped, readLines}
 use Rattle.meaning.specs.Table.{resolved, Resolved, unresolved, resolve}
+use Rattle.meaning.specs.Right.{DeliveredTopic, tableOf}
 use Rattle.meaning.specs.Writing.{Lent, contentOf, linesOf}
 use Rattle.meaning.specs.Readback.{sameTable, isResolvedAs, isRunAs, readsAs, isTable}
-use Rattle.meaning.specs.Width.{cutLines, Written, writingRefused, writeBytes, writeChecked, write}
-use Rattle.meaning.specs.WritingClaims.{ReadAs, NoLines, resolvedTable}
-use Rattle.meaning.proofs.Tests.Unequal.{not-refused}
-use Rattle.meaning.proofs.Tests.Refuse.{refuse-keeps, holds}
+use Rattle.meaning.specs.WritingClaims.{RightAs, NoLines, ReadAs, NoLinesAtAll, resolvedTable}
+use Rattle.meaning.proofs.Tests.Refuse.{holds}
 use Rattle.meaning.proofs.Model.GoodModels.{checked-good}
 use Rattle.meaning.proofs.Judge.Valid.{Valid}
 use Rattle.meaning.proofs.Writing.Writable.{valid-reads}
 use Rattle.meaning.proofs.Reading.LinesRead.{read-valid}
 use Rattle.meaning.proofs.Judge.EqualTables.{tables-alike, valid-alike}
+use Rattle.meaning.proofs.Writing.Permits.{valid-permits}
+use Rattle.meaning.proofs.Right.Table.{room-for, right-run}
+use Rattle.meaning.proofs.Right.Accepted.{right-read}
 
 -- ## Lines that read as a table
 
@@ -73,44 +73,51 @@ pub read-table : (m : Model) → GoodModel m → (t : Lent) (ls : List (List ℕ
 unfolding isTable allOf
 read-table m g t ls r = rw (r .fits, own-lines-read m g ls (t .text) (contentOf m t) (r .reads))
 
+-- a lent table that its own lines read as is fine, and these lines hold permitted bytes only
+pub table-valid : (m : Model) → GoodModel m → (t : Lent) → isTable m t ≡ true → Valid m (t .text) (contentOf m t)
+table-valid m g t h = reads-valid m g _ (t .text) (contentOf m t) (table-reads m t h .reads)
+
+pub table-permitted : (m : Model) → GoodModel m → (t : Lent) → isTable m t ≡ true → Permitted (linesOf m (t .text) (contentOf m t))
+table-permitted m g t h = valid-permits m g (t .text) (contentOf m t) (table-valid m g t h)
+
+-- ## Lines that are right
+
+-- lines that read as a lent table are right, for objects whose table it is
+pub read-right : (m : Model) (t : Lent) (ls : List (List ℕ)) → ReadAs m t ls → RightAs m t ls
+read-right m t ls r =
+    let c : Content = contentOf m t in
+    let to = reads-to m ls (t .text) c (r .reads) in
+    let x = right-read m (roomsOf c) ls (to .state) (to .cells) (to .reads) (to .resolves) in
+    record {
+      fits = r .fits;
+      delivered = x .file .ds;
+      right = x .right;
+      same = subst (λ (b : Content). sameTable m (unfoldedText ls) b (t .text) c ≡ true) (x .table) (to .same);
+    }
+
+-- and the other way round: equal tables are as long, so there is room
+pub right-reads : (m : Model) → GoodModel m → (t : Lent) (ls : List (List ℕ)) → RightAs m t ls → ReadAs m t ls
+unfolding readsAs isRunAs isResolvedAs
+right-reads m g t ls r =
+    let c : Content = contentOf m t in
+    let ds : List DeliveredTopic = r .delivered in
+    let s = tables-alike m (unfoldedText ls) (tableOf m ds) (t .text) c (r .same) in
+    let rows = ap length (s .rows) in
+    let cells = s .long in
+    let points = ap length (s .points) in
+    let run = right-run m g (roomsOf c) ls ds (r .right) (room-for m (roomsOf c) ds (omega arith) (omega arith) (omega arith)) in
+    record { fits = r .fits; reads = rw (run .reads) (rw (run .resolves) (rw (run .table) (r .same))) }
+
+-- ## No lines
+
 pub no-table : (m : Model) → GoodModel m → (t : Lent) → (isTable m t ≡ false) ↔ NoLines m t
-no-table m g t = (λ e ls r. true≢false (sym (read-table m g t ls r) ∙ e), λ none. by none (isTable m t) refl)
+no-table m g t = (λ e ls permitted r. true≢false (sym (read-table m g t ls (right-reads m g t ls r)) ∙ e), λ none. by none (isTable m t) refl)
   where
     by : NoLines m t → (x : Bool) → isTable m t ≡ x → isTable m t ≡ false
-    by none true e = absurd (none _ (table-reads m t e))
+    by none true e = absurd (none _ (table-permitted m g t e) (read-right m t _ (table-reads m t e)))
     by none false e = e
 
--- ## The call
-
-not-21 : refusal 21 0 0 ≡ refusal 19 0 0 → ⊥
-not-21 h = let z : _≡_ {A = ℕ} 21 19 = cc in omega arith
-
-abbrev answerOf : Written → Answer
-answerOf w = w .answer
-
-bytes-written : (room : ℕ) (file : List ℕ) → answerOf (writeBytes room file) ≡ refusal 19 0 0 → ⊥
-unfolding writeBytes
-bytes-written room file = refuse-keeps (λ (w : Written). answerOf w ≡ refusal 19 0 0 → ⊥) (ltb room (length file) || ltb 16777216 (length file)) _ _ not-21 (λ _. not-refused (length file) 0 0 19 0 0)
-
-judged : (x : Bool) (room : ℕ) (w : Written) → (answerOf w ≡ refusal 19 0 0 → ⊥) → answerOf (refuse (not x) (writingRefused room 19 0) w) ≡ refusal 19 0 0 → x ≡ false
-unfolding refuse
-judged true room w h e = absurd (h e)
-judged false room w h e = refl
-
-refused-19 : (x : Bool) (room : ℕ) (w : Written) → x ≡ false → answerOf (refuse (not x) (writingRefused room 19 0) w) ≡ refusal 19 0 0
-unfolding refuse
-refused-19 x room w e = rw e
-
--- under a good model and at a width from 16 to 65,535 what is written depends on whether the lent table is one
-write-judged : (model : List ℕ) (m : Model) (t : Lent) (width room : ℕ) → checkModel model ≡ good m → 16 ≤ width → width ≤ 65535
-    → write model t width room ≡ refuse (not (isTable m t)) (writingRefused room 19 0) (writeBytes room (cutLines (m .mark) width (linesOf m (t .text) (contentOf m t))))
-unfolding write writeChecked refuse
-write-judged model m t width room e low high = rw (e, le-ltb width 16 low, le-ltb 65535 width high)
-
--- and 19 is answered exactly when no lines read as it
-pub unwritable : (model : List ℕ) (m : Model) (t : Lent) (width room : ℕ) → checkModel model ≡ good m → 16 ≤ width → width ≤ 65535
-    → (write model t width room .answer ≡ refusal 19 0 0) ↔ NoLines m t
-unwritable model m t width room e low high =
+pub no-lines-either : (model : List ℕ) (m : Model) (t : Lent) → checkModel model ≡ good m → NoLines m t ↔ NoLinesAtAll m t
+no-lines-either model m t e =
     let g : GoodModel m = checked-good model m e in
-    rw (write-judged model m t width room e low high)
-    (λ h. no-table m g t .0 (judged (isTable m t) room _ (bytes-written room _) h), λ none. refused-19 (isTable m t) room _ (no-table m g t .1 none))
+    (λ none ls r. true≢false (sym (read-table m g t ls r) ∙ no-table m g t .1 none), λ none ls permitted r. none ls (right-reads m g t ls r))

@@ -15,7 +15,7 @@ use Rattle.meaning.proofs.Model.Marks.{bad-good, passed, references-goo
 use Rattle.meaning.proofs.Tests.Same.{same-refl, same-not}
 use Rattle.meaning.proofs.Model.Models.{model-lists}
 use Rattle.meaning.proofs.Model.Records.{recordsAt, payloadAt, nextAt}
-use Rattle.meaning.proofs.Model.Standing.{entry-passes, transfer-keeps, payload-blank, payload-undefined, payload-mark, good-transfer, good-name, name-keeps, topic-name, stands-topic, topic-kind}
+use Rattle.meaning.proofs.Model.Standing.{kind-four, kind-five, entry-passes, transfer-keeps, payload-blank, payload-undefined, payload-mark, good-transfer, good-name, name-keeps, topic-name, stands-topic, topic-kind}
 use Rattle.meaning.proofs.Tests.Refuse.{neither}
 
 -- ## Names that are not among those seen
@@ -119,21 +119,13 @@ attributes-ok (entry at kind p others) before seen u m h = go (eqb kind 5) refl 
     go true q i = rw (eqb-true kind 5 q) (attribute-more at p seen (attributesOf others) (rw (eqb-true kind 5 q) at (e .1)) (rw (eqb-true kind 5 q) at i))
     go false q i = rw q (refl, tt, λ l. omega arith, refl)
 
-behind-four : (kind : ℕ) → follows 4 kind ≡ true → kind ≡ 5
-unfolding follows
-behind-four kind h = go (eqb kind 5) refl
-  where
-    go : (x : Bool) → eqb kind 5 ≡ x → kind ≡ 5
-    go true e = eqb-true kind 5 e
-    go false e = absurd (false≢true (rw e at h))
-
 -- behind a table's record there is an attribute
 some-attribute : (rs : Records) (seen : Seen) (u : Checked) (m : Model) → checkRecords 4 seen rs u ≡ good m → 1 ≤ length (attributesOf rs)
 unfolding checkRecords attributesOf choose
 some-attribute (finish at) seen u m h = absurd (true≢false (passed _ at _ m h .0))
 some-attribute (overrun at) seen u m h = absurd (bad-good at m h)
 some-attribute (entry at kind p others) seen u m h =
-    let five : kind ≡ 5 = behind-four kind (not-false _ (passed _ at _ m h .0)) in
+    let five : kind ≡ 5 = kind-five kind (not-false _ (passed _ at _ m h .0)) in
     rw five (omega arith)
 
 -- ## Tables
@@ -216,11 +208,11 @@ tables-few (entry at kind p others) before k seen u m l h =
 -- ## Names of the tables of a topic
 
 -- the tables behind k topics are of later topics than these
-later : (rs : Records) (k topic : ℕ) → topic + 1 < k → tableNames topic (tablesOf k rs) ≡ []
+pub names-later : (rs : Records) (k topic : ℕ) → topic + 1 < k → tableNames topic (tablesOf k rs) ≡ []
 unfolding tablesOf tableNames choose
-later (finish at) k topic l = refl
-later (overrun at) k topic l = refl
-later (entry at kind p others) k topic l = go (eqb kind 3) (eqb kind 4) refl refl (λ k′ l′. later others k′ topic l′)
+names-later (finish at) k topic l = refl
+names-later (overrun at) k topic l = refl
+names-later (entry at kind p others) k topic l = go (eqb kind 3) (eqb kind 4) refl refl (λ k′ l′. names-later others k′ topic l′)
   where
     go : (x y : Bool) → eqb kind 3 ≡ x → eqb kind 4 ≡ y → ((k′ : ℕ) → topic + 1 < k′ → tableNames topic (tablesOf k′ others) ≡ []) → tableNames topic (tablesOf k (entry at kind p others)) ≡ []
     go true y q r i = rw (eqb-true kind 3 q) (i (k + 1) (omega arith))
@@ -264,13 +256,59 @@ names-good (entry at kind p others) before k seen u m b h =
     go : (x y : Bool) → eqb kind 3 ≡ x → eqb kind 4 ≡ y → ((k′ : ℕ) → (3 ≤ kind → 1 ≤ k′) → Names k′ (see kind p seen .tables) others) → Names k (seen .tables) (entry at kind p others)
     go true y q r i =
         let three = eqb-true kind 3 q in
-        rw three (i (k + 1) (λ l. omega arith) .0, λ l. rw (later others (k + 1) (k - 1) (omega arith)) tt)
+        rw three (i (k + 1) (λ l. omega arith) .0, λ l. rw (names-later others (k + 1) (k - 1) (omega arith)) tt)
     go false true q r i =
         let four = eqb-true kind 4 r in
         let some : 1 ≤ k = b (behind-three before kind (e .0) (omega arith)) in
         rw four (table-more p k (flagOf p) (attributesOf others) seen (tablesOf k others) some (rw four at (e .1)) (rw four at (i k (λ l. some))))
     go false false q r i =
         rw (q, r) (subst (λ (ts : List (List ℕ)). Names k ts others) (tables-kept kind p seen q r) (i k (λ l. b (behind-three before kind (e .0) (omega (arith, eqb-false kind 3 q))))))
+
+-- ## Each topic has a table
+
+-- a table more leaves a topic its tables
+some-more : (topic : ℕ) (t : Table) (ts : List Table) → 1 ≤ length (tableNames topic ts) → 1 ≤ length (tableNames topic (t ∷ ts))
+unfolding tableNames choose
+some-more topic t ts h = go (eqb (t .topic) topic) refl
+  where
+    go : (x : Bool) → eqb (t .topic) topic ≡ x → 1 ≤ length (tableNames topic (t ∷ ts))
+    go true e = rw e (omega arith)
+    go false e = rw e h
+
+-- behind a topic's record there is a table
+first-table : (rs : Records) (k : ℕ) (seen : Seen) (u : Checked) (m : Model) → checkRecords 3 seen rs u ≡ good m → 1 ≤ length (tableNames k (tablesOf (k + 1) rs))
+unfolding checkRecords tablesOf tableNames choose
+first-table (finish at) k seen u m h = absurd (true≢false (passed _ at _ m h .0))
+first-table (overrun at) k seen u m h = absurd (bad-good at m h)
+first-table (entry at kind p others) k seen u m h =
+    let four : kind ≡ 4 = kind-four kind (not-false _ (passed _ at _ m h .0)) in
+    rw (four, eq-eqb (k + 1 - 1) k (omega arith)) (omega arith)
+
+some-table : (rs : Records) (before k : ℕ) (seen : Seen) (u : Checked) (m : Model) → checkRecords before seen rs u ≡ good m
+    → (topic : ℕ) → k ≤ topic → topic < k + length (topicsOf rs) → 1 ≤ length (tableNames topic (tablesOf k rs))
+unfolding tablesOf topicsOf choose
+some-table (finish at) before k seen u m h topic l g = absurd (omega arith)
+some-table (overrun at) before k seen u m h topic l g = absurd (omega arith)
+some-table (entry at kind p others) before k seen u m h topic l g =
+    go (eqb kind 3) (eqb kind 4) refl refl (λ k′ l′ g′. some-table others kind k′ (see kind p seen) u m behind topic l′ g′)
+  where
+    behind : checkRecords kind (see kind p seen) others u ≡ good m
+    behind = entry-passes before at kind seen p others u m h .2
+
+    go : (x y : Bool) → eqb kind 3 ≡ x → eqb kind 4 ≡ y → ((k′ : ℕ) → k′ ≤ topic → topic < k′ + length (topicsOf others) → 1 ≤ length (tableNames topic (tablesOf k′ others))) → 1 ≤ length (tableNames topic (tablesOf k (entry at kind p others)))
+    go true y q r i = rw (eqb-true kind 3 q) (at-topic (eqb topic k) refl)
+      where
+        three : kind ≡ 3
+        three = eqb-true kind 3 q
+
+        at-topic : (x : Bool) → eqb topic k ≡ x → 1 ≤ length (tableNames topic (tablesOf (k + 1) others))
+        at-topic true e = rw (eqb-true topic k e) (first-table others k (see 3 p seen) u m (rw three at behind))
+        at-topic false e = let c : topic < k + length (p ∷ topicsOf others) = rw three at g in let n = eqb-false topic k e in i (k + 1) (omega arith) (omega arith)
+    go false true q r i =
+        let four = eqb-true kind 4 r in
+        let c : topic < k + length (topicsOf others) = rw four at g in
+        rw four (some-more topic _ (tablesOf k others) (i k l c))
+    go false false q r i = let c : topic < k + length (topicsOf others) = rw q at g in rw (q, r) (i k l c)
 
 -- ## References
 
@@ -294,7 +332,7 @@ all-good n ts (t ∷ others) u m a h =
 
 -- ## The order of tables
 
-order-later : (a b : ℕ) (ts : List Table) → b ≤ a → inTopicOrder a ts ≡ true → inTopicOrder b ts ≡ true
+pub order-later : (a b : ℕ) (ts : List Table) → b ≤ a → inTopicOrder a ts ≡ true → inTopicOrder b ts ≡ true
 unfolding inTopicOrder
 order-later a b [] l h = refl
 order-later a b (t ∷ ts) l h = let r = both (leb a (t .topic)) _ h in rw (le-leb b (t .topic) (omega (arith, leb-true a (t .topic) (r .0)))) (r .1)
@@ -368,4 +406,5 @@ module _ (b : List ℕ) (m : Model) (h : checkModel b ≡ good m) where
     tables = all-good (length (m .topics)) (m .tables) (m .tables) (good m) m all-ok references;
     namesInTopic = λ topic. subst (λ (ts : List Table). goodNames (tableNames topic ts) ≡ true) tables-are (names-good rs 0 0 nothingSeen last m (λ q. omega arith) passes .0 topic);
     tableOrder = subst (λ (ts : List Table). inTopicOrder 0 ts ≡ true) tables-are (in-order rs 0);
+    someTable = λ topic l. subst (λ (ts : List Table). 1 ≤ length (tableNames topic ts)) tables-are (some-table rs 0 0 nothingSeen last m passes topic (omega arith) (omega (arith, l, ap length topics-are)));
   }

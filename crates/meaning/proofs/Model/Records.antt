@@ -29,7 +29,7 @@ skipped (suc n) at [] h = absurd (omega arith)
 skipped (suc n) at (b ∷ s) h = let e : at + suc n ≡ at + 1 + n = omega arith in rw e (skipped n (at + 1) s (omega arith))
 
 -- the first record of a list that begins at the byte `at`
-first-entry : (at : ℕ) (s : List ℕ) → u16At s 0 + 4 ≤ length s
+pub first-entry : (at : ℕ) (s : List ℕ) → u16At s 0 + 4 ≤ length s
     → recordsFrom 0 at s ≡ entry at (u16At s 2) (take (u16At s 0) (drop 4 s)) (recordsFrom 0 (at + 4 + u16At s 0) (drop (4 + u16At s 0) s))
 unfolding recordsFrom refuse
 first-entry at [] h = absurd (omega arith)
@@ -40,7 +40,7 @@ first-entry at (b ∷ s) h =
     let f : 4 + size ≡ suc (size + 3) = omega arith in
     rw (le-ltb (length s) (size + 3) (omega arith), r, e, f)
 
-first-overrun : (at : ℕ) (s : List ℕ) → 0 < length s → length s < u16At s 0 + 4 → recordsFrom 0 at s ≡ overrun at
+pub first-overrun : (at : ℕ) (s : List ℕ) → 0 < length s → length s < u16At s 0 + 4 → recordsFrom 0 at s ≡ overrun at
 unfolding recordsFrom refuse
 first-overrun at [] h l = absurd (omega arith)
 first-overrun at (b ∷ s) h l = rw (lt-ltb (length s) (u16At (b ∷ s) 0 + 3) (omega arith))

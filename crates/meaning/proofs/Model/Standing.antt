@@ -55,14 +55,60 @@ first-of l k d x xs e = go (ltb k (length l)) refl
         absurd (omega arith)
 
 -- behind the end record there is nothing
+pub nothing-more : (rs : Records) (seen : Seen) (u : Checked) (m : Model) → checkRecords 6 seen rs u ≡ good m → (n : ℕ) × (rs ≡ finish n)
+unfolding checkRecords follows
+nothing-more (finish at) seen u m h = (at, refl)
+nothing-more (overrun at) seen u m h = absurd (bad-good at m h)
+nothing-more (entry at kind p others) seen u m h = absurd (true≢false (passed _ at _ m h .0))
+
 nothing-behind : (k : ℕ) (rs : Records) (seen : Seen) (m : Model) → checkRecords 6 seen rs (good m) ≡ good m → (topicsOf rs ≡ []) × (tablesOf k rs ≡ [])
-unfolding topicsOf tablesOf checkRecords follows
-nothing-behind k (finish at) seen m h = (refl, refl)
-nothing-behind k (overrun at) seen m h = absurd (bad-good at m h)
-nothing-behind k (entry at kind p others) seen m h = absurd (true≢false (passed _ at _ m h .0))
+unfolding topicsOf tablesOf
+nothing-behind k rs seen m h = let n = nothing-more rs seen (good m) m h in (rw (n .1), rw (n .1))
 
 none-left : {A : Type 0} (l : List A) (k : ℕ) → [] ≡ drop k l → length l ≤ k
 none-left l k e = let z : 0 ≡ length l - k = ap length e ∙ length-drop k l in omega arith
+
+-- ## Which record may follow
+
+-- behind the transfer record stands the model's, behind the model's a topic's, behind a topic's a table's, behind a table's an attribute's
+pub kind-two : (kind : ℕ) → follows 1 kind ≡ true → kind ≡ 2
+unfolding follows followsTransfer
+kind-two kind h = go (eqb kind 2) refl
+  where
+    go : (x : Bool) → eqb kind 2 ≡ x → kind ≡ 2
+    go true e = eqb-true kind 2 e
+    go false e = absurd (false≢true (rw e at h))
+
+pub kind-three : (kind : ℕ) → follows 2 kind ≡ true → kind ≡ 3
+unfolding follows
+kind-three kind h = go (eqb kind 3) refl
+  where
+    go : (x : Bool) → eqb kind 3 ≡ x → kind ≡ 3
+    go true e = eqb-true kind 3 e
+    go false e = absurd (false≢true (rw e at h))
+
+pub kind-four : (kind : ℕ) → follows 3 kind ≡ true → kind ≡ 4
+unfolding follows
+kind-four kind h = go (eqb kind 4) refl
+  where
+    go : (x : Bool) → eqb kind 4 ≡ x → kind ≡ 4
+    go true e = eqb-true kind 4 e
+    go false e = absurd (false≢true (rw e at h))
+
+pub kind-five : (kind : ℕ) → follows 4 kind ≡ true → kind ≡ 5
+unfolding follows
+kind-five kind h = go (eqb kind 5) refl
+  where
+    go : (x : Bool) → eqb kind 5 ≡ x → kind ≡ 5
+    go true e = eqb-true kind 5 e
+    go false e = absurd (false≢true (rw e at h))
+
+-- behind an attribute's one of the kinds 3 to 6
+pub kind-any : (kind : ℕ) → follows 5 kind ≡ true → (3 ≤ kind) × (kind ≤ 6)
+unfolding follows
+kind-any kind h = let q = both (leb 3 kind) (leb kind 6) h in (leb-true 3 kind (q .0), leb-true kind 6 (q .1))
+
+-- ## At a record
 
 module _ (b : List ℕ) (m : Model) (at k t : ℕ) (s : Standing b m at k t) where
   -- there is a record here
@@ -165,37 +211,14 @@ module _ (b : List ℕ) (m : Model) (at k t : ℕ) (s : Standing b m at k t) whe
       let q : tablesOf k (recordsAt b (nextAt b at)) ≡ drop t (m .tables) = rw (is-entry, e) at (s .tables) in
       (none-left (m .topics) k (sym (n .0) ∙ p), none-left (m .tables) t (sym (n .1) ∙ q))
 
-  -- ## Which record may follow
-
-  kind-four : (kind : ℕ) → follows 3 kind ≡ true → kind ≡ 4
-  unfolding follows
-  kind-four kind h = go (eqb kind 4) refl
-    where
-      go : (x : Bool) → eqb kind 4 ≡ x → kind ≡ 4
-      go true e = eqb-true kind 4 e
-      go false e = absurd (false≢true (rw e at h))
-
-  kind-five : (kind : ℕ) → follows 4 kind ≡ true → kind ≡ 5
-  unfolding follows
-  kind-five kind h = go (eqb kind 5) refl
-    where
-      go : (x : Bool) → eqb kind 5 ≡ x → kind ≡ 5
-      go true e = eqb-true kind 5 e
-      go false e = absurd (false≢true (rw e at h))
-
-  kind-any : (kind : ℕ) → follows 5 kind ≡ true → (3 ≤ kind) × (kind ≤ 6)
-  unfolding follows
-  kind-any kind h = let q = both (leb 3 kind) (leb kind 6) h in (leb-true 3 kind (q .0), leb-true kind 6 (q .1))
-
--- a table's record stands behind a topic's, an attribute's behind a table's, and one of the kinds 3 to 6 behind an attribute's
 module _ (b : List ℕ) (m : Model) (at k t : ℕ) (s : Standing b m at k t) where
   pub table-next : u16At b (at + 2) ≡ 3 → u16At b (nextAt b at + 2) ≡ 4
   unfolding behind-topic
-  table-next e = kind-four b m at k t s _ (subst (λ (x : ℕ). follows x (u16At b (nextAt b at + 2)) ≡ true) e (stands-follows b m (nextAt b at) (k + 1) t (behind-topic b m at k t s e)))
+  table-next e = kind-four _ (subst (λ (x : ℕ). follows x (u16At b (nextAt b at + 2)) ≡ true) e (stands-follows b m (nextAt b at) (k + 1) t (behind-topic b m at k t s e)))
 
 -- ## An attribute's payload
 
-no-letter : (longest n : ℕ) (p : List ℕ) → isName longest (drop n p) ≡ true → n < length p
+pub no-letter : (longest n : ℕ) (p : List ℕ) → isName longest (drop n p) ≡ true → n < length p
 unfolding isName letter
 no-letter longest n p h = go (ltb n (length p)) refl
   where
@@ -218,7 +241,7 @@ rest-any before seen (entry at kind p others) u m h v =
     rw (e, f) (rest-any kind (see kind p seen) others u m (q .1) v)
 
 module _ (b : List ℕ) (m : Model) (h : checkModel b ≡ good m) where
-  opened : (length b ≤ 65536) × (modelOf (recordsAt b 0) ≡ m) × ((v : Checked) → checkRecords 0 nothingSeen (recordsAt b 0) v ≡ v)
+  pub opened : (length b ≤ 65536) × (modelOf (recordsAt b 0) ≡ m) × ((v : Checked) → checkRecords 0 nothingSeen (recordsAt b 0) v ≡ v)
   unfolding checkModel
   opened =
       let r = passed _ 0 _ m h in
@@ -263,25 +286,9 @@ module _ (b : List ℕ) (m : Model) (h : checkModel b ≡ good m) where
         tables = rw (first-entry, first-kind) at (stands-first .tables);
       }
 
-  is-model : (kind : ℕ) → follows 1 kind ≡ true → kind ≡ 2
-  unfolding follows followsTransfer
-  is-model kind q = go (eqb kind 2) refl
-    where
-      go : (x : Bool) → eqb kind 2 ≡ x → kind ≡ 2
-      go true e = eqb-true kind 2 e
-      go false e = absurd (false≢true (rw e at q))
-
-  is-topic : (kind : ℕ) → follows 2 kind ≡ true → kind ≡ 3
-  unfolding follows
-  is-topic kind q = go (eqb kind 3) refl
-    where
-      go : (x : Bool) → eqb kind 3 ≡ x → kind ≡ 3
-      go true e = eqb-true kind 3 e
-      go false e = absurd (false≢true (rw e at q))
-
   pub second-kind : u16At b (nextAt b 0 + 2) ≡ 2
   unfolding stands-second
-  second-kind = is-model _ (subst (λ (x : ℕ). follows x (u16At b (nextAt b 0 + 2)) ≡ true) first-kind (stands-follows b m (nextAt b 0) 0 0 stands-second))
+  second-kind = kind-two _ (subst (λ (x : ℕ). follows x (u16At b (nextAt b 0 + 2)) ≡ true) first-kind (stands-follows b m (nextAt b 0) 0 0 stands-second))
 
   second-entry : recordsAt b (nextAt b 0) ≡ entry (nextAt b 0) (u16At b (nextAt b 0 + 2)) (payloadAt b (nextAt b 0)) (recordsAt b (nextAt b (nextAt b 0)))
   second-entry = entry-at b (nextAt b 0) (stands-fits b m (nextAt b 0) 0 0 stands-second)
@@ -303,7 +310,7 @@ module _ (b : List ℕ) (m : Model) (h : checkModel b ≡ good m) where
 
   pub topic-kind : u16At b (nextAt b (nextAt b 0) + 2) ≡ 3
   unfolding stands-topic
-  topic-kind = is-topic _ (subst (λ (x : ℕ). follows x (u16At b (nextAt b (nextAt b 0) + 2)) ≡ true) second-kind (stands-follows b m (nextAt b (nextAt b 0)) 0 0 stands-topic))
+  topic-kind = kind-three _ (subst (λ (x : ℕ). follows x (u16At b (nextAt b (nextAt b 0) + 2)) ≡ true) second-kind (stands-follows b m (nextAt b (nextAt b 0)) 0 0 stands-topic))
 
   -- ## The transfer and the model record
 

@@ -1,7 +1,7 @@
 -- Lines that were read are right; and lines that are right are read, or there is no room. Assumes nothing.
 use Prim.Native.Nat.{ℕ, _+_}
 use native.Mathlib.Omega.{arith}
-use mathlib.Core.Path.{_≡_, refl, sym, ap, subst, _∙_}
+use mathlib.Core.Path.{_≡_, refl, sym, ap, ap₂, subst, _∙_}
 use mathlib.Core.Bool.{Bool, true, false, _||_}
 use mathlib.Core.List.{List}
 use lib.Dec.{ltb}
@@ -16,8 +16,8 @@ use Rattle.meaning.specs.Answer.{accepted}
 use Rattle.meaning.specs.Reading.{Due, nothing, Content, State, nothingRead, startOf, Rooms}
 use Rattle.meaning.specs.Lines.{go, Run, ran, stopped, run, readLines}
 use Rattle.meaning.specs.Table.{Resolved, resolved, unresolved, resolve, refusedWith, readResolved, readRun, readText}
-use Rattle.meaning.specs.WritingClaims.{Enough}
-use Rattle.meaning.specs.Right.{Delivered, DeliveredTopic, objectsOfTopics, withStarts, File, Unique, namesOf, pointsOf, cellsOfPoints, tableOf}
+use Rattle.meaning.specs.WritingClaims.{Enough, resolvedTable}
+use Rattle.meaning.specs.Right.{Delivered, DeliveredTopic, objectsOfTopics, withStarts, File, Unique, Right, namesOf, pointsOf, cellsOfPoints, tableOf}
 use Rattle.meaning.specs.RightClaims.{RightWithin, IsAccepted, HasRoom}
 use Rattle.meaning.proofs.Tests.Unequal.{no-resolved, not-accepted}
 use Rattle.meaning.proofs.Tests.Refuse.{neither}
@@ -30,7 +30,7 @@ use Rattle.meaning.proofs.Right.Steps.{RanTo, run-steps}
 use Rattle.meaning.proofs.Right.Content.{rowsFrom, contentOf, starts-list, cells-length}
 use Rattle.meaning.proofs.Right.Objects.{lines-stand, RoomFor}
 use Rattle.meaning.proofs.Right.Topics.{file-read}
-use Rattle.meaning.proofs.Right.Table.{References, allNamed, firstUnnamed, references-of, lines-read}
+use Rattle.meaning.proofs.Right.Table.{References, allNamed, firstUnnamed, references-of, lines-read, resolved-is}
 use Rattle.meaning.proofs.Right.Rooms.{RunAlike, runsSame, runsFull, run-alike}
 use Rattle.meaning.proofs.Right.BackTopics.{FileOf, file-of}
 
@@ -75,15 +75,32 @@ module _ (m : Model) (rooms : Rooms) (ls : List (List ℕ)) where
   unfolding tableOf
   content-is s f = f .same
 
-  resolved-right : HasRoom m ls rooms → (s : State) (cs : List ℤ) → readLines m rooms own (startOf m) ls ≡ ran s → resolve m own (s .content) ≡ resolved cs → RightWithin m ls rooms
-  resolved-right room s cs e q = by (lines-right s e)
-    where
-      made : (f : FileOf m rooms own (s .content) (noMarks m) (withStarts 0 ls)) → References m own (tableOf m (f .ds) .marks) (objectsOfTopics (f .ds)) → RightWithin m ls rooms
-      made f (allNamed r h) = record { delivered = f .ds; right = record { file = f .structure; unique = f .unique; references = r }; enough = enough-of room s e f }
-      made f (firstUnnamed a b n h) = absurd (no-resolved a b cs (sym h ∙ (ap (λ (c : Content). resolve m own c) (content-is s f) ∙ q)))
+  -- lines that were read and whose references were resolved are right, and what they gave is the table of what they deliver
+  pub record RightRead (s : State) (cs : List ℤ) : Type 0 where
+    pub file : FileOf m rooms own (s .content) (noMarks m) (withStarts 0 ls)
+    pub right : Right m ls (file .ds)
+    pub table : resolvedTable (s .content) cs ≡ tableOf m (file .ds)
 
-      by : (f : FileOf m rooms own (s .content) (noMarks m) (withStarts 0 ls)) → RightWithin m ls rooms
+  pub right-read : (s : State) (cs : List ℤ) → readLines m rooms own (startOf m) ls ≡ ran s → resolve m own (s .content) ≡ resolved cs → RightRead s cs
+  unfolding tableOf
+  right-read s cs e q = by (lines-right s e)
+    where
+      made : (f : FileOf m rooms own (s .content) (noMarks m) (withStarts 0 ls)) → References m own (tableOf m (f .ds) .marks) (objectsOfTopics (f .ds)) → RightRead s cs
+      made f (firstUnnamed a b n h) = absurd (no-resolved a b cs (sym h ∙ (ap (λ (c : Content). resolve m own c) (content-is s f) ∙ q)))
+      made f (allNamed r h) =
+          let given : resolved (tableOf m (f .ds) .cells) ≡ resolved cs = sym h ∙ (ap (λ (c : Content). resolve m own c) (content-is s f) ∙ q) in
+          let cells : tableOf m (f .ds) .cells ≡ cs = cc in
+          record {
+            file = f;
+            right = record { file = f .structure; unique = f .unique; references = r };
+            table = ap₂ (λ (c : Content) (xs : List ℤ). resolvedTable c xs) (sym (content-is s f)) (sym cells) ∙ resolved-is m (f .ds);
+          }
+
+      by : (f : FileOf m rooms own (s .content) (noMarks m) (withStarts 0 ls)) → RightRead s cs
       by f = made f (references-read s f)
+
+  resolved-right : HasRoom m ls rooms → (s : State) (cs : List ℤ) → readLines m rooms own (startOf m) ls ≡ ran s → resolve m own (s .content) ≡ resolved cs → RightWithin m ls rooms
+  resolved-right room s cs e q = let r = right-read s cs e q in record { delivered = r .file .ds; right = r .right; enough = enough-of room s e (r .file) }
 
   has-room : (ltb (rooms .text) (length own) || ltb (rooms .marks) (length (m .topics) + length (m .tables))) ≡ false → HasRoom m ls rooms
   has-room e =

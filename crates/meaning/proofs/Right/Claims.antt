@@ -27,8 +27,6 @@ use Rattle.meaning.proofs.Model.Marks as marks
 use Rattle.meaning.proofs.Model.GoodModels as models
 use Rattle.meaning.proofs.Reading.Claims.{cut-reads-as-lines}
 use Rattle.meaning.proofs.Right.Content.{contentOf}
-use Rattle.meaning.proofs.Right.Objects.{lines-stand}
-use Rattle.meaning.proofs.Right.Topics.{file-read}
 use Rattle.meaning.proofs.Right.References as references
 use Rattle.meaning.proofs.Right.Table as table
 use Rattle.meaning.proofs.Right.Accepted as accepting
@@ -102,13 +100,9 @@ module _ (model file : List ℕ) (m : Model) (rooms : Rooms) (number first secon
 
   settled-not : (s : State) → read model file rooms ≡ readRun m rooms own (ran s) → s .content ≡ contentOf (tableOf m ds .marks) (objectsOfTopics ds) → ⊥
   unfolding readRun readResolved acceptedWith
-  settled-not s g c = by (table.references-of m own (tableOf m ds .marks) (objectsOfTopics ds) (file-read m own (r .file) (lines-stand own 0 ls refl)))
-    where
-      by : table.References m own (tableOf m ds .marks) (objectsOfTopics ds) → ⊥
-      by (table.References.firstUnnamed a b f q) = table.objects-unnamed m (objectsOfTopics ds) f (r .references)
-      by (table.References.allNamed n q) =
-          let there = ap (λ (x : Content). resolve m own x) c ∙ q in
-          not-accepted number first second _ _ _ (sym h ∙ ap (λ (x : Result). x .answer) (g ∙ ap (λ (x : Resolved). readResolved rooms own (s .content) x) there))
+  settled-not s g c =
+      let there = ap (λ (x : Content). resolve m own x) c ∙ table.right-resolved m ls ds r in
+      not-accepted number first second _ _ _ (sym h ∙ ap (λ (x : Result). x .answer) (g ∙ ap (λ (x : Resolved). readResolved rooms own (s .content) x) there))
 
   lines-not : Opened model file m ls → HasRoom m ls rooms → ⊥
   unfolding readRun

@@ -29,7 +29,7 @@ use Rattle.meaning.proofs.Writing.Writable.{read-to-end}
 use Rattle.meaning.proofs.Right.Content.{contentOf}
 use Rattle.meaning.proofs.Right.Objects.{LinesStand, lines-stand}
 use Rattle.meaning.proofs.Right.Topics.{file-read}
-use Rattle.meaning.proofs.Right.Table.{References, allNamed, firstUnnamed, references-of, entries-unnamed, objects-unnamed, lines-read, room-enough}
+use Rattle.meaning.proofs.Right.Table.{References, allNamed, firstUnnamed, references-of, entries-unnamed, objects-unnamed, lines-read, room-for}
 use Rattle.meaning.proofs.Right.BackTopics.{FileOf}
 use Rattle.meaning.proofs.Right.Accepted.{noMarks, lines-right, enough-of, references-read, content-is}
 use Rattle.meaning.proofs.Right.Runs.{StoppedAt, stopped-at, passed-then, stopped-lines, missing-lines, complete-lines, LinesCame, stopsAt, lacks, passes, lines-came}
@@ -131,7 +131,7 @@ module _ (model file : List ℕ) (rooms : Rooms) where
   unfolding readRun
   object-given m ls ds object field o structure unique enough f =
       let own : List ℕ = unfoldedText ls in
-      let to = lines-read m (models.checked-good model m (o .isGood)) rooms ls ds structure unique (room-enough m rooms ls ds enough) in
+      let to = lines-read m (models.checked-good model m (o .isGood)) rooms ls ds structure unique (room-for m rooms ds (enough .rows) (enough .cells) (enough .points)) in
       let there = references-of m own (tableOf m ds .marks) (objectsOfTopics ds) (file-read m own structure (lines-stand own 0 ls refl)) in
       read-opened model file rooms m ls o (record { text = enough .text; marks = enough .marks }) _ (read-to-end m rooms own (startOf m) (to .final) ls (to .runs) (to .due))
       ∙ unnamed m rooms own (tableOf m ds .marks) (objectsOfTopics ds) (to .final .content) object field there (to .content) f

@@ -16,7 +16,7 @@ use Rattle.meaning.specs.Value.{sameIdentification}
 use Rattle.meaning.specs.Row.{Pair, OfAttribute, OfComponent, OfLine}
 use Rattle.meaning.specs.Reading.{Object, stretch}
 use Rattle.meaning.specs.Table.{findObject, resolved, unresolved, afterResolved, putReference, resolvePair, resolvePairs}
-use Rattle.meaning.specs.Right.{Entry, Undefined, OfValue, OfText, OfReference, OfPoints, Delivered, Line, Means, number, date, enumeration, text, reference, Before, Entries, done, defined, undefined, cover, under, alsoDefined, alsoUndefined, alsoCover, alsoUnder, undrawn, along, noObject, identificationAt, Unique, Names, IsNamed, AllNamed, namesOf, numberCell, entryCells}
+use Rattle.meaning.specs.Right.{Entry, Undefined, OfValue, OfText, OfReference, OfPoints, Delivered, Line, Means, number, date, enumeration, text, reference, noObject, identificationAt, Unique, Names, IsNamed, AllNamed, namesOf, numberCell, entryCells}
 use Rattle.meaning.specs.RightClaims.{fieldBehind, FirstOfEntries}
 use Rattle.meaning.specs.RightClaims as claims
 use Rattle.meaning.proofs.Tests.Refuse.{both}
@@ -25,6 +25,7 @@ use Rattle.meaning.proofs.Tests.Unequal.{no-found, same-found}
 use Rattle.meaning.proofs.Reading.Stretches.{AllStand}
 use Rattle.meaning.proofs.Writing.Attributes.{set-pair, moved, moved-length}
 use Rattle.meaning.proofs.Right.Content.{lateCells}
+use Rattle.meaning.proofs.Right.PairEntries.{Before, PairEntries, done, defined, undefined, cover, under, alsoDefined, alsoUndefined, alsoCover, alsoUnder, undrawn, along}
 
 -- ## An object of a table and an identification
 
@@ -167,7 +168,7 @@ module _ (own : List ℕ) (all : List Delivered) where
           broken field (claims.FirstOfEntries.here (λ q. missing-names target 0 (f .bytes) all e (q .number) (q .within) (q .table) (q .same)))
           (unnamed-fails o target f ps object field front (lateCells k es ++ rest) st e)
 
-  pub entries-outcome : {u : ℕ} {b : Before} {ps : List Pair} {fs : List Field} {ls : List Line} {es : List Entry} → Entries u b ps fs ls es → AllStand own fs
+  pub entries-outcome : {u : ℕ} {b : Before} {ps : List Pair} {fs : List Field} {ls : List Line} {es : List Entry} → PairEntries u b ps fs ls es → AllStand own fs
       → (object field k : ℕ) (front rest : List ℤ) → Outcome ps es object field k front rest
   unfolding lateCells entryCells fieldBehind resolvePairs
   entries-outcome done st object field k front rest = settled tt refl

@@ -1,5 +1,5 @@
 -- Lines that are right are read as their table. Assumes nothing.
-use Prim.Native.Nat.{ℕ, _+_}
+use Prim.Native.Nat.{ℕ, _+_, _≤_}
 use native.Mathlib.Omega.{arith}
 use mathlib.Core.Path.{_≡_, refl, sym, ap, _∙_}
 use mathlib.Core.Bool.{false, _||_}
@@ -13,9 +13,10 @@ use Rattle.meaning.specs.Unfold.{unfoldedText}
 use Rattle.meaning.specs.Model.{Model, tableAt}
 use Rattle.meaning.specs.Check.{GoodModel}
 use Rattle.meaning.specs.Row.{Pair, pairsOf}
-use Rattle.meaning.specs.Reading.{nothing, Content, nothingRead, startOf, Rooms, objectsOf}
+use Rattle.meaning.specs.Reading.{nothing, Content, State, nothingRead, startOf, Rooms, objectsOf}
+use Rattle.meaning.specs.Lines.{ran, readLines}
 use Rattle.meaning.specs.Table.{Resolved, resolved, unresolved, afterResolved, resolvePairs, resolveRows, resolve, acceptedWith, readResolved, readRun, readText}
-use Rattle.meaning.specs.WritingClaims.{Enough}
+use Rattle.meaning.specs.WritingClaims.{Enough, resolvedTable}
 use Rattle.meaning.specs.Right.{Entry, Delivered, DeliveredTopic, objectsOfTopics, withStarts, File, Unique, AllNamed, Referred, Right, namesOf, entryCells, entryPoints, pointsOf, cellsOfPoints, rowsCells, tableOf}
 use Rattle.meaning.specs.RightClaims.{FirstOfEntries, FirstOfObjects}
 use Rattle.meaning.specs.RightClaims as claims
@@ -118,19 +119,47 @@ lines-read m good rooms ls ds structure unique room =
     steps-run m rooms (unfoldedText ls) ls (startOf m) nothing _
     (file-run m rooms (unfoldedText ls) good structure (lines-stand (unfoldedText ls) 0 ls refl) (replicate (length (m .topics) + length (m .tables)) 0) unique room)
 
-pub room-enough : (m : Model) (rooms : Rooms) (ls : List (List ℕ)) (ds : List DeliveredTopic) → Enough m ls (tableOf m ds) rooms → RoomFor rooms (objectsOfTopics ds)
+-- the lengths of the table are the room that its objects need
+pub room-for : (m : Model) (rooms : Rooms) (ds : List DeliveredTopic) → length (tableOf m ds .rows) ≤ rooms .rows → length (tableOf m ds .cells) ≤ rooms .cells → length (tableOf m ds .points) ≤ rooms .points
+    → RoomFor rooms (objectsOfTopics ds)
 unfolding tableOf
-room-enough m rooms ls ds e =
+room-for m rooms ds rows cells points =
     let os : List Delivered = objectsOfTopics ds in
     let a = ap length (starts-list 0 0 os) in
     let b = starts-length 0 0 os in
     let c = cells-length (namesOf os) 0 os in
-    record { rows = omega (arith, e .rows); cells = omega (arith, e .cells); points = e .points }
+    record { rows = omega (arith, rows); cells = omega (arith, cells); points = points }
 
-accepted-table : (m : Model) (rooms : Rooms) (own : List ℕ) (ds : List DeliveredTopic)
-    → acceptedWith rooms own (contentOf (tableOf m ds .marks) (objectsOfTopics ds)) (tableOf m ds .cells) ≡ acceptedWith rooms own (tableOf m ds) (tableOf m ds .cells)
-unfolding acceptedWith tableOf
-accepted-table m rooms own ds = rw (starts-list 0 0 (objectsOfTopics ds))
+-- what the lines give, with its references resolved, is the table
+pub resolved-is : (m : Model) (ds : List DeliveredTopic) → resolvedTable (contentOf (tableOf m ds .marks) (objectsOfTopics ds)) (tableOf m ds .cells) ≡ tableOf m ds
+unfolding tableOf
+resolved-is m ds = rw (starts-list 0 0 (objectsOfTopics ds))
+
+-- and the references of lines that are right are resolved
+pub right-resolved : (m : Model) (ls : List (List ℕ)) (ds : List DeliveredTopic) → Right m ls ds → resolve m (unfoldedText ls) (contentOf (tableOf m ds .marks) (objectsOfTopics ds)) ≡ resolved (tableOf m ds .cells)
+unfolding tableOf
+right-resolved m ls ds r = by (references-of m (unfoldedText ls) (tableOf m ds .marks) (objectsOfTopics ds) (file-read m (unfoldedText ls) (r .file) (lines-stand (unfoldedText ls) 0 ls refl)))
+  where
+    by : References m (unfoldedText ls) (tableOf m ds .marks) (objectsOfTopics ds) → resolve m (unfoldedText ls) (contentOf (tableOf m ds .marks) (objectsOfTopics ds)) ≡ resolved (tableOf m ds .cells)
+    by (allNamed s q) = q
+    by (firstUnnamed a b f q) = absurd (objects-unnamed m (objectsOfTopics ds) f (r .references))
+
+-- lines that are right are read to their end
+pub record RightRun (m : Model) (rooms : Rooms) (ls : List (List ℕ)) (ds : List DeliveredTopic) : Type 0 where
+  pub state : State
+  pub reads : readLines m rooms (unfoldedText ls) (startOf m) ls ≡ ran state
+  pub resolves : resolve m (unfoldedText ls) (state .content) ≡ resolved (tableOf m ds .cells)
+  pub table : resolvedTable (state .content) (tableOf m ds .cells) ≡ tableOf m ds
+
+pub right-run : (m : Model) → GoodModel m → (rooms : Rooms) (ls : List (List ℕ)) (ds : List DeliveredTopic) → Right m ls ds → RoomFor rooms (objectsOfTopics ds) → RightRun m rooms ls ds
+right-run m good rooms ls ds r room =
+    let ran-to = lines-read m good rooms ls ds (r .file) (r .unique) room in
+    record {
+      state = ran-to .final;
+      reads = read-to-end m rooms (unfoldedText ls) (startOf m) (ran-to .final) ls (ran-to .runs) (ran-to .due);
+      resolves = ap (λ (c : Content). resolve m (unfoldedText ls) c) (ran-to .content) ∙ right-resolved m ls ds r;
+      table = ap (λ (c : Content). resolvedTable c (tableOf m ds .cells)) (ran-to .content) ∙ resolved-is m ds;
+    }
 
 no-refusal : (m : Model) (rooms : Rooms) (ls : List (List ℕ)) (c : Content) → Enough m ls c rooms
     → (ltb (rooms .text) (length (unfoldedText ls)) || ltb (rooms .marks) (length (m .topics) + length (m .tables))) ≡ false
@@ -138,16 +167,7 @@ no-refusal m rooms ls c e = rw (le-ltb (rooms .text) (length (unfoldedText ls)) 
 
 pub right-is-read : (m : Model) → GoodModel m → (ls : List (List ℕ)) (ds : List DeliveredTopic) (rooms : Rooms) → Right m ls ds → Enough m ls (tableOf m ds) rooms
     → readText m rooms ls ≡ acceptedWith rooms (unfoldedText ls) (tableOf m ds) (tableOf m ds .cells)
-unfolding readText refuse readRun readResolved tableOf
+unfolding readText refuse readRun readResolved acceptedWith
 right-is-read m good ls ds rooms r enough =
-    let own : List ℕ = unfoldedText ls in
-    let os : List Delivered = objectsOfTopics ds in
-    let ran-to = lines-read m good rooms ls ds (r .file) (r .unique) (room-enough m rooms ls ds enough) in
-    let read = read-to-end m rooms own (startOf m) (ran-to .final) ls (ran-to .runs) (ran-to .due) in
-    rw (no-refusal m rooms ls (tableOf m ds) enough, read, ran-to .content) (by (references-of m own (tableOf m ds .marks) os (file-read m own (r .file) (lines-stand own 0 ls refl))))
-  where
-    by : References m (unfoldedText ls) (tableOf m ds .marks) (objectsOfTopics ds)
-        → readResolved rooms (unfoldedText ls) (contentOf (tableOf m ds .marks) (objectsOfTopics ds)) (resolve m (unfoldedText ls) (contentOf (tableOf m ds .marks) (objectsOfTopics ds)))
-        ≡ acceptedWith rooms (unfoldedText ls) (tableOf m ds) (tableOf m ds .cells)
-    by (allNamed s q) = rw q (accepted-table m rooms (unfoldedText ls) ds)
-    by (firstUnnamed a b f q) = absurd (objects-unnamed m (objectsOfTopics ds) f (r .references))
+    let run = right-run m good rooms ls ds r (room-for m rooms ds (enough .rows) (enough .cells) (enough .points)) in
+    rw (no-refusal m rooms ls (tableOf m ds) enough, run .reads) (rw (run .resolves) (ap (λ (c : Content). acceptedWith rooms (unfoldedText ls) c (tableOf m ds .cells)) (run .table)))

@@ -1,9 +1,12 @@
 -- Tests that refuse: what is known where they did not. Assumes nothing.
-use Prim.Native.Nat.{ℕ, zero, suc}
+use Prim.Native.Nat.{ℕ, zero, suc, _≤_}
 use mathlib.Core.Path.{_≡_, refl, sym}
-use mathlib.Core.Bool.{Bool, true, false, _&&_, _||_, false≢true}
+use mathlib.Core.Bool.{Bool, true, false, _&&_, _||_, false≢true, true≢false}
 use mathlib.Core.List.{List, [], _∷_}
+use mathlib.Core.Logic.{_↔_}
+use lib.Dec.{ltb}
 use lib.ListN.{getD}
+use borrow.Author.Tests.{ltb-false, le-ltb}
 use Rattle.meaning.specs.Bytes.{choose, refuse, allOf}
 
 -- a test whose refusal is not what came out did not refuse
@@ -43,6 +46,15 @@ both false b h = absurd (false≢true h)
 pub neither : (a b : Bool) → (a || b) ≡ false → (a ≡ false) × (b ≡ false)
 neither true b h = absurd (false≢true (sym h))
 neither false b h = (refl, h)
+
+-- neither is less
+pub neither-less : (a b c d : ℕ) → ((ltb a b || ltb c d) ≡ false) ↔ ((b ≤ a) × (d ≤ c))
+neither-less a b c d = (λ e. let n = neither (ltb a b) (ltb c d) e in (ltb-false a b (n .0), ltb-false c d (n .1)), λ h. rw (le-ltb a b (h .0), le-ltb c d (h .1)))
+
+-- a test that holds exactly when something is not so
+pub holds-unless : (x : Bool) {P : Type 0} → (x ≡ false) ↔ P → (x ≡ true) ↔ (P → ⊥)
+holds-unless true s = (λ _ p. true≢false (s .1 p), λ _. refl)
+holds-unless false s = (λ e. absurd (false≢true e), λ n. absurd (n (s .0 refl)))
 
 -- a test that cannot hold, and one that cannot fail
 pub no-true : (t : Bool) → (t ≡ true → ⊥) → t ≡ false

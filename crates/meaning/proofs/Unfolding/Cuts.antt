@@ -1,20 +1,36 @@
 -- Unfolding and cuts: `cut-unfolds`, a cut of permitted lines is unfolded to them; `unfolds-cut`, what is unfolded to lines is a cut of them.
 -- Assumes nothing.
-use Prim.Native.Nat.{ℕ, _+_}
+use Prim.Native.Nat.{ℕ, _+_, _≤_}
 use native.Mathlib.Omega.{arith}
 use mathlib.Core.Path.{_≡_, refl, sym, ap, ap₂, _∙_}
 use mathlib.Core.Bool.{Bool, true, false, not, _&&_, false≢true, or-true, and-true, and-false}
 use mathlib.Core.List.{List, [], _∷_, _++_, append-assoc}
-use lib.ListN.{length, drop}
+use lib.ListN.{length, drop, length-append}
 use lib.Dec.{eqb}
 use borrow.Author.Tests.{ne-eqb, eq-eqb, le-leb, eqb-true, not-false}
 use Rattle.meaning.specs.Bytes.{choose, refuse, permitted, every, allPermitted, begins, ends, withoutLast, prefix, cont}
-use Rattle.meaning.specs.Unfold.{physical, lines, Physical, line, tail, byte, add, none, fault, Unfolded, put, dropIf, withoutLastIf, next, unfoldLines, unfoldFile}
+use Rattle.meaning.specs.Unfold.{physical, lines, Physical, line, tail, byte, add, none, fault, Unfolded, put, dropIf, withoutLastIf, next, unfoldLines, unfoldFile, unfoldedText}
 use Rattle.meaning.specs.Cut.{End, lf, crlf, last, more, Cut, done, Mark, Permitted}
 use Rattle.meaning.specs.Faults as faults
 use Rattle.meaning.specs.Faults.{lead, WithoutLF, Ended}
 use Rattle.meaning.proofs.Tests.Refuse.{passed}
 pub use Rattle.meaning.proofs.Tests.Refuse.{both}
+
+-- ## A cut's length
+
+end-long : {e : List ℕ} → End e → 1 ≤ length e
+end-long lf = omega arith
+end-long crlf = omega arith
+
+-- a cut has at least as many bytes as the unfolded text of its lines
+pub cut-long : {mark : ℕ} {ls : List (List ℕ)} {f : List ℕ} → Cut mark ls f → length (unfoldedText ls) ≤ length f
+unfolding unfoldedText
+cut-long done = omega arith
+cut-long (last p {e = e} {f = f} {ls = ls} ok ne end c) = simp length-append (omega (arith, end-long end, cut-long c))
+cut-long (more p {e = e} {l = l} {f = f} {ls = ls} ok end c) =
+    let longer = cut-long c in
+    let split : length (l ++ (0x0a ∷ unfoldedText ls)) ≡ length l + (1 + length (unfoldedText ls)) = length-append l (0x0a ∷ unfoldedText ls) ∙ omega arith in
+    simp length-append (omega arith)
 
 -- ## A cut's physical lines
 

@@ -2,7 +2,7 @@
 use Prim.Native.Nat.{ℕ, _*_, _≤_}
 use native.Mathlib.Omega.{arith}
 use mathlib.Core.Path.{_≡_, refl, sym, ap, subst, _∙_}
-use mathlib.Core.Bool.{Bool, true, false}
+use mathlib.Core.Bool.{Bool, true, false, true≢false}
 use mathlib.Core.List.{List}
 use lib.IntN.{ℤ}
 use lib.ListN.{length}
@@ -26,7 +26,8 @@ use Rattle.meaning.proofs.Judge.EqualTables.{TablesAlike}
 use Rattle.meaning.proofs.Reading.Buffers.{Fits, Ran, lines-fit}
 use Rattle.meaning.proofs.Reading.LinesRead.{read-valid}
 use Rattle.meaning.proofs.Tests.Unequal.{not-accepted}
-use Rattle.meaning.proofs.Judge.Unwritable.{unwritable, table-reads}
+use Rattle.meaning.proofs.Judge.Unwritable.{no-table}
+use Rattle.meaning.proofs.Writing.Refusals.{unwritable}
 use Rattle.meaning.proofs.Writing.WrittenAgain.{table-again}
 
 -- the lines and the table behind a result that is accepted
@@ -132,5 +133,6 @@ module _ (m : Model) (g : GoodModel m) (rooms : Rooms) (r : Result) (i : ReadInt
 pub read-is-writable : (model file : List ℕ) (m : Model) (rooms : Rooms) (objects cells points width room : ℕ) → checkModel model ≡ good m → read model file rooms .answer ≡ accepted objects cells points
     → 16 ≤ width → width ≤ 65535 → write model (lentAgain (read model file rooms) objects cells points) width room .answer ≡ refusal 19 0 0 → ⊥
 read-is-writable model file m rooms o c p width room e h low high q =
+    let g : GoodModel m = checked-good model m e in
     let t : Lent = lentAgain (read model file rooms) o c p in
-    unwritable model m t width room e low high .0 q _ (table-reads m t (lent-table m (checked-good model m e) rooms (read model file rooms) (read-into m rooms o c p model file e h) o c p h))
+    true≢false (sym (lent-table m g rooms (read model file rooms) (read-into m rooms o c p model file e h) o c p h) ∙ no-table m g t .1 (unwritable model m t width room e (low, high) .0 q))

@@ -1,12 +1,12 @@
 -- What writing leaves in its room, and the width of what is written. Assumes nothing.
 use Prim.Native.Nat.{ℕ, zero, suc, _+_, _-_, _≤_, _<_}
 use native.Mathlib.Omega.{arith}
-use mathlib.Core.Path.{_≡_, refl, sym, subst}
-use mathlib.Core.Bool.{Bool, true, false, not, _||_}
+use mathlib.Core.Path.{_≡_, refl, subst}
+use mathlib.Core.Bool.{Bool, true, false, _||_}
 use mathlib.Core.List.{List, [], _∷_, _++_, append-assoc}
 use lib.Dec.{ltb, leb}
 use lib.ListN.{length, take, replicate, length-replicate}
-use lib.Seq.{drop-append-seam, take-append-seam}
+use lib.Seq.{drop-append-seam}
 use borrow.Author.Tests.{ltb-false, lt-ltb, leb-true, le-leb, ne-eqb}
 use Rattle.meaning.specs.Bytes.{choose, permitted, every, allPermitted, cont}
 use Rattle.meaning.specs.Cut.{Mark, Permitted}
@@ -14,7 +14,6 @@ use Rattle.meaning.specs.Model.{Model}
 use Rattle.meaning.specs.Check.{Checked, good, bad, checkModel, GoodModel}
 use Rattle.meaning.specs.Answer.{accepted, refusal}
 use Rattle.meaning.specs.Writing.{Lent, contentOf, linesOf}
-use Rattle.meaning.specs.Readback.{isTable}
 use Rattle.meaning.specs.Width.{goesWhole, cutRest, cutLine, cutLines, Written, writingRefused, writeBytes, writeChecked, write}
 use Rattle.meaning.specs.WritingClaims.{RoomUsed, fitsWidth}
 use Rattle.meaning.proofs.Tests.Refuse.{refuse-keeps, both, neither}
@@ -22,8 +21,7 @@ use Rattle.meaning.proofs.Model.Marks.{good-mark}
 use Rattle.meaning.proofs.Tests.Unequal.{not-refused, not-accepted}
 use Rattle.meaning.proofs.Unfolding.TextLeft.{filled-length}
 use Rattle.meaning.proofs.Model.GoodModels.{checked-good}
-use Rattle.meaning.proofs.Writing.Permits.{valid-permits}
-use Rattle.meaning.proofs.Judge.Unwritable.{reads-valid, table-reads}
+use Rattle.meaning.proofs.Judge.Unwritable.{table-permitted}
 use Rattle.meaning.proofs.Writing.RoundTrip.{written-as}
 use Rattle.meaning.proofs.Unfolding.Cuts.{not-lf}
 
@@ -54,9 +52,9 @@ writing-left model t width room = go (checkModel model)
     go : (c : Checked) → Left room (writeChecked t width room c)
     go (bad at) = refused-left room 2 at
     go (good m) =
-        refuse-keeps (Left room) (ltb width 16 || ltb 65535 width) _ _ (refused-left room 20 0) (λ _.
-        refuse-keeps (Left room) (not (isTable m t)) _ _ (refused-left room 19 0) (λ _.
-        bytes-left room (cutLines (m .mark) width (linesOf m (t .text) (contentOf m t)))))
+        refuse-keeps (Left room) _ _ _ (refused-left room 20 0) (λ _.
+        refuse-keeps (Left room) _ _ _ (refused-left room 19 0) (λ _.
+        bytes-left room _))
 
 -- ## The width
 
@@ -124,8 +122,4 @@ written-fits model m t width room n e h =
     let g : GoodModel m = checked-good model m e in
     let w = written-as model m t width room n e h in
     let ls : List (List ℕ) = linesOf m (t .text) (contentOf m t) in
-    let file : List ℕ = cutLines (m .mark) width ls in
-    let back = table-reads m t (w .table) in
-    let front : take n (write model t width room .output) ≡ file = rw (w .output, ← (w .size)) (take-append-seam file _) in
-    subst (λ (f : List ℕ). fitsWidth width 0 f ≡ true) (sym front)
-    (lines-fit width (m .mark) (w .wide) (mark-permitted (m .mark) (good-mark model m e)) ls (valid-permits m g (t .text) (contentOf m t) (reads-valid m g ls (t .text) (contentOf m t) (back .reads))))
+    rw (w .bytes) (lines-fit width (m .mark) (w .wide) (mark-permitted (m .mark) (good-mark model m e)) ls (table-permitted m g t (w .table)))

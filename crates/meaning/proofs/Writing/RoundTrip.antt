@@ -1,33 +1,34 @@
 -- What is written is read as the table that was lent. Assumes nothing.
-use Prim.Native.Nat.{ℕ, _*_, _/_, _≤_}
+use Prim.Native.Nat.{ℕ, _/_, _≤_}
 use native.Mathlib.Omega.{arith}
 use mathlib.Core.Path.{_≡_, refl, ap, _∙_}
-use mathlib.Core.Bool.{Bool, true, false, not, _||_}
+use mathlib.Core.Bool.{Bool, true, false}
 use mathlib.Core.List.{List}
-use lib.Dec.{ltb}
 use lib.ListN.{length, take}
-use lib.Seq.{take-append-seam, length-take-le}
-use borrow.Author.Tests.{le-ltb, ltb-false, leb-true, not-false}
+use lib.IntN.{ℤ}
+use lib.Seq.{take-append-seam}
+use borrow.Author.Tests.{le-ltb, not-false}
 use Rattle.meaning.specs.Bytes.{refuse}
 use Rattle.meaning.specs.Unfold.{unfoldedText}
 use Rattle.meaning.specs.Cut.{Cut}
 use Rattle.meaning.specs.Model.{Model, markCount}
-use Rattle.meaning.specs.Check.{good, checkModel, GoodModel}
-use Rattle.meaning.specs.Answer.{Answer, accepted, refusal, filled}
+use Rattle.meaning.specs.Check.{good, checkModel}
+use Rattle.meaning.specs.Answer.{Answer, accepted}
 use Rattle.meaning.specs.Reading.{Content, startOf, Rooms}
 use Rattle.meaning.specs.Table.{read, Result, acceptedWith, readResolved, readRun, readText}
 use Rattle.meaning.specs.Writing.{Lent, countsFit, contentOf, linesOf}
-use Rattle.meaning.specs.Readback.{isTable}
-use Rattle.meaning.specs.Width.{cutLines, Written, writingRefused, writeBytes, writeChecked, write}
-use Rattle.meaning.specs.WritingClaims.{Enough, ReadBack}
+use Rattle.meaning.specs.Readback.{sameTable, isTable}
+use Rattle.meaning.specs.Width.{Written, writingRefused, writeBytes, writeChecked, write}
+use Rattle.meaning.specs.WritingClaims.{fileOf, Enough, resolvedTable, ReadBack, RoomsAsLent}
 use Rattle.meaning.proofs.Tests.Unequal.{not-accepted}
-use Rattle.meaning.proofs.Tests.Refuse.{neither, holds}
+use Rattle.meaning.proofs.Tests.Refuse.{neither-less}
 use Rattle.meaning.proofs.Model.GoodModels.{checked-good}
 use Rattle.meaning.proofs.Reading.Rooms.{Wider, lines-wider}
+use Rattle.meaning.proofs.Unfolding.Cuts.{cut-long}
 use Rattle.meaning.proofs.Unfolding.Widths.{width-cuts}
 use Rattle.meaning.proofs.Judge.EqualTables.{tables-alike}
-use Rattle.meaning.proofs.Writing.Permits.{valid-permits}
-use Rattle.meaning.proofs.Judge.Unwritable.{roomsOf, ReadsTo, reads-to, reads-valid, table-reads}
+use Rattle.meaning.proofs.Writing.LentCounts.{lent-counted, alike-counted}
+use Rattle.meaning.proofs.Judge.Unwritable.{roomsOf, ReadsTo, reads-to, table-reads, table-permitted}
 use Rattle.meaning.proofs.Reading.Claims.{cut-reads-as-lines}
 
 -- ## Room enough
@@ -57,59 +58,79 @@ went-on false room k at n w h = (refl, h, refl)
 pub record WrittenAs (m : Model) (t : Lent) (width room n : ℕ) (w : Written) : Type 0 where
   pub wide : 16 ≤ width
   pub table : isTable m t ≡ true
-  pub size : length (cutLines (m .mark) width (linesOf m (t .text) (contentOf m t))) ≡ n
+  pub size : length (fileOf m t width) ≡ n
   pub fits : n ≤ 16777216
-  pub output : w .output ≡ filled 0 room (cutLines (m .mark) width (linesOf m (t .text) (contentOf m t)))
+  pub bytes : take n (w .output) ≡ fileOf m t width
 
 pub written-as : (model : List ℕ) (m : Model) (t : Lent) (width room n : ℕ) → checkModel model ≡ good m → write model t width room .answer ≡ accepted n 0 0 → WrittenAs m t width room n (write model t width room)
 unfolding write writeChecked writeBytes
 written-as model m t width room n e h =
-    let file : List ℕ = cutLines (m .mark) width (linesOf m (t .text) (contentOf m t)) in
-    let a = went-on (ltb width 16 || ltb 65535 width) room 20 0 n _ (rw e at h) in
-    let b = went-on (not (isTable m t)) room 19 0 n _ (a .1) in
-    let d = went-on (ltb room (length file) || ltb 16777216 (length file)) room 21 0 n _ (b .1) in
+    let file : List ℕ = fileOf m t width in
+    let a = went-on _ room 20 0 n _ (rw e at h) in
+    let b = went-on _ room 19 0 n _ (a .1) in
+    let d = went-on _ room 21 0 n _ (b .1) in
     let size : length file ≡ n = cc (d .1) in
-    let q = neither (ltb room (length file)) (ltb 16777216 (length file)) (d .0) in
     record {
-      wide = ltb-false width 16 (neither (ltb width 16) (ltb 65535 width) (a .0) .0);
+      wide = neither-less width 16 _ width .0 (a .0) .0;
       table = not-false _ (b .0);
       size = size;
-      fits = omega (arith, ltb-false 16777216 (length file) (q .1));
-      output = rw e (ap (λ (w : Written). w .output) (a .2 ∙ (b .2 ∙ d .2)));
+      fits = omega (arith, neither-less room (length file) 16777216 (length file) .0 (d .0) .1);
+      bytes = rw (e, ap (λ (w : Written). w .output) (a .2 ∙ (b .2 ∙ d .2)), ← size) (take-append-seam file _);
+    }
+
+-- what was written is a cut of the table's lines
+pub written-is-cut : (model : List ℕ) (m : Model) (t : Lent) (width room n : ℕ) → checkModel model ≡ good m → write model t width room .answer ≡ accepted n 0 0
+    → Cut (m .mark) (linesOf m (t .text) (contentOf m t)) (take n (write model t width room .output))
+written-is-cut model m t width room n e h =
+    let w = written-as model m t width room n e h in
+    rw (w .bytes) (width-cuts (m .mark) width (linesOf m (t .text) (contentOf m t)) (table-permitted m (checked-good model m e) t (w .table)))
+
+-- rooms for the bytes that were written and for the lent counts have enough
+pub lent-is-enough : (model : List ℕ) (m : Model) (t : Lent) (width room n : ℕ) (rooms : Rooms) → checkModel model ≡ good m → write model t width room .answer ≡ accepted n 0 0 → RoomsAsLent m t n rooms
+    → Enough m (linesOf m (t .text) (contentOf m t)) (contentOf m t) rooms
+lent-is-enough model m t width room n rooms e h r =
+    let w = written-as model m t width room n e h in
+    let lent = lent-counted m t (table-reads m t (w .table) .fits) in
+    let long = cut-long (written-is-cut model m t width room n e h) in
+    let size = ap length (w .bytes) ∙ w .size in
+    record {
+      text = omega (arith, r .text);
+      marks = r .marks;
+      rows = omega (arith, lent .rows, r .rows);
+      cells = omega (arith, lent .cells, r .cells);
+      points = omega (arith, lent .points, r .points);
     }
 
 -- ## Round trip
+
+-- a table that is alike is accepted with the lent counts
+counts-back : (m : Model) (t : Lent) (rooms : Rooms) (text : List ℕ) (c : Content) (cs : List ℤ) → countsFit m t ≡ true → sameTable m text (resolvedTable c cs) (t .text) (contentOf m t) ≡ true
+    → acceptedWith rooms text c cs .answer ≡ accepted (t .objects) (t .cellCount) (t .pointCount)
+unfolding acceptedWith
+counts-back m t rooms text c cs fits same =
+    let s = alike-counted m t text (resolvedTable c cs) fits (tables-alike m text (resolvedTable c cs) (t .text) (contentOf m t) same) in
+    let points : length (c .points) / 4 ≡ t .pointCount = omega (arith, s .points) in
+    rw (s .rows, s .cells, points)
 
 -- the bytes that were written, read into rooms that have enough, give the lent table: its marks, rows, cells and points, its texts and identifications by their bytes
 pub round-trip : (model : List ℕ) (m : Model) (t : Lent) (width room n : ℕ) (rooms : Rooms) → checkModel model ≡ good m → write model t width room .answer ≡ accepted n 0 0
     → Enough m (linesOf m (t .text) (contentOf m t)) (contentOf m t) rooms → ReadBack m t rooms (read model (take n (write model t width room .output)) rooms)
 round-trip model m t width room n rooms e h enough =
-    let g : GoodModel m = checked-good model m e in
     let c : Content = contentOf m t in
     let ls : List (List ℕ) = linesOf m (t .text) c in
-    let file : List ℕ = cutLines (m .mark) width ls in
+    let bytes : List ℕ = take n (write model t width room .output) in
     let w = written-as model m t width room n e h in
-    let back = table-reads m t (w .table) in
-    let r = reads-to m ls (t .text) c (back .reads) in
-    let cut : Cut (m .mark) ls file = width-cuts (m .mark) width ls (valid-permits m g (t .text) c (reads-valid m g ls (t .text) c (back .reads))) in
-    let front : take n (write model t width room .output) ≡ file = rw (w .output, ← (w .size)) (take-append-seam file _) in
-    let size = w .size in
+    let own = table-reads m t (w .table) in
+    let r = reads-to m ls (t .text) c (own .reads) in
+    let size : length bytes ≡ n = ap length (w .bytes) ∙ w .size in
     let fits = w .fits in
+    let is : read model bytes rooms ≡ acceptedWith rooms (unfoldedText ls) (r .state .content) (r .cells) =
+    cut-reads-as-lines model m ls bytes rooms e (omega arith) (written-is-cut model m t width room n e h) ∙ reads-text m ls (t .text) c rooms enough r in
     record {
       text = unfoldedText ls;
       content = r .state .content;
       cells = r .cells;
-      is = ap (λ (f : List ℕ). read model f rooms) front ∙ (cut-reads-as-lines model m ls file rooms e (omega arith) cut ∙ reads-text m ls (t .text) c rooms enough r);
+      is = is;
       same = r .same;
+      counts = ap (λ (x : Result). x .answer) is ∙ counts-back m t rooms (unfoldedText ls) (r .state .content) (r .cells) (own .fits) (r .same);
     }
-
--- its answer has the lent table's counts
-pub round-trip-answer : (m : Model) (t : Lent) (rooms : Rooms) (r : Result) → countsFit m t ≡ true → ReadBack m t rooms r → r .answer ≡ accepted (t .objects) (t .cellCount) (t .pointCount)
-unfolding countsFit acceptedWith contentOf
-round-trip-answer m t rooms r fits b =
-    let s = tables-alike m (b .text) _ (t .text) (contentOf m t) (b .same) in
-    let objects : length (b .content .rows) ≡ t .objects = ap length (s .rows) ∙ length-take-le (t .objects) (t .rows) (leb-true (t .objects) (length (t .rows)) (holds _ 1 fits)) in
-    let cells : length (b .cells) ≡ t .cellCount = s .long ∙ length-take-le (t .cellCount) (t .cells) (leb-true (t .cellCount) (length (t .cells)) (holds _ 2 fits)) in
-    let points : length (b .content .points) ≡ 4 * t .pointCount = ap length (s .points) ∙ length-take-le (4 * t .pointCount) (t .points) (leb-true (4 * t .pointCount) (length (t .points)) (holds _ 3 fits)) in
-    let count : length (b .content .points) / 4 ≡ t .pointCount = omega arith in
-    ap (λ (x : Result). x .answer) (b .is) ∙ rw (objects, cells, count)

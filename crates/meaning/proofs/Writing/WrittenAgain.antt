@@ -1,5 +1,5 @@
 -- What was written, read and written again gives the same bytes. Assumes nothing.
-use Prim.Native.Nat.{ℕ, _+_, _*_, _-_}
+use Prim.Native.Nat.{ℕ, _*_, _-_}
 use native.Mathlib.Omega.{arith}
 use mathlib.Core.Path.{_≡_, sym, ap, subst, _∙_}
 use mathlib.Core.Bool.{true}
@@ -7,8 +7,8 @@ use mathlib.Core.List.{List}
 use lib.Dec.{leb}
 use lib.IntN.{ℤ, pos}
 use lib.ListN.{length, take, replicate, length-append}
-use lib.Seq.{take-at, length-take-le}
-use borrow.Author.Tests.{leb-true, le-leb}
+use lib.Seq.{take-at}
+use borrow.Author.Tests.{le-leb}
 use Rattle.meaning.specs.Bytes.{allOf}
 use Rattle.meaning.specs.Model.{Model, markCount}
 use Rattle.meaning.specs.Check.{good, checkModel, GoodModel}
@@ -19,14 +19,14 @@ use Rattle.meaning.specs.Writing.{Lent, countsFit, contentOf, linesOf}
 use Rattle.meaning.specs.Readback.{cellsWithoutStarts, textsOf, isTable}
 use Rattle.meaning.specs.Width.{writeChecked, write}
 use Rattle.meaning.specs.WritingClaims.{Enough, resolvedTable, lentAgain}
-use Rattle.meaning.proofs.Tests.Refuse.{holds}
 use Rattle.meaning.proofs.Model.GoodModels.{checked-good}
 use Rattle.meaning.proofs.Judge.Valid.{Valid}
 use Rattle.meaning.proofs.Judge.EqualTables.{TablesAlike, tables-alike, valid-alike}
+use Rattle.meaning.proofs.Writing.LentCounts.{Counted, alike-counted}
 use Rattle.meaning.proofs.Writing.EqualLines.{lines-same}
 use Rattle.meaning.proofs.Writing.LongerText.{longer-alike}
 use Rattle.meaning.proofs.Writing.Writable.{valid-reads}
-use Rattle.meaning.proofs.Judge.Unwritable.{reads-valid, table-reads}
+use Rattle.meaning.proofs.Judge.Unwritable.{table-reads, table-valid}
 use Rattle.meaning.proofs.Writing.RoundTrip.{written-as, round-trip}
 
 alike-back : (m : Model) (text : List ℕ) (c : Content) (text′ : List ℕ) (c′ : Content) → TablesAlike m text c text′ c′ → TablesAlike m text′ c′ text c
@@ -54,38 +54,25 @@ module _ (m : Model) (g : GoodModel m) (t : Lent) (counts : countsFit m t ≡ tr
   abbrev pub again : Lent
   again = lentAgain (acceptedWith rooms text c cs) (t .objects) (t .cellCount) (t .pointCount)
 
-  mark-size : length (c .marks) ≡ markCount m
-  unfolding countsFit contentOf
-  mark-size = ap length (s .marks) ∙ length-take-le (markCount m) (t .marks) (leb-true (markCount m) (length (t .marks)) (holds _ 0 counts))
-
-  row-size : length (c .rows) ≡ t .objects
-  unfolding countsFit contentOf
-  row-size = ap length (s .rows) ∙ length-take-le (t .objects) (t .rows) (leb-true (t .objects) (length (t .rows)) (holds _ 1 counts))
-
-  cell-size : length cs ≡ t .cellCount
-  unfolding countsFit contentOf
-  cell-size = s .long ∙ length-take-le (t .cellCount) (t .cells) (leb-true (t .cellCount) (length (t .cells)) (holds _ 2 counts))
-
-  point-size : length (c .points) ≡ 4 * t .pointCount
-  unfolding countsFit contentOf
-  point-size = ap length (s .points) ∙ length-take-le (4 * t .pointCount) (t .points) (leb-true (4 * t .pointCount) (length (t .points)) (holds _ 3 counts))
+  counted : Counted m t (resolvedTable c cs)
+  counted = alike-counted m t text (resolvedTable c cs) counts s
 
   content-again : contentOf m again ≡ resolvedTable c cs
   unfolding contentOf acceptedWith
   content-again = rw (
-    take-at (c .marks) (replicate (rooms .marks - length (c .marks)) 0) (markCount m) mark-size,
-    take-at (c .rows) (replicate (rooms .rows - length (c .rows)) 0) (t .objects) row-size,
-    take-at cs (replicate (rooms .cells - length cs) (pos 0)) (t .cellCount) cell-size,
-    take-at (c .points) (replicate (rooms .points - length (c .points)) (pos 0)) (4 * t .pointCount) point-size,
+    take-at (c .marks) (replicate (rooms .marks - length (c .marks)) 0) (markCount m) (counted .marks),
+    take-at (c .rows) (replicate (rooms .rows - length (c .rows)) 0) (t .objects) (counted .rows),
+    take-at cs (replicate (rooms .cells - length cs) (pos 0)) (t .cellCount) (counted .cells),
+    take-at (c .points) (replicate (rooms .points - length (c .points)) (pos 0)) (4 * t .pointCount) (counted .points),
   )
 
   counts-again : countsFit m again ≡ true
   unfolding countsFit allOf acceptedWith
   counts-again = rw (
-    fits 0 (rooms .marks) (markCount m) (c .marks) mark-size,
-    fits 0 (rooms .rows) (t .objects) (c .rows) row-size,
-    fits (pos 0) (rooms .cells) (t .cellCount) cs cell-size,
-    fits (pos 0) (rooms .points) (4 * t .pointCount) (c .points) point-size,
+    fits 0 (rooms .marks) (markCount m) (c .marks) (counted .marks),
+    fits 0 (rooms .rows) (t .objects) (c .rows) (counted .rows),
+    fits (pos 0) (rooms .cells) (t .cellCount) cs (counted .cells),
+    fits (pos 0) (rooms .points) (4 * t .pointCount) (c .points) (counted .points),
   )
 
   abbrev longer : List ℕ
@@ -115,7 +102,7 @@ written-again model m t width room n rooms e h enough width′ room′ =
     let g : GoodModel m = checked-good model m e in
     let w = written-as model m t width room n e h in
     let own = table-reads m t (w .table) in
-    let valid : Valid m (t .text) (contentOf m t) = reads-valid m g _ (t .text) (contentOf m t) (own .reads) in
+    let valid : Valid m (t .text) (contentOf m t) = table-valid m g t (w .table) in
     let back = round-trip model m t width room n rooms e h enough in
     let s = tables-alike m (back .text) (resolvedTable (back .content) (back .cells)) (t .text) (contentOf m t) (back .same) in
     ap (λ (r : Result). write model (lentAgain r (t .objects) (t .cellCount) (t .pointCount)) width′ room′) (back .is)
