@@ -5,5 +5,6 @@ pub mod Shortest
 pub mod Runs
 pub mod Shapes
 pub mod ValueClaims
+pub mod Judged
 pub mod Numerals
 pub mod Values

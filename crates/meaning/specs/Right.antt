@@ -10,13 +10,14 @@ use mathlib.Core.List.{List, [], _∷_, _++_}
 use lib.IntN.{ℤ, pos}
 use lib.ListN.{length, getD, set, replicate}
 use Rattle.meaning.specs.Bytes.{every, textByte, prefix}
-use Rattle.meaning.specs.Model.{Component, AttributeType, Reference, Number, Text, Date, Enumeration, Found}
-use Rattle.meaning.specs.Model.{found, missing, Model, markCount, tableAt}
+use Rattle.meaning.specs.Model.{Component, AttributeType, Reference, Coordinate, Number, Text, Date, Enumeration}
+use Rattle.meaning.specs.Model.{Found, found, missing, Attribute, Model, markCount, tableAt}
+use Rattle.meaning.specs.Model as model
 use Rattle.meaning.specs.Field.{Field, noField, fieldsOf, SCNT, slashes, MTID, MODL, TOPI, TABL, OBJE, STPT, LIPT}
 use Rattle.meaning.specs.Field.{ARCP, ELIN, ETAB, ETOP, EMOD, ENDE}
 use Rattle.meaning.specs.Value.{pair, numberOf, dateOf, enumerationOf, isIdentification, isUndefined}
 use Rattle.meaning.specs.Value.{isUndefinedTwice}
-use Rattle.meaning.specs.Row.{Pair, OfAttribute, OfComponent, OfLine, pairsOf, pointCells}
+use Rattle.meaning.specs.Row.{pointCells}
 use Rattle.meaning.specs.Reading.{Content, sameName, Object}
 use Rattle.meaning.specs.Table.{findObject}
 
@@ -154,58 +155,71 @@ pub data Drawn (u forms : ℕ) (cs : List Component) : List Line → List Point 
       → Drawn u forms cs (l ∷ (ls ++ (e ∷ []))) (record { kind = 0; values = vs } ∷ ps)
 
 -- ## An object: "OBJE: identification, then the fields of all attributes but lines. Line attributes follow in order"
--- (000, 3.3: ObjektD = 'OBJE' TransferId AttributD)
+-- (000, 3.3, in 01's subset: ObjektD = 'OBJE' TransferId AttributD)
 
--- the field before was defined, was undefined, or was two undefined bytes, which cover all remaining fields
-pub data Before : Type 0 where
-  wasDefined wasUndefined covered : Before
+-- how many fields an attribute has on the OBJE line: a coordinate one for each component, a line none
+unfoldable pub fieldCount : AttributeType → ℕ
+fieldCount (Reference target) = 1
+fieldCount (Coordinate cs) = length cs
+fieldCount (Number c) = 1
+fieldCount (Text longest) = 1
+fieldCount Date = 1
+fieldCount (Enumeration leaves) = 1
+fieldCount (model.Line forms cs) = 0
 
--- the entries of the pairs that are left, from the fields that are left on the OBJE line and the lines that follow it
-pub data Entries (u : ℕ) : Before → List Pair → List Field → List Line → List Entry → Type 0 where
+abbrev pub undefinedField : (u : ℕ) → Field
+undefinedField u = record { start = 0; bytes = u ∷ [] }
+
+-- "Two undefined bytes as a field: this and all remaining fields are undefined": what the fields of a line stand for,
+-- themselves; or in place of two undefined bytes, which are the last field, one undefined field or more
+pub data StandFor (u : ℕ) : (written meant : List Field) → Type 0 where
+  themselves : {fs : List Field} → StandFor u fs fs
+  remaining : (fs : List Field) (f : Field) (more : ℕ) → isUndefinedTwice u f ≡ true
+      → StandFor u (fs ++ (f ∷ [])) (fs ++ replicate (1 + more) (undefinedField u))
+
+-- all these fields are undefined
+abbrev pub AllUndefined : (u : ℕ) → List Field → Type 0
+AllUndefined u [] = Unit {0}
+AllUndefined u (f ∷ fs) = (isUndefined u f ≡ true) × AllUndefined u fs
+
+unfoldable pub valueEntries : List ℤ → List Entry
+valueEntries [] = []
+valueEntries (v ∷ vs) = OfValue v ∷ valueEntries vs
+
+-- the fields of one attribute and its entries:
+--   value        its field
+--   coordinate   a field for each component
+--   undefined    all its fields, where it is optional: a coordinate is not mixed
+pub data AttributeEntries (u : ℕ) : (optional : Bool) → AttributeType → List Field → List Entry → Type 0 where
+  value : {o : Bool} {type : AttributeType} {f : Field} {e : Entry} → Defined u f → Means type f e
+      → AttributeEntries u o type (f ∷ []) (e ∷ [])
+  coordinate : {o : Bool} {cs : List Component} {fs : List Field} {vs : List ℤ} → Values u cs fs vs
+      → AttributeEntries u o (Coordinate cs) fs (valueEntries vs)
+  undefined : {type : AttributeType} {fs : List Field} → 1 ≤ fieldCount type → length fs ≡ fieldCount type
+      → AllUndefined u fs → AttributeEntries u true type fs (replicate (length fs) Undefined)
+
+-- the entries of an object's attributes, from the fields of its OBJE line and the lines that follow it
+pub data Entries (u : ℕ) : List Attribute → List Field → List Line → List Entry → Type 0 where
   -- no field is missing and none is extra
-  done : {b : Before} → Entries u b [] [] [] []
-  -- an attribute's field, which is undefined only where the attribute is optional
-  defined : {b : Before} {o : Bool} {type : AttributeType} {ps : List Pair} {f : Field} {fs : List Field}
-      {ls : List Line} {e : Entry} {es : List Entry}
-      → Defined u f → Means type f e → Entries u wasDefined ps fs ls es
-      → Entries u b (OfAttribute o type ∷ ps) (f ∷ fs) ls (e ∷ es)
-  undefined : {b : Before} {type : AttributeType} {ps : List Pair} {f : Field} {fs : List Field} {ls : List Line}
-      {es : List Entry}
-      → isUndefined u f ≡ true → Entries u wasUndefined ps fs ls es
-      → Entries u b (OfAttribute true type ∷ ps) (f ∷ fs) ls (Undefined ∷ es)
-  -- two undefined bytes are the last field, and all that they cover is optional
-  cover : {b : Before} {type : AttributeType} {ps : List Pair} {f : Field} {ls : List Line} {es : List Entry}
-      → isUndefinedTwice u f ≡ true → Entries u covered ps [] ls es
-      → Entries u b (OfAttribute true type ∷ ps) (f ∷ []) ls (Undefined ∷ es)
-  under : {type : AttributeType} {ps : List Pair} {ls : List Line} {es : List Entry}
-      → Entries u covered ps [] ls es → Entries u covered (OfAttribute true type ∷ ps) [] ls (Undefined ∷ es)
-  -- a coordinate's further component is undefined exactly where the first one is
-  alsoDefined : {c : Component} {ps : List Pair} {f : Field} {fs : List Field} {ls : List Line} {v : ℤ}
-      {es : List Entry}
-      → Defined u f → IsNumber c f v → Entries u wasDefined ps fs ls es
-      → Entries u wasDefined (OfComponent c ∷ ps) (f ∷ fs) ls (OfValue v ∷ es)
-  alsoUndefined : {c : Component} {ps : List Pair} {f : Field} {fs : List Field} {ls : List Line} {es : List Entry}
-      → isUndefined u f ≡ true → Entries u wasUndefined ps fs ls es
-      → Entries u wasUndefined (OfComponent c ∷ ps) (f ∷ fs) ls (Undefined ∷ es)
-  alsoCover : {c : Component} {ps : List Pair} {f : Field} {ls : List Line} {es : List Entry}
-      → isUndefinedTwice u f ≡ true → Entries u covered ps [] ls es
-      → Entries u wasUndefined (OfComponent c ∷ ps) (f ∷ []) ls (Undefined ∷ es)
-  alsoUnder : {c : Component} {ps : List Pair} {ls : List Line} {es : List Entry}
-      → Entries u covered ps [] ls es → Entries u covered (OfComponent c ∷ ps) [] ls (Undefined ∷ es)
+  done : Entries u [] [] [] []
+  fields : {a : Attribute} {others : List Attribute} {fs gs : List Field} {ls : List Line} {es others′ : List Entry}
+      → AttributeEntries u (a .optional) (a .type) fs es → Entries u others gs ls others′
+      → Entries u (a ∷ others) (fs ++ gs) ls (es ++ others′)
   -- a line attribute has no field, but lines: "ELIN alone is an undefined line", where it is optional
-  undrawn : {b : Before} {forms : ℕ} {cs : List Component} {ps : List Pair} {fs : List Field} {l : Line}
+  undrawn : {a : Attribute} {others : List Attribute} {forms : ℕ} {cs : List Component} {fs : List Field} {l : Line}
       {ls : List Line} {es : List Entry}
-      → Alone ELIN l → Entries u b ps fs ls es → Entries u b (OfLine true forms cs ∷ ps) fs (l ∷ ls) (Undefined ∷ es)
-  along : {b : Before} {o : Bool} {forms : ℕ} {cs : List Component} {ps : List Pair} {fs : List Field}
+      → a .type ≡ model.Line forms cs → a .optional ≡ true → Alone ELIN l → Entries u others fs ls es
+      → Entries u (a ∷ others) fs (l ∷ ls) (Undefined ∷ es)
+  along : {a : Attribute} {others : List Attribute} {forms : ℕ} {cs : List Component} {fs : List Field}
       {these ls : List Line} {points : List Point} {es : List Entry}
-      → Drawn u forms cs these points → Entries u b ps fs ls es
-      → Entries u b (OfLine o forms cs ∷ ps) fs (these ++ ls) (OfPoints points ∷ es)
+      → a .type ≡ model.Line forms cs → Drawn u forms cs these points → Entries u others fs ls es
+      → Entries u (a ∷ others) fs (these ++ ls) (OfPoints points ∷ es)
 
--- an object of table t; before its first field nothing was undefined
+-- an object of table t
 pub data ObjectLines (m : Model) (t : ℕ) : List Line → Delivered → Type 0 where
-  object : {l : Line} {ls : List Line} {i : Field} {fs : List Field} {es : List Entry} → Coded OBJE l (i ∷ fs)
-      → Identification (m .undefined) i
-      → Entries (m .undefined) wasDefined (pairsOf (tableAt (m .tables) t .attributes)) fs ls es
+  object : {l : Line} {ls : List Line} {i : Field} {fs gs : List Field} {es : List Entry} → Coded OBJE l (i ∷ fs)
+      → Identification (m .undefined) i → StandFor (m .undefined) fs gs
+      → Entries (m .undefined) (tableAt (m .tables) t .attributes) gs ls es
       → ObjectLines m t (l ∷ ls) (record { table = t; identification = i; entries = es })
 
 -- any number of objects of table t
@@ -215,8 +229,8 @@ pub data Objects (m : Model) (t : ℕ) : List Line → List Delivered → Type 0
       → Objects m t (ls ++ others) (o ∷ os)
 
 -- ## Tables and topics: "Topics and tables come in model order; topics and optional tables may be left out"
--- (000, 3.3: TabellenD = 'TABL' Tabellen-Name NL { ObjektD } 'ETAB' NL, ThemaD = 'TOPI' Themen-Name NL { TabellenD }
--- 'ETOP')
+-- (000, 3.3, in 01's subset: TabellenD = 'TABL' Tabellen-Name NL { ObjektD } 'ETAB' NL, ThemaD = 'TOPI' Themen-Name NL
+-- { TabellenD } 'ETOP')
 
 -- no table of topic p is mandatory, from table `from` on and before table `to`
 abbrev pub AllOptional : Model → (p from to : ℕ) → Type 0
@@ -242,9 +256,8 @@ pub data Topics (m : Model) : (from : ℕ) → List Line → List DeliveredTopic
       → Topics m (p + 1) others ds → Topics m from (l ∷ (ls ++ (e ∷ others))) (record { topic = p; tables = ts } ∷ ds)
 
 -- ## The file
--- (000, 3.3: Beschreibung = { Beschreibungszeile } '////' NL, Transferfile = 'SCNT' NL Beschreibung 'MTID'
--- Transfer-Name NL ModellD 'ENDE' NL,
--- ModellD = 'MODL' Modell-Name NL { ThemaD } 'EMOD' NL)
+-- (000, 3.3, in 01's subset: Beschreibung = { Beschreibungszeile } '////' NL, Transferfile = 'SCNT' NL Beschreibung
+-- 'MTID' Transfer-Name NL ModellD 'ENDE' NL, ModellD = 'MODL' Modell-Name NL { ThemaD } 'EMOD' NL)
 
 -- "description lines up to the first line beginning with ////, which must be that field alone"
 pub data Description : List Line → Type 0 where

@@ -8,3 +8,4 @@ pub mod Judging
 pub mod Walking
 pub mod Ending
 pub mod Found
+pub mod Same

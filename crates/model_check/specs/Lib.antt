@@ -3,3 +3,4 @@ pub mod Attributes
 pub mod Records
 pub mod References
 pub mod Walk
+pub mod Same

@@ -171,7 +171,7 @@ module _ (m : Model) (rooms : Rooms) (text : List ℕ) where
   stored kind w c (cells vs) due c′ e =
       (vs, refl, passed _ _ _ _ (no-go 16 0 due c′) e .1)
 
-  line-step : (w : Underway) (fs : List Field) (c : Content) (v : Move) (due : Due) (c′ : Content) → attributeLine m rooms text w fs c v ≡ go due c′ → LineStep w c (lineCodeOf fs) v due c′
+  pub line-step : (w : Underway) (fs : List Field) (c : Content) (v : Move) (due : Due) (c′ : Content) → attributeLine m rooms text w fs c v ≡ go due c′ → LineStep w c (lineCodeOf fs) v due c′
   unfolding attributeLine bare
   line-step w fs c unexpected due c′ e = absurd (no-go 7 1 due c′ e)
   line-step w fs c undefinedLine due c′ e =

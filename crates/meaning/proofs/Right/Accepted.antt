@@ -54,7 +54,7 @@ module _ (m : Model) (rooms : Rooms) (ls : List (List ℕ)) where
   unfolding Ran
   fits-of s e = subst (λ (r : Run). Ran m rooms own r) e (lines-fit m rooms own ls)
 
-  enough-of : HasRoom m ls rooms → (s : State) → readLines m rooms own (startOf m) ls ≡ ran s → (f : FileOf m rooms own (s .content) (noMarks m) (withStarts 0 ls)) → Enough m ls (tableOf m (f .ds)) rooms
+  pub enough-of : HasRoom m ls rooms → (s : State) → readLines m rooms own (startOf m) ls ≡ ran s → (f : FileOf m rooms own (s .content) (noMarks m) (withStarts 0 ls)) → Enough m ls (tableOf m (f .ds)) rooms
   unfolding tableOf
   enough-of room s e f =
       let os : List Delivered = objectsOfTopics (f .ds) in

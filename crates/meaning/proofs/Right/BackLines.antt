@@ -45,7 +45,7 @@ pub record Second (code : List ℕ) (l : Line) (fs : List Field) : Type 0 where
   pub coded : Coded code l (field ∷ [])
   pub at : fieldAt 2 fs ≡ field
 
-second-of : (code : List ℕ) (l : Line) (fs : List Field) → fieldsOf (l .start) (l .bytes) ≡ fs → hasCode code fs ≡ true → moreThan 1 fs ≡ true → moreThan 2 fs ≡ false → Second code l fs
+pub second-of : (code : List ℕ) (l : Line) (fs : List Field) → fieldsOf (l .start) (l .bytes) ≡ fs → hasCode code fs ≡ true → moreThan 1 fs ≡ true → moreThan 2 fs ≡ false → Second code l fs
 unfolding hasCode
 second-of code l [] e h one two = absurd (false≢true h)
 second-of code l (f ∷ []) e h one two = absurd (omega (arith, ltb-true 1 (length (f ∷ [])) one))
@@ -60,11 +60,26 @@ pub record Identified (code : List ℕ) (l : Line) (fs : List Field) : Type 0 wh
   pub at : fieldAt 2 fs ≡ field
   pub behind : drop 2 fs ≡ others
 
-identified : (code : List ℕ) (l : Line) (fs : List Field) → fieldsOf (l .start) (l .bytes) ≡ fs → hasCode code fs ≡ true → moreThan 1 fs ≡ true → Identified code l fs
+pub identified : (code : List ℕ) (l : Line) (fs : List Field) → fieldsOf (l .start) (l .bytes) ≡ fs → hasCode code fs ≡ true → moreThan 1 fs ≡ true → Identified code l fs
 unfolding hasCode
 identified code l [] e h one = absurd (false≢true h)
 identified code l (f ∷ []) e h one = absurd (omega (arith, ltb-true 1 (length (f ∷ [])) one))
 identified code l (f ∷ (g ∷ fs)) e h one = record { field = g; others = fs; coded = record { first = f; fields = e; reads = sym (same-is code (f .bytes) h) }; at = refl; behind = refl }
+
+-- a code, and two fields or more
+pub record Third (code : List ℕ) (l : Line) (fs : List Field) : Type 0 where
+  pub field : Field
+  pub next : Field
+  pub others : List Field
+  pub coded : Coded code l (field ∷ next ∷ others)
+  pub at : fieldAt 2 fs ≡ field
+
+pub third-of : (code : List ℕ) (l : Line) (fs : List Field) → fieldsOf (l .start) (l .bytes) ≡ fs → hasCode code fs ≡ true → moreThan 2 fs ≡ true → Third code l fs
+unfolding hasCode
+third-of code l [] e h two = absurd (false≢true h)
+third-of code l (f ∷ []) e h two = absurd (omega (arith, ltb-true 2 (length (f ∷ [])) two))
+third-of code l (f ∷ (g ∷ [])) e h two = absurd (omega (arith, ltb-true 2 (length (f ∷ (g ∷ []))) two))
+third-of code l (f ∷ (g ∷ (h′ ∷ fs))) e h two = record { field = g; next = h′; others = fs; coded = record { first = f; fields = e; reads = sym (same-is code (f .bytes) h) }; at = refl }
 
 -- ## What a line did
 

@@ -15,14 +15,15 @@ use Rattle.meaning.specs.Value.{sameIdentification}
 use Rattle.meaning.specs.Row.{Pair, pairsOf}
 use Rattle.meaning.specs.Reading.{lineAttributes, Due, tableFrom, objectOf, nothing, dueLines, Content, withRow, pointCount, Rooms, isUsed}
 use Rattle.meaning.specs.Lines.{go}
-use Rattle.meaning.specs.Right.{Delivered, Line, Alone, wasDefined, ObjectLines, object, Objects, identificationAt, Unique, namesOf, pointsOf}
+use Rattle.meaning.specs.Right.{Delivered, Line, Alone, ObjectLines, object, Objects, identificationAt, Unique, namesOf, pointsOf}
 use Rattle.meaning.specs.Right as right
 use Rattle.meaning.proofs.Tests.Refuse.{neither}
 use Rattle.meaning.proofs.Tests.Same.{same-refl}
 use Rattle.meaning.proofs.Right.Steps.{steps, first-of}
 use Rattle.meaning.proofs.Right.Content.{contentOf, content-more, points-length, AllNamesStand, names-stand-append, objects-names}
+use Rattle.meaning.proofs.Right.PairEntries.{wasDefined, isCovered, entries-of-pairs}
 use Rattle.meaning.proofs.Right.Objects.{LinesStand, stand-left, stand-right, name-left, name-seam, object-read}
-use Rattle.meaning.proofs.Right.Rows.{flagOf, isCovered}
+use Rattle.meaning.proofs.Right.Rows.{flagOf}
 use Rattle.meaning.proofs.Right.BackRows.{RowOf, Reads, row-reads}
 use Rattle.meaning.proofs.Right.BackLines.{ObjectStep, etab, obje, object-step}
 
@@ -102,12 +103,13 @@ module _ (m : Model) (rooms : Rooms) (own : List ℕ) (z : Content) where
           (withRow (pos t ∷ pos (i .start) ∷ pos (length (i .bytes)) ∷ xs) (contentOf marks before)) ls → ObjectOf t marks before l ls
       made r =
           let o : Delivered = record { table = t; identification = i; entries = r .es } in
+          let x = entries-of-pairs (m .undefined) (tableAt (m .tables) t .attributes) fs (r .these) (r .es) (r .entries) in
           record {
             o = o;
             these = r .these;
             others = r .others;
             is = r .is;
-            lines = object coded ident (r .entries);
+            lines = object coded ident (x .stand) (x .entries);
             unique = unique-more before o unique (rw (objects-names own marks before stand) at fresh);
             goes = subst (λ (y : Content). Goes (objectOf t) y (r .others)) (content-more marks before o) (r .goes);
           }

@@ -46,14 +46,14 @@ values-of u place (c ∷ cs) (f ∷ fs) vs e = by (isUndefined u f || isUndefine
 
 -- ## Codes
 
-data CodeOf (fs : List Field) : LineCode → Type 0 where
+pub data CodeOf (fs : List Field) : LineCode → Type 0 where
   isStpt : hasCode STPT fs ≡ true → CodeOf fs stpt
   isLipt : hasCode LIPT fs ≡ true → CodeOf fs lipt
   isArcp : hasCode ARCP fs ≡ true → CodeOf fs arcp
   isElin : hasCode ELIN fs ≡ true → CodeOf fs elin
   isOther : CodeOf fs other
 
-code-of : (fs : List Field) → CodeOf fs (lineCodeOf fs)
+pub code-of : (fs : List Field) → CodeOf fs (lineCodeOf fs)
 unfolding lineCodeOf choose
 code-of fs = by (hasCode STPT fs) refl (hasCode LIPT fs) refl (hasCode ARCP fs) refl (hasCode ELIN fs) refl
   where

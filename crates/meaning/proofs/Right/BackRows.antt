@@ -15,7 +15,7 @@ use Rattle.meaning.specs.Value.{pair, isDigits, isIdentification, number
 use Rattle.meaning.specs.Row.{Pair, OfAttribute, OfComponent, OfLine, hasMandatory, cells, refused, putPair, undefinedCells, undefinedRest, definedOr, pairCells}
 use Rattle.meaning.specs.Reading.{LineAttribute, lineAttributes, objectOf, nothing, dueLines, Content, pointCount, Rooms}
 use Rattle.meaning.specs.Lines.{go}
-use Rattle.meaning.specs.Right.{Point, Entry, Undefined, OfValue, OfText, OfReference, OfPoints, Means, number, date, enumeration, text, reference, Drawn, Before, wasDefined, wasUndefined, covered, Entries, done, defined, undefined, cover, under, alsoDefined, alsoUndefined, alsoCover, alsoUnder, undrawn, along, entryPoints, cellsOfPoints}
+use Rattle.meaning.specs.Right.{Point, Entry, Undefined, OfValue, OfText, OfReference, OfPoints, Means, number, date, enumeration, text, reference, Drawn, entryPoints, cellsOfPoints}
 use Rattle.meaning.specs.Right as right
 use Rattle.meaning.proofs.Tests.Unequal.{no-pair, no-cells}
 use Rattle.meaning.proofs.Tests.Refuse.{passed}
@@ -24,7 +24,8 @@ use Rattle.meaning.proofs.Writing.Attributes.{moved, moved-length, with
 use Rattle.meaning.proofs.Right.Steps.{steps}
 use Rattle.meaning.proofs.Right.Content.{earlyCells, lateCells, points-length, points-append}
 use Rattle.meaning.proofs.Right.Points.{withPoints}
-use Rattle.meaning.proofs.Right.Rows.{flagOf, isCovered, Kept, undefined-kept, value-kept, withEntries, kept-entries, line-cells}
+use Rattle.meaning.proofs.Right.PairEntries.{Before, wasDefined, wasUndefined, covered, isCovered, PairEntries, done, defined, undefined, cover, under, alsoDefined, alsoUndefined, alsoCover, alsoUnder, undrawn, along}
+use Rattle.meaning.proofs.Right.Rows.{flagOf, Kept, undefined-kept, value-kept, withEntries, kept-entries, line-cells}
 use Rattle.meaning.proofs.Right.BackPoints.{AttributeOf, undrawnOf, drawnOf, attribute-of}
 
 -- ## What a field means
@@ -92,7 +93,7 @@ module _ (m : Model) (rooms : Rooms) (own : List ℕ) (t : ℕ) (z : Content) wh
     pub others : List right.Line
     pub is : ls ≡ these ++ others
     pub early : xs ≡ earlyCells es
-    pub entries : Entries (m .undefined) b ps fs these es
+    pub entries : PairEntries (m .undefined) b ps fs these es
     pub goes : steps m rooms own (objectOf t) (withEntries c front k es) others ≡ go nothing z
 
   -- what is read of some pairs, wherever they stand
@@ -102,7 +103,7 @@ module _ (m : Model) (rooms : Rooms) (own : List ℕ) (t : ℕ) (z : Content) wh
 
   -- a pair of no line
   entry-on : (b b′ : Before) (p : Pair) (ps : List Pair) (fs fs′ : List Field) (ys : List ℤ) (e : Entry) (q : Kept e) → ((cell : ℕ) → lineAttributes cell (p ∷ ps) ≡ lineAttributes (cell + 2) ps)
-      → ((ls : List right.Line) (es : List Entry) → Entries (m .undefined) b′ ps fs′ ls es → Entries (m .undefined) b (p ∷ ps) fs ls (e ∷ es)) → Reads b′ ps fs′ ys
+      → ((ls : List right.Line) (es : List Entry) → PairEntries (m .undefined) b′ ps fs′ ls es → PairEntries (m .undefined) b (p ∷ ps) fs ls (e ∷ es)) → Reads b′ ps fs′ ys
       → Reads b (p ∷ ps) fs (q .a ∷ q .b ∷ ys)
   unfolding Reads
   entry-on b b′ p ps fs fs′ ys e q step make ih k front c ls h count g =
@@ -153,7 +154,7 @@ module _ (m : Model) (rooms : Rooms) (own : List ℕ) (t : ℕ) (z : Content) wh
             others = r .others;
             is = is ∙ ap (λ (y : List right.Line). e ∷ y) (r .is);
             early = ap (λ (y : List ℤ). pos 0 ∷ pos 0 ∷ y) (r .early);
-            entries = subst (λ (x : Bool). Entries (m .undefined) b (OfLine x forms cs ∷ ps) fs (e ∷ r .these) (Undefined ∷ r .es)) (sym optional) (undrawn alone (r .entries));
+            entries = subst (λ (x : Bool). PairEntries (m .undefined) b (OfLine x forms cs ∷ ps) fs (e ∷ r .these) (Undefined ∷ r .es)) (sym optional) (undrawn alone (r .entries));
             goes = subst (λ (y : Content). steps m rooms own (objectOf t) y (r .others) ≡ go nothing z) (kept-entries c front k Undefined (r .es) undefined-kept) (r .goes);
           }
       by (drawnOf these others pts is shape goes) =

@@ -17,7 +17,7 @@ use Rattle.meaning.specs.Reading.{Content, State, Rooms}
 use Rattle.meaning.specs.Lines.{ran, stopped}
 use Rattle.meaning.specs.Table.{Resolved, resolve, Result, refusedWith, acceptedWith, readResolved, readRun, readChecked, read}
 use Rattle.meaning.specs.Right.{DeliveredTopic, objectsOfTopics, Right, tableOf}
-use Rattle.meaning.specs.RightClaims.{RightIsRead, ReadIsRight, IsAccepted, RightFile, AcceptedExactlyWhenRight, AcceptedWithItsTable, RefusedMeansNotRight, ReferenceIsItsObject, SampleRight, Opened, HasRoom, RefusalIsFirst, FirstIsRefusal}
+use Rattle.meaning.specs.RightClaims.{RightIsRead, ReadIsRight, IsAccepted, RightFile, AcceptedExactlyWhenRight, AcceptedWithItsTable, RefusedMeansNotRight, ReferenceIsItsObject, SampleRight, Opened, HasRoom, RefusalIsFirst, FirstIsRefusal, ReachedExactly, ReasonsAlike}
 use Rattle.meaning.specs.Compute.{computeRead}
 use Rattle.meaning.specs.Sample.{sampleModel, with7}
 use Rattle.meaning.specs.Neighbours.{readsSample, oneMore, whole-table}
@@ -31,6 +31,8 @@ use Rattle.meaning.proofs.Right.References as references
 use Rattle.meaning.proofs.Right.Table as table
 use Rattle.meaning.proofs.Right.Accepted as accepting
 use Rattle.meaning.proofs.Right.First as order
+use Rattle.meaning.proofs.Right.Complete as complete
+use Rattle.meaning.proofs.Right.OneReason as reasons
 
 pub right-is-read : RightIsRead
 right-is-read m ls ds rooms g r e = table.right-is-read m g ls ds rooms r e
@@ -128,3 +130,9 @@ refusal-is-first model file rooms number first second h = order.refusal-is-first
 
 pub first-is-refusal : FirstIsRefusal
 first-is-refusal model file rooms number first second f = order.first-is-refusal model file rooms f
+
+pub reached-exactly : ReachedExactly
+reached-exactly m ls used cells points g = (complete.reached-complete m ls g used cells points, complete.complete-reached m ls g used cells points)
+
+pub reasons-alike : ReasonsAlike
+reasons-alike m used x l g = reasons.reasons-alike m used x l g

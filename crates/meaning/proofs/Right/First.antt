@@ -2,8 +2,8 @@
 use Prim.Native.Nat.{ℕ, _+_, _<_}
 use native.Mathlib.Omega.{arith}
 use mathlib.Core.Path.{_≡_, refl, sym, ap, subst, _∙_}
-use mathlib.Core.Bool.{Bool, true, false, _||_}
-use mathlib.Core.List.{List, [], _∷_, _++_}
+use mathlib.Core.Bool.{Bool, true, false, _||_, true≢false}
+use mathlib.Core.List.{List, _∷_, _++_}
 use lib.Dec.{ltb}
 use lib.ListN.{length}
 use borrow.Author.Tests.{ltb-true, ltb-false, le-ltb, lt-ltb}
@@ -12,21 +12,30 @@ use Rattle.meaning.specs.Unfold.{Unfolded, lines, fault, unfoldFile, unf
 use Rattle.meaning.specs.Model.{Model}
 use Rattle.meaning.specs.Check.{Checked, good, bad, checkModel}
 use Rattle.meaning.specs.Answer.{refusal}
-use Rattle.meaning.specs.Reading.{Due, isComplete, Content, State, behind, startOf, Rooms}
-use Rattle.meaning.specs.Lines.{Step, go, no, stepOf, Run, ran, stopped, afterStep, run, atEnd, readLines}
+use Rattle.meaning.specs.Reading.{Due, isComplete, Content, State, startOf, Rooms}
+use Rattle.meaning.specs.Lines.{no, stepOf, Run, ran, stopped, run, readLines}
 use Rattle.meaning.specs.Table.{Resolved, unresolved, resolve, Result, refusedWith, acceptedWith, readResolved, readRun, readText, readUnfolded, readChecked, read}
 use Rattle.meaning.specs.Row.{Pair}
+use Rattle.meaning.specs.WritingClaims.{Enough}
 use Rattle.meaning.specs.Right.{Entry, Delivered, DeliveredTopic, objectsOfTopics, withStarts, File, Unique, tableOf}
-use Rattle.meaning.specs.RightClaims.{First, tooLarge, badModel, badUnfolding, noRoom, badLine, lineMissing, objectMissing, Opened, HasRoom, Short, FirstOfEntries, FirstOfObjects}
+use Rattle.meaning.specs.Reasons.{Place, end}
+use Rattle.meaning.specs.RightClaims.{First, tooLarge, badModel, badUnfolding, noRoom, badLine, fullLine, lineMissing, objectMissing, Opened, HasRoom, Short, ComeTo, lineBehind, FirstOfEntries, FirstOfObjects}
 use Rattle.meaning.specs.RightClaims as claims
-use Rattle.meaning.proofs.Tests.Unequal.{no-ran, not-accepted}
+use Rattle.meaning.proofs.Tests.Unequal.{not-accepted}
+use Rattle.meaning.proofs.Model.Marks as marks
 use Rattle.meaning.proofs.Model.GoodModels as models
+use Rattle.meaning.proofs.Reading.Claims.{fault-exactly}
+use Rattle.meaning.proofs.Writing.Writable.{read-to-end}
 use Rattle.meaning.proofs.Right.Content.{contentOf}
-use Rattle.meaning.proofs.Right.Objects.{lines-stand}
+use Rattle.meaning.proofs.Right.Objects.{LinesStand, lines-stand}
 use Rattle.meaning.proofs.Right.Topics.{file-read}
-use Rattle.meaning.proofs.Right.Table.{References, allNamed, firstUnnamed, references-of, entries-unnamed, objects-unnamed}
+use Rattle.meaning.proofs.Right.Table.{References, allNamed, firstUnnamed, references-of, entries-unnamed, objects-unnamed, lines-read, room-for}
 use Rattle.meaning.proofs.Right.BackTopics.{FileOf}
-use Rattle.meaning.proofs.Right.Accepted.{noMarks, lines-right, references-read, content-is, ReadOrFull, readAll, tooFull, read-or-full}
+use Rattle.meaning.proofs.Right.Accepted.{noMarks, lines-right, enough-of, references-read, content-is}
+use Rattle.meaning.proofs.Right.Runs.{StoppedAt, stopped-at, passed-then, stopped-lines, missing-lines, complete-lines, LinesCame, stopsAt, lacks, passes, lines-came}
+use Rattle.meaning.proofs.Right.Places.{At, Refused, reason, full}
+use Rattle.meaning.proofs.Right.Come.{Come}
+use Rattle.meaning.proofs.Right.Behind.{before-stand, at-end, due-nothing, run-come, line-refused, come-run, reason-refuses, full-refuses}
 
 -- ## One first reference that names no object
 
@@ -41,94 +50,6 @@ objects-first m all (claims.FirstOfObjects.here f) (claims.FirstOfObjects.here f
 objects-first m all (claims.FirstOfObjects.here f) (claims.FirstOfObjects.later n r) = absurd (entries-unnamed all f n)
 objects-first m all (claims.FirstOfObjects.later n r) (claims.FirstOfObjects.here f) = absurd (entries-unnamed all f n)
 objects-first m all (claims.FirstOfObjects.later n r) (claims.FirstOfObjects.later n′ r′) = objects-first m all r r′
-
--- ## Where a run stopped
-
-module _ (m : Model) (rooms : Rooms) (own : List ℕ) where
-  pub record StoppedAt (s : State) (ls : List (List ℕ)) (number line field : ℕ) : Type 0 where
-    pub before : List (List ℕ)
-    pub l : List ℕ
-    pub after : List (List ℕ)
-    pub is : ls ≡ before ++ (l ∷ after)
-    pub state : State
-    pub runs : run m rooms own s before ≡ ran state
-    pub refuses : stepOf m rooms own l state ≡ no number field
-    pub at : line ≡ s .line + length before
-
-  pub stopped-at : (ls : List (List ℕ)) (s : State) (number line field : ℕ) → run m rooms own s ls ≡ stopped number line field → StoppedAt s ls number line field
-  unfolding run
-  stopped-at [] s number line field e = absurd (no-ran number line field s (sym e))
-  stopped-at (l ∷ ls) s number line field e = by (stepOf m rooms own l s) refl e (λ d c. stopped-at ls (behind l d c s) number line field)
-    where
-      by : (o : Step) → stepOf m rooms own l s ≡ o → afterStep o l s (λ s₁. run m rooms own s₁ ls) ≡ stopped number line field
-          → ((d : Due) (c : Content) → run m rooms own (behind l d c s) ls ≡ stopped number line field → StoppedAt (behind l d c s) ls number line field) → StoppedAt s (l ∷ ls) number line field
-      by (go d c) p e ih =
-          let r = ih d c e in
-          let at-line = r .at in
-          record { before = l ∷ r .before; l = r .l; after = r .after; is = ap (λ (y : List (List ℕ)). l ∷ y) (r .is); state = r .state; runs = rw p (r .runs); refuses = r .refuses; at = omega arith }
-      by (no n f) p e ih =
-          let same-n : n ≡ number = cc in
-          let same-f : f ≡ field = cc in
-          let same-l : s .line ≡ line = cc in
-          record { before = []; l = l; after = ls; is = refl; state = s; runs = refl; refuses = rw (← same-n, ← same-f) p; at = omega arith }
-
-  -- lines that pass, and others
-  run-append : (ks ls : List (List ℕ)) (s s′ : State) → run m rooms own s ks ≡ ran s′ → run m rooms own s (ks ++ ls) ≡ run m rooms own s′ ls
-  unfolding run
-  run-append [] ls s s′ e = let q : s ≡ s′ = cc in ap (λ (t : State). run m rooms own t ls) q
-  run-append (k ∷ ks) ls s s′ e = by (stepOf m rooms own k s) e (λ d c. run-append ks ls (behind k d c s) s′)
-    where
-      by : (o : Step) → afterStep o k s (λ s₁. run m rooms own s₁ ks) ≡ ran s′ → ((d : Due) (c : Content) → run m rooms own (behind k d c s) ks ≡ ran s′ → run m rooms own (behind k d c s) (ks ++ ls) ≡ run m rooms own s′ ls)
-          → afterStep o k s (λ s₁. run m rooms own s₁ (ks ++ ls)) ≡ run m rooms own s′ ls
-      by (go d c) e ih = ih d c e
-      by (no n f) e ih = absurd (no-ran n (s .line) f s′ e)
-
-  run-line : (ls : List (List ℕ)) (s s′ : State) → run m rooms own s ls ≡ ran s′ → s′ .line ≡ s .line + length ls
-  unfolding run
-  run-line [] s s′ e = let q : s ≡ s′ = cc in rw (← q) (omega arith)
-  run-line (l ∷ ls) s s′ e = by (stepOf m rooms own l s) e (λ d c. run-line ls (behind l d c s) s′)
-    where
-      by : (o : Step) → afterStep o l s (λ s₁. run m rooms own s₁ ls) ≡ ran s′ → ((d : Due) (c : Content) → run m rooms own (behind l d c s) ls ≡ ran s′ → s′ .line ≡ s .line + 1 + length ls)
-          → s′ .line ≡ s .line + length (l ∷ ls)
-      by (go d c) e ih = let z = ih d c e in omega arith
-      by (no n f) e ih = absurd (no-ran n (s .line) f s′ e)
-
-  pub passed-then : (before after : List (List ℕ)) (l : List ℕ) (s s′ : State) (number field : ℕ) → run m rooms own s before ≡ ran s′ → stepOf m rooms own l s′ ≡ no number field
-      → run m rooms own s (before ++ (l ∷ after)) ≡ stopped number (s .line + length before) field
-  unfolding run
-  passed-then before after l s s′ number field e h = run-append before (l ∷ after) s s′ e ∙ rw (h, run-line before s s′ e)
-
-  pub line-of : (ls : List (List ℕ)) (s s′ : State) → run m rooms own s ls ≡ ran s′ → s′ .line ≡ s .line + length ls
-  line-of ls s s′ e = run-line ls s s′ e
-
-  pub stopped-lines : (s : State) (ls : List (List ℕ)) (number line field : ℕ) → run m rooms own s ls ≡ stopped number line field → readLines m rooms own s ls ≡ stopped number line field
-  unfolding readLines
-  stopped-lines s ls number line field e = rw e
-
-  pub missing-lines : (s s′ : State) (ls : List (List ℕ)) → run m rooms own s ls ≡ ran s′ → isComplete (s′ .due) ≡ false → readLines m rooms own s ls ≡ stopped 7 (s .line + length ls) 1
-  unfolding readLines atEnd refuse
-  missing-lines s s′ ls e d = rw (e, d, run-line ls s s′ e)
-
-  pub complete-lines : (s s′ : State) (ls : List (List ℕ)) → run m rooms own s ls ≡ ran s′ → isComplete (s′ .due) ≡ true → readLines m rooms own s ls ≡ ran s′
-  unfolding readLines atEnd refuse
-  complete-lines s s′ ls e d = rw (e, d)
-
-  -- what the lines came to
-  pub data LinesCame (s : State) (ls : List (List ℕ)) : Type 0 where
-    stopsAt : (number line field : ℕ) → run m rooms own s ls ≡ stopped number line field → LinesCame s ls
-    lacks : (s′ : State) → run m rooms own s ls ≡ ran s′ → isComplete (s′ .due) ≡ false → LinesCame s ls
-    passes : (s′ : State) → run m rooms own s ls ≡ ran s′ → isComplete (s′ .due) ≡ true → LinesCame s ls
-
-  pub lines-came : (s : State) (ls : List (List ℕ)) → LinesCame s ls
-  lines-came s ls = by (run m rooms own s ls) refl
-    where
-      due-by : (s′ : State) → run m rooms own s ls ≡ ran s′ → (b : Bool) → isComplete (s′ .due) ≡ b → LinesCame s ls
-      due-by s′ e true h = passes s′ e h
-      due-by s′ e false h = lacks s′ e h
-
-      by : (r : Run) → run m rooms own s ls ≡ r → LinesCame s ls
-      by (stopped number line field) e = stopsAt number line field e
-      by (ran s′) e = due-by s′ e _ refl
 
 -- ## The parts of reading
 
@@ -163,29 +84,6 @@ module _ (model file : List ℕ) (rooms : Rooms) where
   unfolding read refuse
   read-large l = rw (lt-ltb 16777216 (length file) l)
 
-  -- ## The first one is given
-
-  -- lines whose structure and identifications are right came to the table of what they deliver
-  content-of : (m : Model) (ls : List (List ℕ)) (s : State) (ds : List DeliveredTopic) → Opened model file m ls → run m rooms (unfoldedText ls) (startOf m) ls ≡ ran s → isComplete (s .due) ≡ true
-      → File m (withStarts 0 ls) ds → Unique (objectsOfTopics ds) → References m (unfoldedText ls) (tableOf m ds .marks) (objectsOfTopics ds) × (s .content ≡ contentOf (tableOf m ds .marks) (objectsOfTopics ds))
-  content-of m ls s ds o p d structure unique = (
-    references-of m (unfoldedText ls) (tableOf m ds .marks) (objectsOfTopics ds) (file-read m (unfoldedText ls) structure (lines-stand (unfoldedText ls) 0 ls refl)),
-    by (read-or-full m rooms ls (models.checked-good model m (o .isGood)) ds structure unique) (complete-lines m rooms (unfoldedText ls) (startOf m) s ls p d),
-  )
-    where
-      by : ReadOrFull m rooms ls ds → readLines m rooms (unfoldedText ls) (startOf m) ls ≡ ran s → s .content ≡ contentOf (tableOf m ds .marks) (objectsOfTopics ds)
-      by (readAll s′ e c) h = let q : s ≡ s′ = cc (sym h ∙ e) in ap (λ (x : State). x .content) q ∙ c
-      by (tooFull line e) h = absurd (no-ran 16 line 0 s (sym e ∙ h))
-
-  unnamed : (m : Model) (own marks : List ℕ) (os : List Delivered) (c : Content) (object field : ℕ) → References m own marks os → c ≡ contentOf marks os → FirstOfObjects m os 0 os object field
-      → readResolved rooms own c (resolve m own c) ≡ refusedWith rooms 17 object field
-  unfolding readResolved
-  unnamed m own marks os c object field (allNamed r h) e f = absurd (objects-unnamed m os f r)
-  unnamed m own marks os c object field (firstUnnamed a b f′ h) e f =
-      let q = objects-first m os f′ f in
-      let there : resolve m own c ≡ unresolved object field = ap (λ (x : Content). resolve m own x) e ∙ (h ∙ (ap (λ (x : ℕ). unresolved x b) (q .0) ∙ ap (λ (x : ℕ). unresolved object x) (q .1))) in
-      rw there
-
   pub no-room : (m : Model) (ls : List (List ℕ)) → (HasRoom m ls rooms → ⊥) → (ltb (rooms .text) (length (unfoldedText ls)) || ltb (rooms .marks) (length (m .topics) + length (m .tables))) ≡ true
   no-room m ls h = by (ltb (rooms .text) (length (unfoldedText ls))) refl (ltb (rooms .marks) (length (m .topics) + length (m .tables))) refl
     where
@@ -194,19 +92,70 @@ module _ (model file : List ℕ) (rooms : Rooms) where
       by false p true q = refl
       by false p false q = absurd (h (record { text = ltb-false (rooms .text) (length (unfoldedText ls)) p; marks = ltb-false (rooms .marks) (length (m .topics) + length (m .tables)) q }))
 
-  pub first-is-refusal : {number first second : ℕ} → First model file rooms number first second → read model file rooms ≡ refusedWith rooms number first second
+-- a reference that names no object is refused with 17
+unnamed : (m : Model) (rooms : Rooms) (own marks : List ℕ) (os : List Delivered) (c : Content) (object field : ℕ) → References m own marks os → c ≡ contentOf marks os → FirstOfObjects m os 0 os object field
+    → readResolved rooms own c (resolve m own c) ≡ refusedWith rooms 17 object field
+unfolding readResolved
+unnamed m rooms own marks os c object field (allNamed r h) e f = absurd (objects-unnamed m os f r)
+unnamed m rooms own marks os c object field (firstUnnamed a b f′ h) e f =
+    let q = objects-first m os f′ f in
+    let there : resolve m own c ≡ unresolved object field = ap (λ (x : Content). resolve m own x) e ∙ (h ∙ (ap (λ (x : ℕ). unresolved x b) (q .0) ∙ ap (λ (x : ℕ). unresolved object x) (q .1))) in
+    rw there
+
+module _ (model file : List ℕ) (rooms : Rooms) where
+  -- ## The first one is given
+
+  -- a line that is refused behind lines that passed
+  refused-given : (m : Model) (before : List (List ℕ)) (l : List ℕ) (after : List (List ℕ)) (s : State) (n field : ℕ) → Opened model file m (before ++ (l ∷ after)) → HasRoom m (before ++ (l ∷ after)) rooms
+      → run m rooms (unfoldedText (before ++ (l ∷ after))) (startOf m) before ≡ ran s → stepOf m rooms (unfoldedText (before ++ (l ∷ after))) l s ≡ no n field
+      → read model file rooms ≡ refusedWith rooms n (1 + length before) field
   unfolding readRun startOf
-  first-is-refusal (tooLarge l) = read-large l
-  first-is-refusal (badModel {at = at} short e) = read-bad at short e
-  first-is-refusal (badUnfolding {m = m} {number = number} {line = line} short e h) = read-faulty m number line short e h
-  first-is-refusal (noRoom {m = m} {ls = ls} o h) = read-crowded m ls o (no-room m ls h)
-  first-is-refusal (badLine {m = m} {s = s} {number = number} {field = field} before l after o room p h) =
+  refused-given m before l after s n field o room p h =
+      let ls : List (List ℕ) = before ++ (l ∷ after) in
+      read-opened model file rooms m ls o room _ (stopped-lines m rooms (unfoldedText ls) (startOf m) ls n (1 + length before) field (passed-then m rooms (unfoldedText ls) before after l (startOf m) s n field p h))
+
+  missing-given : (m : Model) (ls : List (List ℕ)) {x : Place} {used : List (List ℕ)} {cells points : ℕ} → Opened model file m ls → HasRoom m ls rooms → ComeTo m rooms ls x used cells points → (x ≡ end → ⊥)
+      → read model file rooms ≡ refusedWith rooms 7 (1 + length ls) 1
+  unfolding readRun startOf
+  missing-given m ls {x = x} o room k other =
+      let own : List ℕ = unfoldedText ls in
+      let r = come-run m rooms own ls (lines-stand own 0 ls refl) (models.checked-good model m (o .isGood)) k in
+      read-opened model file rooms m ls o room _ (missing-lines m rooms own (startOf m) (r .state) ls (r .runs) (by (r .state .due) (r .stands .at) _ refl))
+    where
+      by : (due : Due) → At due x → (b : Bool) → isComplete due ≡ b → isComplete due ≡ false
+      by due at true e = absurd (other (at-end at e))
+      by due at false e = e
+
+  object-given : (m : Model) (ls : List (List ℕ)) (ds : List DeliveredTopic) (object field : ℕ) → Opened model file m ls → File m (withStarts 0 ls) ds → Unique (objectsOfTopics ds) → Enough m ls (tableOf m ds) rooms
+      → FirstOfObjects m (objectsOfTopics ds) 0 (objectsOfTopics ds) object field → read model file rooms ≡ refusedWith rooms 17 object field
+  unfolding readRun
+  object-given m ls ds object field o structure unique enough f =
+      let own : List ℕ = unfoldedText ls in
+      let to = lines-read m (models.checked-good model m (o .isGood)) rooms ls ds structure unique (room-for m rooms ds (enough .rows) (enough .cells) (enough .points)) in
+      let there = references-of m own (tableOf m ds .marks) (objectsOfTopics ds) (file-read m own structure (lines-stand own 0 ls refl)) in
+      read-opened model file rooms m ls o (record { text = enough .text; marks = enough .marks }) _ (read-to-end m rooms own (startOf m) (to .final) ls (to .runs) (to .due))
+      ∙ unnamed m rooms own (tableOf m ds .marks) (objectsOfTopics ds) (to .final .content) object field there (to .content) f
+
+  pub first-is-refusal : {number first second : ℕ} → First model file rooms number first second → read model file rooms ≡ refusedWith rooms number first second
+  first-is-refusal (tooLarge l) = read-large model file rooms l
+  first-is-refusal (badModel {at = at} short e) = read-bad model file rooms at short e
+  first-is-refusal (badUnfolding {m = m} {number = number} {line = line} short e f) =
+      read-faulty model file rooms m number line short e (fault-exactly (m .mark) (marks.good-mark model m e) file number line .1 f)
+  first-is-refusal (noRoom {m = m} {ls = ls} o h) = read-crowded model file rooms m ls o (no-room model file rooms m ls h)
+  first-is-refusal (badLine {m = m} {number = number} {field = field} before l after o room k why) =
+      let good = models.checked-good model m (o .isGood) in
       let own : List ℕ = unfoldedText (before ++ (l ∷ after)) in
-      read-opened m (before ++ (l ∷ after)) o room _ (stopped-lines m rooms own (startOf m) (before ++ (l ∷ after)) number (1 + length before) field (passed-then m rooms own before after l (startOf m) s number field p h))
-  first-is-refusal (lineMissing {m = m} {ls = ls} {s = s} o room p d) = read-opened m ls o room _ (missing-lines m rooms (unfoldedText ls) (startOf m) s ls p d)
-  first-is-refusal (objectMissing {m = m} {ls = ls} {s = s} {ds = ds} {object = object} {field = field} o room p d structure unique f) =
-      read-opened m ls o room _ (complete-lines m rooms (unfoldedText ls) (startOf m) s ls p d)
-      ∙ (let c = content-of m ls s ds o p d structure unique in unnamed m (unfoldedText ls) (tableOf m ds .marks) (objectsOfTopics ds) (s .content) object field (c .0) (c .1) f)
+      let stand = before-stand before (l ∷ after) in
+      let r = come-run m rooms own before stand good k in
+      refused-given m before l after (r .state) number field o room (r .runs) (reason-refuses m rooms own before stand good k r l number field why)
+  first-is-refusal (fullLine {m = m} {y = y} {g = g} before l after o room k f no-space) =
+      let good = models.checked-good model m (o .isGood) in
+      let own : List ℕ = unfoldedText (before ++ (l ∷ after)) in
+      let stand = before-stand before (l ∷ after) in
+      let r = come-run m rooms own before stand good k in
+      refused-given m before l after (r .state) 16 0 o room (r .runs) (full-refuses m rooms own before stand good k r l y g f no-space)
+  first-is-refusal (lineMissing {m = m} {ls = ls} o room k other) = missing-given m ls o room k other
+  first-is-refusal (objectMissing {m = m} {ls = ls} {ds = ds} {object = object} {field = field} o structure unique enough f) = object-given m ls ds object field o structure unique enough f
 
   -- ## A refusal is the first one
 
@@ -214,84 +163,99 @@ module _ (model file : List ℕ) (rooms : Rooms) where
     abbrev Answered : Type 0
     Answered = First model file rooms number first second
 
-    -- what was given is the answer
-    given : (n a b : ℕ) → read model file rooms ≡ refusedWith rooms n a b → First model file rooms n a b → Answered
+    -- the first one that is given is the answer
+    given : (n a b : ℕ) → First model file rooms n a b → Answered
     unfolding refusedWith
-    given n a b e f =
-        let q : refusal n a b ≡ refusal number first second = sym (ap (λ (r : Result). r .answer) e) ∙ h in
+    given n a b f =
+        let q : refusal n a b ≡ refusal number first second = sym (ap (λ (r : Result). r .answer) (first-is-refusal f)) ∙ h in
         let x : n ≡ number = cc in
         let y : a ≡ first = cc in
         let z : b ≡ second = cc in
         subst (λ (k : ℕ). First model file rooms k first second) x (subst (λ (k : ℕ). First model file rooms n k second) y (subst (λ (k : ℕ). First model file rooms n a k) z f))
 
-    stop-given : (m : Model) (ls : List (List ℕ)) → Opened model file m ls → HasRoom m ls rooms → (n line field : ℕ) → run m rooms (unfoldedText ls) (startOf m) ls ≡ stopped n line field → Answered
-    unfolding readRun startOf
-    stop-given m ls o room n line field e =
-        let at = stopped-at m rooms (unfoldedText ls) ls (startOf m) n line field e in
-        given n line field (read-opened m ls o room _ (stopped-lines m rooms (unfoldedText ls) (startOf m) ls n line field e))
-        (subst (λ (k : ℕ). First model file rooms n k field) (sym (at .at)) (there (at .before) (at .l) (at .after) (at .state) (at .is) (at .runs) (at .refuses)))
+    -- a line that was refused
+    stop-given : (m : Model) (before : List (List ℕ)) (l : List ℕ) (after : List (List ℕ)) (s : State) (n field : ℕ) → Opened model file m (before ++ (l ∷ after)) → HasRoom m (before ++ (l ∷ after)) rooms
+        → run m rooms (unfoldedText (before ++ (l ∷ after))) (startOf m) before ≡ ran s → stepOf m rooms (unfoldedText (before ++ (l ∷ after))) l s ≡ no n field → Answered
+    stop-given m before l after s n field o room e q = by n field (line-refused m rooms own before stand l s n field e come q)
       where
-        there : (before : List (List ℕ)) (l : List ℕ) (after : List (List ℕ)) (s : State) → ls ≡ before ++ (l ∷ after) → run m rooms (unfoldedText ls) (startOf m) before ≡ ran s
-            → stepOf m rooms (unfoldedText ls) l s ≡ no n field → First model file rooms n (1 + length before) field
-        there before l after s is runs refuses =
-            badLine before l after (subst (λ (y : List (List ℕ)). Opened model file m y) is o) (subst (λ (y : List (List ℕ)). HasRoom m y rooms) is room)
-            (subst (λ (y : List (List ℕ)). run m rooms (unfoldedText y) (startOf m) before ≡ ran s) is runs) (subst (λ (y : List (List ℕ)). stepOf m rooms (unfoldedText y) l s ≡ no n field) is refuses)
+        own : List ℕ
+        own = unfoldedText (before ++ (l ∷ after))
 
-    lack-given : (m : Model) (ls : List (List ℕ)) → Opened model file m ls → HasRoom m ls rooms → (s : State) → run m rooms (unfoldedText ls) (startOf m) ls ≡ ran s → isComplete (s .due) ≡ false → Answered
-    unfolding readRun startOf
-    lack-given m ls o room s e d = given 7 (1 + length ls) 1 (read-opened m ls o room _ (missing-lines m rooms (unfoldedText ls) (startOf m) s ls e d)) (lineMissing o room e d)
+        stand : LinesStand (unfoldedText (before ++ (l ∷ after))) (withStarts 0 before)
+        stand = before-stand before (l ∷ after)
+
+        come : Come m rooms (unfoldedText (before ++ (l ∷ after))) (withStarts 0 before) (s .due) (s .content)
+        come = run-come m rooms own before stand s e
+
+        come-to : ComeTo m rooms before (come .place) (come .used) (length (s .content .cells)) (length (s .content .points))
+        come-to = record { reached = come .reached; room = come .room }
+
+        by : (n field : ℕ) → Refused m rooms (unfoldedText (before ++ (l ∷ after))) (come .used) (s .due) (s .content) (come .place) (lineBehind before l) n field → Answered
+        by n field (reason why) = given n (1 + length before) field (badLine before l after o room come-to why)
+        by _ _ (full f no-space) = given 16 (1 + length before) 0 (fullLine before l after o room come-to f no-space)
+
+    stops-given : (m : Model) (ls : List (List ℕ)) → Opened model file m ls → HasRoom m ls rooms → (n line field : ℕ) → run m rooms (unfoldedText ls) (startOf m) ls ≡ stopped n line field → Answered
+    stops-given m ls o room n line field e = there (stopped-at m rooms (unfoldedText ls) ls (startOf m) n line field e)
+      where
+        there : StoppedAt m rooms (unfoldedText ls) (startOf m) ls n line field → Answered
+        there at =
+            let is = at .is in
+            stop-given m (at .before) (at .l) (at .after) (at .state) n field (rw is at o) (rw is at room) (rw is at (at .runs)) (rw is at (at .refuses))
+
+    lacks-given : (m : Model) (ls : List (List ℕ)) → Opened model file m ls → HasRoom m ls rooms → (s : State) → run m rooms (unfoldedText ls) (startOf m) ls ≡ ran s → isComplete (s .due) ≡ false → Answered
+    unfolding isComplete
+    lacks-given m ls o room s e d =
+        let own : List ℕ = unfoldedText ls in
+        let come = run-come m rooms own ls (lines-stand own 0 ls refl) s e in
+        given 7 (1 + length ls) 1
+        (lineMissing o room (record { reached = come .reached; room = come .room }) (λ q. true≢false (sym (ap isComplete (due-nothing (come .stands .at) q)) ∙ d)))
 
     pass-given : (m : Model) (ls : List (List ℕ)) → Opened model file m ls → HasRoom m ls rooms → (s : State) → run m rooms (unfoldedText ls) (startOf m) ls ≡ ran s → isComplete (s .due) ≡ true → Answered
     unfolding readRun readResolved acceptedWith
     pass-given m ls o room s e d =
         let read-to = complete-lines m rooms (unfoldedText ls) (startOf m) s ls e d in
-        by (lines-right m rooms ls s read-to) (read-opened m ls o room _ read-to)
+        by read-to (lines-right m rooms ls s read-to)
       where
-        outcome : (f : FileOf m rooms (unfoldedText ls) (s .content) (noMarks m) (withStarts 0 ls)) → References m (unfoldedText ls) (tableOf m (f .ds) .marks) (objectsOfTopics (f .ds))
-            → read model file rooms ≡ readResolved rooms (unfoldedText ls) (s .content) (resolve m (unfoldedText ls) (s .content)) → Answered
-        outcome f (allNamed r q) g =
+        outcome : readLines m rooms (unfoldedText ls) (startOf m) ls ≡ ran s → (f : FileOf m rooms (unfoldedText ls) (s .content) (noMarks m) (withStarts 0 ls))
+            → References m (unfoldedText ls) (tableOf m (f .ds) .marks) (objectsOfTopics (f .ds)) → Answered
+        outcome read-to f (allNamed r q) =
             let there = ap (λ (c : Content). resolve m (unfoldedText ls) c) (sym (content-is m rooms ls s f)) ∙ q in
-            absurd (not-accepted number first second _ _ _ (sym h ∙ ap (λ (r : Result). r .answer) (g ∙ ap (λ (x : Resolved). readResolved rooms (unfoldedText ls) (s .content) x) there)))
-        outcome f (firstUnnamed a b n q) g =
-            let there = ap (λ (c : Content). resolve m (unfoldedText ls) c) (sym (content-is m rooms ls s f)) ∙ q in
-            given 17 a b (g ∙ ap (λ (x : Resolved). readResolved rooms (unfoldedText ls) (s .content) x) there) (objectMissing o room e d (f .structure) (f .unique) n)
+            absurd (not-accepted number first second _ _ _ (sym h ∙ ap (λ (r : Result). r .answer) (read-opened model file rooms m ls o room _ read-to ∙ ap (λ (x : Resolved). readResolved rooms (unfoldedText ls) (s .content) x) there)))
+        outcome read-to f (firstUnnamed a b n q) = given 17 a b (objectMissing o (f .structure) (f .unique) (enough-of m rooms ls room s read-to f) n)
 
-        by : (f : FileOf m rooms (unfoldedText ls) (s .content) (noMarks m) (withStarts 0 ls)) → read model file rooms ≡ readResolved rooms (unfoldedText ls) (s .content) (resolve m (unfoldedText ls) (s .content)) → Answered
-        by f g = outcome f (references-read m rooms ls s f) g
+        by : readLines m rooms (unfoldedText ls) (startOf m) ls ≡ ran s → FileOf m rooms (unfoldedText ls) (s .content) (noMarks m) (withStarts 0 ls) → Answered
+        by read-to f = outcome read-to f (references-read m rooms ls s f)
 
     lines-given : (m : Model) (ls : List (List ℕ)) → Opened model file m ls → HasRoom m ls rooms → Answered
     lines-given m ls o room = by (lines-came m rooms (unfoldedText ls) (startOf m) ls)
       where
         by : LinesCame m rooms (unfoldedText ls) (startOf m) ls → Answered
-        by (stopsAt n line field e) = stop-given m ls o room n line field e
-        by (lacks s e d) = lack-given m ls o room s e d
+        by (stopsAt n line field e) = stops-given m ls o room n line field e
+        by (lacks s e d) = lacks-given m ls o room s e d
         by (passes s e d) = pass-given m ls o room s e d
 
     room-given : (m : Model) (ls : List (List ℕ)) → Opened model file m ls → Answered
     room-given m ls o = by (ltb (rooms .text) (length (unfoldedText ls))) refl (ltb (rooms .marks) (length (m .topics) + length (m .tables))) refl
       where
-        full : (HasRoom m ls rooms → ⊥) → Answered
-        full no-space = given 6 0 0 (read-crowded m ls o (no-room m ls no-space)) (noRoom o no-space)
-
         by : (a : Bool) → ltb (rooms .text) (length (unfoldedText ls)) ≡ a → (b : Bool) → ltb (rooms .marks) (length (m .topics) + length (m .tables)) ≡ b → Answered
-        by true p b q = full (λ r. omega (arith, ltb-true (rooms .text) (length (unfoldedText ls)) p, r .text))
-        by false p true q = full (λ r. omega (arith, ltb-true (rooms .marks) (length (m .topics) + length (m .tables)) q, r .marks))
+        by true p b q = given 6 0 0 (noRoom o (λ r. omega (arith, ltb-true (rooms .text) (length (unfoldedText ls)) p, r .text)))
+        by false p true q = given 6 0 0 (noRoom o (λ r. omega (arith, ltb-true (rooms .marks) (length (m .topics) + length (m .tables)) q, r .marks)))
         by false p false q = lines-given m ls o (record { text = ltb-false (rooms .text) (length (unfoldedText ls)) p; marks = ltb-false (rooms .marks) (length (m .topics) + length (m .tables)) q })
 
     model-given : Short file → Answered
     model-given short = by (checkModel model) refl
       where
         unfolded : (m : Model) → checkModel model ≡ good m → (u : Unfolded) → unfoldFile (m .mark) file ≡ u → Answered
-        unfolded m e (fault n line) q = given n line 0 (read-faulty m n line short e q) (badUnfolding short e q)
+        unfolded m e (fault n line) q = given n line 0 (badUnfolding short e (fault-exactly (m .mark) (marks.good-mark model m e) file n line .0 q))
         unfolded m e (lines ls) q = room-given m ls (record { short = short; isGood = e; unfolds = q })
 
         by : (c : Checked) → checkModel model ≡ c → Answered
-        by (bad at) e = given 2 at 0 (read-bad at short e) (badModel short e)
+        by (bad at) e = given 2 at 0 (badModel short e)
         by (good m) e = unfolded m e _ refl
 
     pub refusal-is-first : Answered
     refusal-is-first = by (ltb 16777216 (length file)) refl
       where
         by : (x : Bool) → ltb 16777216 (length file) ≡ x → Answered
-        by true e = let l = ltb-true 16777216 (length file) e in given 1 0 0 (read-large l) (tooLarge l)
+        by true e = given 1 0 0 (tooLarge (ltb-true 16777216 (length file) e))
         by false e = model-given (ltb-false 16777216 (length file) e)

@@ -16,14 +16,15 @@ use Rattle.meaning.specs.Value.{sameIdentification}
 use Rattle.meaning.specs.Row.{Pair, cells, pairsOf, pairCells}
 use Rattle.meaning.specs.Reading.{lineAttributes, objectOf, dueLines, Content, withRow, pointCount, Rooms, stretch, objectsOf, isUsed}
 use Rattle.meaning.specs.Lines.{go, storeRow, objectFields, objectLine, lineDue}
-use Rattle.meaning.specs.Right.{Delivered, Line, withStarts, Coded, Identification, wasDefined, Entries, ObjectLines, object, Objects, none, more, noObject, identificationAt, Unique, namesOf, entryPoints, pointsOf, cellsOfPoints}
+use Rattle.meaning.specs.Right.{Entry, Delivered, Line, withStarts, Coded, Identification, StandFor, Entries, ObjectLines, object, Objects, none, more, noObject, identificationAt, Unique, namesOf, entryPoints, pointsOf, cellsOfPoints}
 use Rattle.meaning.proofs.Tests.Same.{same-not}
 use Rattle.meaning.proofs.Reading.Stretches.{AllStand, text-behind, line-stands}
 use Rattle.meaning.proofs.Reading.References.{flatRows, rowStarts, flat-append}
 use Rattle.meaning.proofs.Right.Steps.{stepAt, steps, step-on, steps-on}
 use Rattle.meaning.proofs.Right.Content.{earlyCells, lateCells, early-length, late-length, points-length, points-append, delivered-points, rowsFrom, rows-append, contentOf, headOf, content-more, AllNamesStand, names-stand-append, objects-names}
 use Rattle.meaning.proofs.Right.Points.{coded-fields}
-use Rattle.meaning.proofs.Right.Rows.{flagOf, isCovered, entries-cells, withEntries, entries-lines}
+use Rattle.meaning.proofs.Right.PairEntries.{wasDefined, isCovered, PairEntries, pairs-of-entries}
+use Rattle.meaning.proofs.Right.Rows.{flagOf, entries-cells, withEntries, entries-lines}
 
 -- ## Where lines stand
 
@@ -110,7 +111,7 @@ pub record ReadObject (m : Model) (own : List ℕ) (o : Delivered) : Type 0 wher
   pub lines : List Line
   pub stands : stretch own (o .identification .start) (length (o .identification .bytes)) ≡ o .identification .bytes
   pub fieldsStand : AllStand own fields
-  pub entries : Entries (m .undefined) wasDefined (pairsOf (tableAt (m .tables) (o .table) .attributes)) fields lines (o .entries)
+  pub entries : PairEntries (m .undefined) wasDefined (pairsOf (tableAt (m .tables) (o .table) .attributes)) fields lines (o .entries)
 
 abbrev pub AllRead : Model → List ℕ → List Delivered → Type 0
 AllRead m own [] = Unit {0}
@@ -124,10 +125,15 @@ pub read-names : (m : Model) (own : List ℕ) (os : List Delivered) → AllRead 
 read-names m own [] h = tt
 read-names m own (o ∷ os) h = (h .0 .stands, read-names m own os (h .1))
 
+-- an object's entries by pairs
+object-pairs : (m : Model) (t : ℕ) {fs gs : List Field} {ls : List Line} {es : List Entry} → StandFor (m .undefined) fs gs → Entries (m .undefined) (tableAt (m .tables) t .attributes) gs ls es
+    → PairEntries (m .undefined) wasDefined (pairsOf (tableAt (m .tables) t .attributes)) fs ls es
+object-pairs m t {fs} {gs} {ls} {es} stand r = pairs-of-entries (m .undefined) (tableAt (m .tables) t .attributes) fs gs ls es stand r wasDefined
+
 pub object-read : (m : Model) (own : List ℕ) (t : ℕ) {ls : List Line} {o : Delivered} → ObjectLines m t ls o → LinesStand own ls → ReadObject m own o
-object-read m own t (object {l = l} {ls = ls} {i = i} {fs = fs} c d r) h =
-    let st = rw (c .fields) at (h .0) in
-    record { fields = fs; lines = ls; stands = st .1 .0; fieldsStand = st .1 .1; entries = r }
+object-read m own t (object {l = l} {ls = ls} {i = i} {fs = fs} c d st r) h =
+    let at = rw (c .fields) at (h .0) in
+    record { fields = fs; lines = ls; stands = at .1 .0; fieldsStand = at .1 .1; entries = object-pairs m t st r }
 
 pub objects-read : (m : Model) (own : List ℕ) (t : ℕ) {ls : List Line} {os : List Delivered} → Objects m t ls os → LinesStand own ls → AllRead m own os
 objects-read m own t none h = tt
@@ -158,7 +164,8 @@ module _ (m : Model) (rooms : Rooms) (own : List ℕ) (t : ℕ) where
   pub object-run : {ls : List Line} {o : Delivered} → ObjectLines m t ls o → (marks : List ℕ) (before : List Delivered) → AllNamesStand own before → Unique (before ++ (o ∷ []))
       → RoomFor rooms (before ++ (o ∷ [])) → steps m rooms own (objectOf t) (contentOf marks before) ls ≡ go (objectOf t) (contentOf marks (before ++ (o ∷ [])))
   unfolding flagOf isCovered
-  object-run (object {l = l} {ls = ls} {i = i} {fs = fs} {es = es} h d r) marks before stand unique room =
+  object-run (object {l = l} {ls = ls} {i = i} {fs = fs} {es = es} h d st x) marks before stand unique room =
+      let r = object-pairs m t st x in
       let o : Delivered = record { table = t; identification = i; entries = es } in
       let k : ℕ = length (pointsOf before) in
       let c : Content = contentOf marks before in

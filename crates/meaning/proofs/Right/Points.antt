@@ -124,7 +124,7 @@ module _ (m : Model) (rooms : Rooms) (text : List ℕ) (t k : ℕ) (a : LineAttr
       let z : length (c .points) + 4 * (length ps + length qs) ≤ rooms .points = omega (arith, length-append ps qs) in
       more-points ls others ps qs _ (lineOf (under reached)) _ c (segment-run s state o c (omega arith)) (segments-run r reached open-reached (withPoints ps c) (room-behind ps c (length qs) z))
 
-  end-step : (e : Line) (c : Content) → Alone ELIN e → stepAt m rooms text (lineOf (under reached)) c e ≡ go (dueLines t (pointCount c) rest) (withLine (under reached) c)
+  pub end-step : (e : Line) (c : Content) → Alone ELIN e → stepAt m rooms text (lineOf (under reached)) c e ≡ go (dueLines t (pointCount c) rest) (withLine (under reached) c)
   unfolding lineDue attributeLine refuse move bare
   end-step e c h = rw (elin-code e [] h, h .fields)
 

@@ -6,20 +6,21 @@ use mathlib.Core.Bool.{Bool, true, false, true≢false}
 use mathlib.Core.List.{List, [], _∷_, _++_, append-assoc, append-nil}
 use lib.IntN.{ℤ, pos}
 use lib.ListN.{length, length-append}
-use borrow.Author.Tests.{le-ltb, eq-eqb}
-use Rattle.meaning.specs.Bytes.{choose, refuse, same}
+use borrow.Author.Tests.{le-ltb}
+use Rattle.meaning.specs.Bytes.{choose, refuse}
 use Rattle.meaning.specs.Model.{AttributeType, Model}
 use Rattle.meaning.specs.Field.{Field}
-use Rattle.meaning.specs.Value.{textOf, referenceOf, stretchOf, valueOf, isUndefined, isUndefinedTwice}
+use Rattle.meaning.specs.Value.{textOf, referenceOf, stretchOf, valueOf}
 use Rattle.meaning.specs.Row.{Pair, hasMandatory, cells, putPair, undefinedCells, undefinedRest, definedOr, pairCells}
 use Rattle.meaning.specs.Reading.{reached, unstarted, LineAttribute, lineAttributes, objectOf, lineOf, dueLines, Content, pointCount, withLine, Rooms}
 use Rattle.meaning.specs.Lines.{go}
-use Rattle.meaning.specs.Right.{Point, Entry, Undefined, OfValue, Line, Means, number, date, enumeration, text, reference, Drawn, Before, wasDefined, wasUndefined, covered, Entries, done, defined, undefined, cover, under, alsoDefined, alsoUndefined, alsoCover, alsoUnder, undrawn, along, entryPoints, cellsOfPoints}
-use Rattle.meaning.proofs.Tests.Same.{same-is}
+use Rattle.meaning.specs.Right.{Point, Entry, Undefined, OfValue, Line, Means, number, date, enumeration, text, reference, Drawn, entryPoints, cellsOfPoints}
 use Rattle.meaning.proofs.Writing.Attributes.{set-pair, moved, moved-length, withCells}
 use Rattle.meaning.proofs.Right.Steps.{steps, step-on, steps-on}
 use Rattle.meaning.proofs.Right.Content.{earlyCells, lateCells, points-length, points-append}
 use Rattle.meaning.proofs.Right.Points as points
+use Rattle.meaning.proofs.Right.PairEntries.{Before, wasDefined, wasUndefined, covered, isCovered, PairEntries, done, defined, undefined, cover, under, alsoDefined, alsoUndefined, alsoCover, alsoUnder, undrawn, along}
+pub use Rattle.meaning.proofs.Right.PairEntries.{undefined-once}
 
 -- ## Fields
 
@@ -31,17 +32,12 @@ means-put (enumeration h) place es = rw h
 means-put (text {longest = longest} {f = f} h l) place es = rw (h, le-ltb longest (length (f .bytes)) l)
 means-put (reference h) place es = rw h
 
--- one undefined byte is not two
-pub undefined-once : (u : ℕ) (f : Field) → isUndefined u f ≡ true → isUndefinedTwice u f ≡ false
-unfolding isUndefined isUndefinedTwice same
-undefined-once u f h = rw (same-is (f .bytes) (u ∷ []) h, eq-eqb u u refl)
-
 -- what two undefined bytes cover is optional
 record Covered (ps : List Pair) (es : List Entry) : Type 0 where
   optional : hasMandatory ps ≡ false
   cells : undefinedCells ps ≡ earlyCells es
 
-covered-cells : {u : ℕ} {ps : List Pair} {ls : List Line} {es : List Entry} → Entries u covered ps [] ls es → Covered ps es
+covered-cells : {u : ℕ} {ps : List Pair} {ls : List Line} {es : List Entry} → PairEntries u covered ps [] ls es → Covered ps es
 unfolding hasMandatory undefinedCells earlyCells
 covered-cells done = record { optional = refl; cells = refl }
 covered-cells (under r) = let c = covered-cells r in record { optional = c .optional; cells = rw (c .cells) }
@@ -54,12 +50,7 @@ flagOf wasDefined = true
 flagOf wasUndefined = false
 flagOf covered = false
 
-unfoldable pub isCovered : Before → Bool
-isCovered wasDefined = false
-isCovered wasUndefined = false
-isCovered covered = true
-
-pub entries-cells : {u : ℕ} {b : Before} {ps : List Pair} {fs : List Field} {ls : List Line} {es : List Entry} → Entries u b ps fs ls es → isCovered b ≡ false → (place : ℕ)
+pub entries-cells : {u : ℕ} {b : Before} {ps : List Pair} {fs : List Field} {ls : List Line} {es : List Entry} → PairEntries u b ps fs ls es → isCovered b ≡ false → (place : ℕ)
     → pairCells u (flagOf b) place ps fs ≡ cells (earlyCells es)
 unfolding pairCells choose refuse definedOr putPair hasMandatory undefinedRest undefinedCells earlyCells flagOf isCovered
 entries-cells done h place = refl
@@ -129,7 +120,7 @@ module _ (m : Model) (rooms : Rooms) (own : List ℕ) (t : ℕ) where
       let less : k + n - k ≡ n = omega arith in
       (counted, rw (counted, less, cell, h, set-pair front a b rest (pos (1 + n)) (pos k)))
 
-  pub entries-lines : {u : ℕ} {b : Before} {ps : List Pair} {fs : List Field} {ls : List Line} {es : List Entry} → Entries u b ps fs ls es → u ≡ m .undefined
+  pub entries-lines : {u : ℕ} {b : Before} {ps : List Pair} {fs : List Field} {ls : List Line} {es : List Entry} → PairEntries u b ps fs ls es → u ≡ m .undefined
       → (k : ℕ) (front : List ℤ) (c : Content) → c .cells ≡ front ++ earlyCells es → 4 * k ≡ length (c .points) → length (c .points) + 4 * length (entryPoints es) ≤ rooms .points
       → steps m rooms own (dueLines t k (lineAttributes (length front) ps)) c ls ≡ go (objectOf t) (withEntries c front k es)
   unfolding dueLines lineAttributes steps entryPoints cellsOfPoints lateCells earlyCells undefined-kept value-kept

@@ -44,49 +44,49 @@ module _ (m : Model) (own : List ℕ) where
 -- ## Lines of one code
 
 module _ (m : Model) (rooms : Rooms) (own : List ℕ) where
-  etab-step : (t : ℕ) (l : Line) (c : Content) → Alone ETAB l → stepAt m rooms own (objectOf t) c l ≡ go (tableFrom (tableAt (m .tables) t .topic) (t + 1)) c
+  pub etab-step : (t : ℕ) (l : Line) (c : Content) → Alone ETAB l → stepAt m rooms own (objectOf t) c l ≡ go (tableFrom (tableAt (m .tables) t .topic) (t + 1)) c
   unfolding lineDue objectLine behindObjects hasCode same choose refuse bare
   etab-step t l c h = rw (coded-fields ETAB l [] h)
 
-  etop-step : (p from : ℕ) (l : Line) (c : Content) → Alone ETOP l → mandatoryBetween p from (length (m .tables)) 0 (m .tables) ≡ false → stepAt m rooms own (tableFrom p from) c l ≡ go (topicFrom (p + 1)) c
+  pub etop-step : (p from : ℕ) (l : Line) (c : Content) → Alone ETOP l → mandatoryBetween p from (length (m .tables)) 0 (m .tables) ≡ false → stepAt m rooms own (tableFrom p from) c l ≡ go (topicFrom (p + 1)) c
   unfolding lineDue tableLine topicEnd hasCode same choose refuse bare
   etop-step p from l c h e = rw (coded-fields ETOP l [] h, e)
 
-  tabl-step : (p from t : ℕ) (l : Line) (f : Field) (c : Content) → Coded TABL l (f ∷ []) → findTable p from 0 (f .bytes) (m .tables) ≡ found t → mandatoryBetween p from t 0 (m .tables) ≡ false
+  pub tabl-step : (p from t : ℕ) (l : Line) (f : Field) (c : Content) → Coded TABL l (f ∷ []) → findTable p from 0 (f .bytes) (m .tables) ≡ found t → mandatoryBetween p from t 0 (m .tables) ≡ false
       → stepAt m rooms own (tableFrom p from) c l ≡ go (objectOf t) (withMark (length (m .topics) + t) c)
   unfolding lineDue tableLine hasCode same choose refuse
   tabl-step p from t l f c h e g = rw (coded-fields TABL l (f ∷ []) h, e, g)
 
-  topi-step : (from p : ℕ) (l : Line) (f : Field) (c : Content) → Coded TOPI l (f ∷ []) → findTopic from 0 (f .bytes) (m .topics) ≡ found p
+  pub topi-step : (from p : ℕ) (l : Line) (f : Field) (c : Content) → Coded TOPI l (f ∷ []) → findTopic from 0 (f .bytes) (m .topics) ≡ found p
       → stepAt m rooms own (topicFrom from) c l ≡ go (tableFrom p 0) (withMark p c)
   unfolding lineDue topicLine hasCode same choose refuse
   topi-step from p l f c h e = rw (coded-fields TOPI l (f ∷ []) h, e)
 
-  emod-step : (from : ℕ) (l : Line) (c : Content) → Alone EMOD l → stepAt m rooms own (topicFrom from) c l ≡ go closing c
+  pub emod-step : (from : ℕ) (l : Line) (c : Content) → Alone EMOD l → stepAt m rooms own (topicFrom from) c l ≡ go closing c
   unfolding lineDue topicLine hasCode same choose refuse bare
   emod-step from l c h = rw (coded-fields EMOD l [] h)
 
-  ende-step : (l : Line) (c : Content) → Alone ENDE l → stepAt m rooms own closing c l ≡ go nothing c
+  pub ende-step : (l : Line) (c : Content) → Alone ENDE l → stepAt m rooms own closing c l ≡ go nothing c
   unfolding lineDue closingLine hasCode same refuse bare
   ende-step l c h = rw (coded-fields ENDE l [] h)
 
-  scnt-step : (l : Line) (c : Content) → Alone SCNT l → stepAt m rooms own opening c l ≡ go description c
+  pub scnt-step : (l : Line) (c : Content) → Alone SCNT l → stepAt m rooms own opening c l ≡ go description c
   unfolding lineDue openingLine hasCode same refuse bare
   scnt-step l c h = rw (coded-fields SCNT l [] h)
 
-  slashes-step : (l : Line) (c : Content) → prefix slashes (l .bytes) ≡ true → Alone slashes l → stepAt m rooms own description c l ≡ go transfer c
+  pub slashes-step : (l : Line) (c : Content) → prefix slashes (l .bytes) ≡ true → Alone slashes l → stepAt m rooms own description c l ≡ go transfer c
   unfolding lineDue descriptionLine hasCode same choose refuse bare
   slashes-step l c e h = rw (e, coded-fields slashes l [] h)
 
-  described-step : (l : Line) (c : Content) → prefix slashes (l .bytes) ≡ false → stepAt m rooms own description c l ≡ go description c
+  pub described-step : (l : Line) (c : Content) → prefix slashes (l .bytes) ≡ false → stepAt m rooms own description c l ≡ go description c
   unfolding lineDue descriptionLine choose
   described-step l c e = rw e
 
-  mtid-step : (l : Line) (f : Field) (c : Content) → Coded MTID l (f ∷ []) → f .bytes ≡ m .transfer → stepAt m rooms own transfer c l ≡ go modelName c
+  pub mtid-step : (l : Line) (f : Field) (c : Content) → Coded MTID l (f ∷ []) → f .bytes ≡ m .transfer → stepAt m rooms own transfer c l ≡ go modelName c
   unfolding lineDue transferLine hasCode same refuse named
   mtid-step l f c h e = rw (coded-fields MTID l (f ∷ []) h, e, same-refl (m .transfer))
 
-  modl-step : (l : Line) (f : Field) (c : Content) → Coded MODL l (f ∷ []) → f .bytes ≡ m .name → stepAt m rooms own modelName c l ≡ go (topicFrom 0) c
+  pub modl-step : (l : Line) (f : Field) (c : Content) → Coded MODL l (f ∷ []) → f .bytes ≡ m .name → stepAt m rooms own modelName c l ≡ go (topicFrom 0) c
   unfolding lineDue modelLine hasCode same refuse named
   modl-step l f c h e = rw (coded-fields MODL l (f ∷ []) h, e, same-refl (m .name))
 

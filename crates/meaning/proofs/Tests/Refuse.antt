@@ -27,6 +27,12 @@ unfolding refuse
 refuse-keeps P true refusal rest h k = h
 refuse-keeps P false refusal rest h k = k refl
 
+-- the same where the refusal needs that the test holds
+pub refuse-by : {A : Type 0} (P : A → Type 0) (t : Bool) (refusal rest : A) → (t ≡ true → P refusal) → (t ≡ false → P rest) → P (refuse t refusal rest)
+unfolding refuse
+refuse-by P true refusal rest h k = h refl
+refuse-by P false refusal rest h k = k refl
+
 pub choose-keeps : {A : Type 0} (P : A → Type 0) (t : Bool) (a b : A) → (t ≡ true → P a) → (t ≡ false → P b) → P (choose t a b)
 unfolding choose
 choose-keeps P true a b h k = h refl
@@ -49,6 +55,15 @@ neither-less a b c d = (λ e. let n = neither (ltb a b) (ltb c d) e in (ltb-fals
 pub holds-unless : (x : Bool) {P : Type 0} → (x ≡ false) ↔ P → (x ≡ true) ↔ (P → ⊥)
 holds-unless true s = (λ _ p. true≢false (s .1 p), λ _. refl)
 holds-unless false s = (λ e. absurd (false≢true e), λ n. absurd (n (s .0 refl)))
+
+-- a test that cannot hold, and one that cannot fail
+pub no-true : (t : Bool) → (t ≡ true → ⊥) → t ≡ false
+no-true true h = absurd (h refl)
+no-true false h = refl
+
+pub no-false : (t : Bool) → (t ≡ false → ⊥) → t ≡ true
+no-false true h = refl
+no-false false h = absurd (h refl)
 
 -- one of the tests that all hold
 pub holds : (ts : List Bool) (n : ℕ) → allOf ts ≡ true → getD ts n true ≡ true
