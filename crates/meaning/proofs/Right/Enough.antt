@@ -1,4 +1,4 @@
--- Rooms that suffice for every file. Takes that a refusal is the first one; else assumes nothing.
+-- Rooms that suffice for every file. Assumes nothing.
 use Prim.Native.Nat.{ℕ, _+_, _*_, _/_, _≤_}
 use native.Mathlib.Nat.{mul-le-mul-left}
 use native.Mathlib.Omega.{arith}
@@ -16,11 +16,12 @@ use Rattle.meaning.specs.Table.{read}
 use Rattle.meaning.specs.Right.{withStarts}
 use Rattle.meaning.specs.Reasons as reasons
 use Rattle.meaning.specs.Reasons.{Place, Gain, Follows, usedWith, cellsWith, pointsWith, Reached, Within}
-use Rattle.meaning.specs.RightClaims.{Opened, lineBehind, First, tooLarge, badModel, badUnfolding, noRoom, badLine, fullLine, lineMissing, objectMissing, RefusalIsFirst}
+use Rattle.meaning.specs.RightClaims.{Opened, lineBehind, First, tooLarge, badModel, badUnfolding, noRoom, badLine, fullLine, lineMissing, objectMissing}
 use Rattle.meaning.specs.RoomClaims.{isOneOf, NoLess, HadRoom, longestRow, roomsFor, SomeRoomIsEnough}
 use Rattle.meaning.proofs.Unfolding.Cuts as cuts
 use Rattle.meaning.proofs.Model.Marks as marks
 use Rattle.meaning.proofs.Model.GoodModels as models
+use Rattle.meaning.proofs.Right.Claims.{refusal-is-first}
 use Rattle.meaning.proofs.Right.Numbers.{each, faultNumbers, fault-fine, lineNumbers, reason-fine}
 use Rattle.meaning.proofs.Right.Lengths.{bytesIn, bytes-behind, bytes-text, text-begins}
 use Rattle.meaning.proofs.Right.Spends.{Spends, reached-spends}
@@ -68,13 +69,13 @@ module _ (model file : List ℕ) (rooms : Rooms) (suffice : (m : Model) → chec
   first-had (lineMissing o room c h) = refl
   first-had (objectMissing o f u e r) = refl
 
-  had-room : RefusalIsFirst → HadRoom (read model file rooms .answer)
+  had-room : HadRoom (read model file rooms .answer)
   unfolding wantsRoom isOneOf
-  had-room refusal-is-first first second =
+  had-room first second =
       (λ e. true≢false (first-had (refusal-is-first model file rooms 6 first second e)), λ e. true≢false (first-had (refusal-is-first model file rooms 16 first second e)))
 
-pub some-room-is-enough : RefusalIsFirst → SomeRoomIsEnough
-some-room-is-enough refusal-is-first model file m rooms e enough = had-room model file rooms suffice refusal-is-first
+pub some-room-is-enough : SomeRoomIsEnough
+some-room-is-enough model file m rooms e enough = had-room model file rooms suffice
   where
     suffice : (m′ : Model) → checkModel model ≡ good m′ → NoLess (roomsFor m′ (length file)) rooms
     suffice m′ e′ =

@@ -1,4 +1,4 @@
--- The numbers and places of answers: those of 01's table. Reading's take that a refusal is the first one; else assumes nothing.
+-- The numbers and places of answers: those of 01's table. Assumes nothing.
 use Prim.Native.Nat.{ℕ, _+_, _≤_}
 use native.Mathlib.Omega.{arith}
 use mathlib.Core.Path.{_≡_, refl, subst}
@@ -22,11 +22,12 @@ use Rattle.meaning.specs.Right.{Line, Entry, Delivered}
 use Rattle.meaning.specs.Reasons as reasons
 use Rattle.meaning.specs.Reasons.{Place, FieldReason, PointReason, Reason}
 use Rattle.meaning.specs.RightClaims as claims
-use Rattle.meaning.specs.RightClaims.{fieldBehind, FirstOfEntries, FirstOfObjects, First, tooLarge, badModel, badUnfolding, noRoom, badLine, fullLine, lineMissing, objectMissing, RefusalIsFirst}
+use Rattle.meaning.specs.RightClaims.{fieldBehind, FirstOfEntries, FirstOfObjects, First, tooLarge, badModel, badUnfolding, noRoom, badLine, fullLine, lineMissing, objectMissing}
 use Rattle.meaning.specs.RoomClaims.{isOneOf, isPlaceOf, Numbered, ReadingNumbers, WritingNumbers, UnfoldingNumbers, CheckNumbers}
 use Rattle.meaning.proofs.Tests.Refuse.{refuse-keeps, both}
 use Rattle.meaning.proofs.Model.Marks as marks
 use Rattle.meaning.proofs.Reading.Claims.{fault-exactly}
+use Rattle.meaning.proofs.Right.Claims.{refusal-is-first}
 
 -- ## Answers
 
@@ -195,5 +196,5 @@ first-fine (fullLine before l after o room c f h) = (refl, rw (le-leb 1 (1 + len
 first-fine (lineMissing {ls = ls} o room c h) = (refl, rw (le-leb 1 (1 + length ls) (omega arith)))
 first-fine (objectMissing {field = field} o f u e r) = (refl, rw (le-leb 3 field (objects-field r)))
 
-pub reading-numbers : RefusalIsFirst → ReadingNumbers
-reading-numbers refusal-is-first model file rooms number first second e = first-fine (refusal-is-first model file rooms number first second e)
+pub reading-numbers : ReadingNumbers
+reading-numbers model file rooms number first second e = first-fine (refusal-is-first model file rooms number first second e)

@@ -5,18 +5,19 @@ use mathlib.Core.Bool.{_||_}
 use mathlib.Core.List.{List}
 use lib.Dec.{ltb}
 use lib.ListN.{length}
-use borrow.Author.Tests.{le-ltb}
-use Rattle.meaning.specs.Bytes.{refuse}
 use Rattle.meaning.specs.Unfold.{unfoldedText}
 use Rattle.meaning.specs.Model.{Model, markCount}
 use Rattle.meaning.specs.Answer.{accepted}
 use Rattle.meaning.specs.Reading.{Content, Rooms}
 use Rattle.meaning.specs.Lines.{Run, ran, stopped}
-use Rattle.meaning.specs.Table.{Resolved, resolved, unresolved, resolve, Result, refusedWith, acceptedWith, readResolved, readRun, readText, readUnfolded, readChecked, read}
+use Rattle.meaning.specs.Table.{Resolved, resolved, unresolved, resolve, Result, refusedWith, acceptedWith, readResolved, readRun, readText, read}
 use Rattle.meaning.specs.RightClaims.{Opened, HasRoom}
 use Rattle.meaning.specs.RoomClaims.{UsedText, LinesSayWhatIsUsed}
 use Rattle.meaning.proofs.Tests.Unequal.{not-accepted}
 use Rattle.meaning.proofs.Tests.Refuse.{refuse-keeps, neither-less}
+use Rattle.meaning.proofs.Unfolding.Cuts as cuts
+use Rattle.meaning.proofs.Model.Marks as marks
+use Rattle.meaning.proofs.Reading.Claims.{cut-reads-as-lines}
 use Rattle.meaning.proofs.Reading.Buffers.{Ran, lines-fit, behind-filled}
 
 module _ (m : Model) (ls : List (List ℕ)) (rooms : Rooms) where
@@ -51,8 +52,7 @@ module _ (m : Model) (ls : List (List ℕ)) (rooms : Rooms) where
 
 -- a file that is opened is read as its lines
 read-text : (model file : List ℕ) (m : Model) (ls : List (List ℕ)) (rooms : Rooms) → Opened model file m ls → read model file rooms ≡ readText m rooms ls
-unfolding read refuse readChecked readUnfolded
-read-text model file m ls rooms o = rw (le-ltb 16777216 (length file) (o .short), o .isGood, o .unfolds)
+read-text model file m ls rooms o = cut-reads-as-lines model m ls file rooms (o .isGood) (o .short) (cuts.unfolds-cut (m .mark) (marks.good-mark model m (o .isGood)) ls file (o .unfolds) .0)
 
 pub lines-say-what-is-used : LinesSayWhatIsUsed
 lines-say-what-is-used model file m ls rooms objects cells points o =
