@@ -32,7 +32,7 @@ wantsRoom n = isOneOf n (6 ∷ 16 ∷ [])
 
 -- what takes bytes of a file has room in the rooms for it
 spends-within : (m : Model) (n : ℕ) (rooms : Rooms) {k : ℕ} {used : List (List ℕ)} {cells points : ℕ} → NoLess (roomsFor m n) rooms → k ≤ n → Spends m k used cells points → Within rooms used cells points
-spends-within m n rooms {used = used} {points = points} enough short s =
+spends-within m n rooms {used = used} enough short s =
     let few : length used ≤ n / 7 = omega (arith, short, s .forRows) in
     let rows : n / 7 ≤ rooms .rows = enough .rows in
     let cells : longestRow (m .tables) * (n / 7) ≤ rooms .cells = enough .cells in
