@@ -31,3 +31,10 @@ pub mod Accepted
 pub mod Complete
 pub mod First
 pub mod Claims
+pub mod Numbers
+pub mod MoreRoom
+pub mod UsedText
+pub mod Lengths
+pub mod Spends
+pub mod Enough
+pub mod RoomClaims

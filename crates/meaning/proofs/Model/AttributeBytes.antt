@@ -54,7 +54,7 @@ components-behind (c ∷ cs) rest =
 -- ## Types
 
 -- two or three
-dimensions : (n : ℕ) → isDimension n ≡ true → (n ≡ 2) ⊎ (n ≡ 3)
+pub dimensions : (n : ℕ) → isDimension n ≡ true → (n ≡ 2) ⊎ (n ≡ 3)
 unfolding isDimension
 dimensions n h = go (eqb n 2) refl
   where

@@ -284,7 +284,7 @@ left-refused rooms number first second = record {
 length-filled : {A : Type 0} (z : A) (room : ℕ) (xs : List A) → length xs ≤ room → length (filled z room xs) ≡ room
 length-filled z room xs h = length-append xs _ ∙ (ap (λ (n : ℕ). length xs + n) (length-replicate (room - length xs) z) ∙ omega arith)
 
-behind-filled : {A : Type 0} (z : A) (room : ℕ) (xs : List A) → drop (length xs) (filled z room xs) ≡ replicate (room - length xs) z
+pub behind-filled : {A : Type 0} (z : A) (room : ℕ) (xs : List A) → drop (length xs) (filled z room xs) ≡ replicate (room - length xs) z
 behind-filled z room xs = drop-append-seam xs _
 
 left-accepted : (m : Model) (rooms : Rooms) (text : List ℕ) (c : Content) (cs : List ℤ) → length text ≤ rooms .text → length (m .topics) + length (m .tables) ≤ rooms .marks
