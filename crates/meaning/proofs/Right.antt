@@ -30,4 +30,5 @@ pub mod Behind
 pub mod Accepted
 pub mod Complete
 pub mod First
+pub mod Lost
 pub mod Claims

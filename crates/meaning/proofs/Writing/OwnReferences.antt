@@ -303,7 +303,7 @@ module _ (m : Model) (text : List ℕ) (c : Content) (own : List ℕ) where
   settled-size end = omega arith
   settled-size (next {ys = ys} {zs = zs} a b i s r) = let ih = settled-size r in let z = length-append ys zs in omega arith
 
-not-less : (a : ℤ) → ltZ a a ≡ false
+pub not-less : (a : ℤ) → ltZ a a ≡ false
 not-less (pos n) = le-ltb n n (omega arith)
 not-less (negsuc n) = le-ltb n n (omega arith)
 
