@@ -31,4 +31,7 @@ pub mod Accepted
 pub mod Complete
 pub mod First
 pub mod Lost
+pub mod GoodPlaces
+pub mod Endings
 pub mod Claims
+pub mod ViableClaims
