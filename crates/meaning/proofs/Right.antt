@@ -30,6 +30,9 @@ pub mod Behind
 pub mod Accepted
 pub mod Complete
 pub mod First
+pub mod Lost
+pub mod GoodPlaces
+pub mod Endings
 pub mod Claims
 pub mod Numbers
 pub mod MoreRoom
@@ -38,3 +41,4 @@ pub mod Lengths
 pub mod Spends
 pub mod Enough
 pub mod RoomClaims
+pub mod ViableClaims

@@ -25,7 +25,7 @@ same-integer (pos a) (negsuc b) p q = absurd (false≢true q)
 same-integer (negsuc a) (pos b) p q = absurd (false≢true p)
 same-integer (negsuc a) (negsuc b) p q = ap negsuc (omega (arith, ltb-false b a (not-true _ p), ltb-false a b (not-true _ q)))
 
-not-less : (a : ℤ) → ltZ a a ≡ false
+pub not-less : (a : ℤ) → ltZ a a ≡ false
 not-less (pos n) = le-ltb n n (omega arith)
 not-less (negsuc n) = le-ltb n n (omega arith)
 

@@ -26,7 +26,7 @@ use Rattle.meaning.proofs.Right.Come.{StandsAt, Come, lines-come, reach
 
 -- ## Where lines start
 
-starts-append : (start : ℕ) (ks ls : List (List ℕ)) → withStarts start (ks ++ ls) ≡ withStarts start ks ++ withStarts (start + length (unfoldedText ks)) ls
+pub starts-append : (start : ℕ) (ks ls : List (List ℕ)) → withStarts start (ks ++ ls) ≡ withStarts start ks ++ withStarts (start + length (unfoldedText ks)) ls
 unfolding withStarts unfoldedText
 starts-append start [] ls = let z : start + 0 ≡ start = omega arith in rw z
 starts-append start (k ∷ ks) ls =

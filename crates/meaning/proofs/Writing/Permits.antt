@@ -108,7 +108,7 @@ date-permits v = every-append permitted (signOf v) _ (sign-permits v) (digits-pe
 
 -- ## Fields and lines
 
-abbrev FieldsPermit : List (List ℕ) → Type 0
+abbrev pub FieldsPermit : List (List ℕ) → Type 0
 FieldsPermit [] = Unit {0}
 FieldsPermit (f ∷ fs) = (allPermitted f ≡ true) × FieldsPermit fs
 
@@ -121,7 +121,7 @@ unfolding spaced every permitted
 spaced-permits [] h = refl
 spaced-permits (f ∷ fs) h = every-append permitted f (spaced fs) (h .0) (spaced-permits fs (h .1))
 
-line-permits : (k : List (List ℕ)) → FieldsPermit k → allPermitted (lineBytes k) ≡ true
+pub line-permits : (k : List (List ℕ)) → FieldsPermit k → allPermitted (lineBytes k) ≡ true
 unfolding lineBytes every
 line-permits [] h = refl
 line-permits (f ∷ fs) h = every-append permitted f (spaced fs) (h .0) (spaced-permits fs (h .1))
