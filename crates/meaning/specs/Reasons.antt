@@ -194,7 +194,8 @@ pub data PointReason (u : ℕ) : (place : ℕ) → List Component → List Field
   domain : {place : ℕ} {c : Component} {cs : List Component} {f : Field} {fs : List Field} → Defined u f
       → OutsideDomain (Number c) (f .bytes) → PointReason u place (c ∷ cs) (f ∷ fs) 14 place
   behind : {place n k : ℕ} {c : Component} {cs : List Component} {f : Field} {fs : List Field} → Defined u f
-      → RightValue (Number c) (f .bytes) → PointReason u (place + 1) cs fs n k → PointReason u place (c ∷ cs) (f ∷ fs) n k
+      → RightValue (Number c) (f .bytes) → PointReason u (place + 1) cs fs n k
+      → PointReason u place (c ∷ cs) (f ∷ fs) n k
 
 -- ## A line that may follow
 

@@ -78,8 +78,8 @@ readingRows =
     ∷ row (bytesOf "SCNT" ++ (1 ∷ bytesOf "\n")) (refusal 4 1 0)
     -- 5 "mark not followed by CONT and space"
     ∷ row (bytesOf "SC\\\nNT\n") (refusal 5 1 0)
-    -- 7 "another line code expected, or no line left (one past the last)"; "A line without fields where a code is due, a
-    -- line behind ENDE and `////x` are 7"
+    -- 7 "another line code expected, or no line left (one past the last)"; "A line without fields where a code is due,
+    -- a line behind ENDE and `////x` are 7"
     ∷ row (bytesOf "ENDE\n") (refusal 7 1 1)
     ∷ row [] (refusal 7 1 1)
     ∷ row (bytesOf "SCNT\n") (refusal 7 2 1)

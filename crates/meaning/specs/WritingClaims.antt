@@ -18,8 +18,8 @@ use Rattle.meaning.specs.Reading.{Content, Rooms}
 use Rattle.meaning.specs.Table.{Result, acceptedWith, read}
 use Rattle.meaning.specs.Right.{DeliveredTopic, Right, tableOf}
 use Rattle.meaning.specs.Writing.{Lent, countsFit, contentOf, linesOf}
-use Rattle.meaning.specs.Readback.{Shown, ofCells, ofBytes, outside, ShownObject, shownObjects, sameTable, readsAs}
-use Rattle.meaning.specs.Readback.{isTable}
+use Rattle.meaning.specs.Readback.{Shown, ofCells, ofBytes, outside, ShownObject, shownObjects, sameTable}
+use Rattle.meaning.specs.Readback.{readsAs, isTable}
 use Rattle.meaning.specs.Judge.{judge}
 use Rattle.meaning.specs.Width.{cutLines, write}
 
