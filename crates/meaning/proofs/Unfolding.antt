@@ -1,3 +1,4 @@
+pub mod Physical
 pub mod Cuts
 pub mod Faults
 pub mod Widths

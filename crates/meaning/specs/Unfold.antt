@@ -1,6 +1,6 @@
 -- Unfolding (01, "Unfolding"): a file's bytes, its physical lines, and the logical lines that they are unfolded to.
 unfoldable pub use
-    Rattle.meaning.specs.Bytes.{refuse, permitted, every, allPermitted, begins, ends, withoutLast, cont, prefix}
+    Rattle.meaning.specs.Bytes.{choose, refuse, permitted, every, allPermitted, ends, withoutLast, cont, prefix}
 use Prim.Native.Nat.{ℕ, _+_}
 use mathlib.Core.Bool.{Bool, true, false, not, _&&_}
 use mathlib.Core.List.{List, [], _∷_, _++_}
@@ -8,6 +8,11 @@ use lib.ListN.{drop}
 use lib.Dec.{eqb}
 
 -- ## Physical lines
+
+-- l without its last byte, where the test holds
+unfoldable pub withoutLastIf : Bool → List ℕ → List ℕ
+withoutLastIf true l = withoutLast l
+withoutLastIf false l = l
 
 -- a file is its physical lines, each without its line end, and then the bytes behind the last LF
 pub data Physical : Type 0 where
@@ -19,17 +24,18 @@ unfoldable pub add : ℕ → Physical → Physical
 add b (tail l) = tail (b ∷ l)
 add b (line l p) = line (b ∷ l) p
 
--- a byte before a file whose lines are p: an LF ends a line that is empty so far, a CR before an LF is left out, and
--- any other byte stands in the first line. From the back, `a` LF is first LF before nothing, an empty line; then `a`
--- before that, the line `a`
-unfoldable pub byte : Bool → Bool → ℕ → Physical → Physical
-byte true cr b p = line [] p
-byte false true b p = p
-byte false false b p = add b p
+-- an LF ends a line; behind the last one is the tail
+unfoldable pub splitAtLF : List ℕ → Physical
+splitAtLF [] = tail []
+splitAtLF (b ∷ f) = choose (eqb b 0x0a) (line [] (splitAtLF f)) (add b (splitAtLF f))
+
+-- "LF, or CR LF": a CR right before the LF is of the line end, and not of the line
+unfoldable pub withoutCR : Physical → Physical
+withoutCR (tail l) = tail l
+withoutCR (line l p) = line (withoutLastIf (ends 0x0d l) l) (withoutCR p)
 
 unfoldable pub physical : List ℕ → Physical
-physical [] = tail []
-physical (b ∷ f) = byte (eqb b 0x0a) (eqb b 0x0d && begins 0x0a f) b (physical f)
+physical f = withoutCR (splitAtLF f)
 
 -- no byte and no line left
 unfoldable pub none : Physical → Bool
@@ -52,15 +58,10 @@ put false p (lines ls) = lines (p ∷ ls)
 put true p (lines []) = lines (p ∷ [])
 put true p (lines (l ∷ ls)) = lines ((p ++ l) ∷ ls)
 
--- what is left of a physical line: without CONT and the space where it continues one, and without the mark where one
--- continues it
+-- what is left of a physical line: without CONT and the space where it continues one
 unfoldable pub dropIf : Bool → ℕ → List ℕ → List ℕ
 dropIf true k l = drop k l
 dropIf false k l = l
-
-unfoldable pub withoutLastIf : Bool → List ℕ → List ℕ
-withoutLastIf true l = withoutLast l
-withoutLastIf false l = l
 
 unfoldable pub next : Bool → ℕ → ℕ
 next true n = n

@@ -13,6 +13,7 @@ use borrow.Author.Tests.{lt-ltb, le-ltb}
 use Rattle.meaning.specs.Unfold.{refuse, Unfolded, lines, fault, physical, put, next, unfoldLines}
 use Rattle.meaning.specs.Unfold.{unfoldedText}
 use Rattle.meaning.specs.Answer.{accepted, TextResult, filled, textRefused, textUnfolded}
+use Rattle.meaning.proofs.Unfolding.Physical.{phys-nil}
 use Rattle.unfold.specs.LinePart.{Parted}
 use Rattle.unfold.specs.Turn.{Flat, good, bad, closing, flat, prepend, overfull}
 
@@ -115,5 +116,5 @@ module _ (r : ℕ) (whole rest : Unfolded) (w : List ℕ) (o : Bool) (inv : flat
   result-done e g h = rw (result-flat, inv, e, g, append-nil, le-ltb r (length w) h)
 
 pub nothing-left : (m n : ℕ) (o : Bool) (f : List ℕ) → f ≡ [] → o ≡ false → unfoldLines m n o (physical f) ≡ lines []
-unfolding unfoldLines physical
-nothing-left m n o f e g = rw (e, g)
+unfolding unfoldLines
+nothing-left m n o f e g = rw (e, g, phys-nil)

@@ -9,29 +9,23 @@ use lib.ListN.{length, take, drop, length-take, length-drop}
 use lib.Seq.{take-take}
 use lib.Dec.{eqb}
 use borrow.Author.Tests.{eq-eqb, ne-eqb, not-false}
-use Rattle.meaning.specs.Unfold.{permitted, every, ends, cont, prefix, Physical, tail, physical, none, put, refuse, dropIf, withoutLastIf, next, unfoldLines}
-use Rattle.meaning.proofs.Unfolding.Cuts.{Spelled, s-tail, s-line, spelled, both}
+use Rattle.meaning.specs.Unfold.{permitted, every, ends, cont, prefix, tail, physical, none, put, refuse, dropIf, withoutLastIf, next, unfoldLines}
+use Rattle.meaning.proofs.Unfolding.Physical.{phys-nil, some-left}
+use Rattle.meaning.proofs.Unfolding.Cuts.{both}
 use Rattle.base.proofs.Fill.{to-end}
 use Rattle.unfold.specs.First.{Shortened, LineOf}
 use Rattle.unfold.specs.LinePart.{skip, Parted, Refused}
 
 -- ## The tests
 
-s-none : {p : Physical} {f : List ℕ} → Spelled p f → none p ≡ true → length f ≡ 0
-unfolding none
-s-none (s-tail {l = []}) h = refl
-s-none (s-tail {l = b ∷ l}) h = absurd (false≢true h)
-s-none (s-line l e s) h = absurd (false≢true h)
-
 -- a file has no line left where it has no byte left
 none-drop : (f : List ℕ) (k : ℕ) → k ≤ length f → none (physical (drop k f)) ≡ eqb k (length f)
-unfolding none physical
-none-drop f k h = go (drop k f) (length-drop k f) (none (physical (drop k f))) refl
+unfolding none
+none-drop f k h = go (drop k f) (length-drop k f)
   where
-    go : (r : List ℕ) → length r ≡ length f - k → (x : Bool) → none (physical r) ≡ x → none (physical r) ≡ eqb k (length f)
-    go [] e x g = sym (eq-eqb k (length f) (omega arith))
-    go (b ∷ r) e true g = absurd (omega (arith, s-none (spelled (b ∷ r)) g))
-    go (b ∷ r) e false g = g ∙ sym (ne-eqb k (length f) (λ q. omega arith))
+    go : (r : List ℕ) → length r ≡ length f - k → none (physical r) ≡ eqb k (length f)
+    go [] e = rw phys-nil (sym (eq-eqb k (length f) (omega arith)))
+    go (b ∷ r) e = some-left b r ∙ sym (ne-eqb k (length f) (λ q. omega arith))
 
 prefix-length : (k l : List ℕ) → prefix k l ≡ true → length k ≤ length l
 unfolding prefix
@@ -59,8 +53,8 @@ part-in (suc s) t (suc k) (b ∷ l) h = part-in s t k l (omega arith)
 -- ## Where nothing is judged
 
 pub no-more : (m : ℕ) (o : Bool) (f : List ℕ) → f ≡ [] → o ≡ true → Refused m o f 3
-unfolding unfoldLines physical
-no-more m o f e g = record { least = omega arith; greatest = omega arith; is = λ n. rw (e, g) }
+unfolding unfoldLines
+no-more m o f e g = record { least = omega arith; greatest = omega arith; is = λ n. rw (e, g, phys-nil) }
 
 pub not-ended : (m : ℕ) (o : Bool) (f : List ℕ) → 0 < length f → physical f ≡ tail f → Refused m o f 3
 unfolding unfoldLines

@@ -39,6 +39,15 @@ module _ (kind : ℕ → Bool) where
       go true e h = rw (leading-first b l e, e) h
       go false e h = rw (leading-other b l e)
 
+  -- the byte behind them is of another kind
+  pub leading-behind : (l : List ℕ) → leading kind l < length l → kind (getD l (leading kind l) 0) ≡ false
+  leading-behind [] h = absurd (omega arith)
+  leading-behind (b ∷ l) h = go (kind b) refl (λ k. leading-behind l k)
+    where
+      go : (x : Bool) → kind b ≡ x → (leading kind l < length l → kind (getD l (leading kind l) 0) ≡ false) → kind (getD (b ∷ l) (leading kind (b ∷ l)) 0) ≡ false
+      go true e ih = rw (leading-first b l e) (ih (omega (arith, leading-first b l e)))
+      go false e ih = rw (leading-other b l e) e
+
   -- a run of bytes of the kind before what does not begin with one
   pub leading-append : (l r : List ℕ) → every kind l ≡ true → leading kind r ≡ 0 → leading kind (l ++ r) ≡ length l
   unfolding every

@@ -7,15 +7,16 @@ use mathlib.Core.Path.{_≡_, refl, sym, ap, _∙_}
 use mathlib.Core.Bool.{Bool, true, false, and-false}
 use mathlib.Core.List.{List, [], _∷_, _++_}
 use lib.ListN.{length, getD, take, drop, length-take, length-drop, length-append, take-append-drop}
-use lib.Seq.{take-length, take-take, drop-drop, drop-append-seam}
+use lib.Seq.{take-all, take-length, split-at, take-take, drop-drop, drop-append-seam}
 use lib.Dec.{eqb}
-use borrow.Author.Tests.{eq-eqb, ne-eqb, eqb-true}
-use Rattle.meaning.specs.Bytes.{choose}
-use Rattle.meaning.specs.Unfold.{permitted, every, begins, ends, withoutLast, Physical, tail, line, add, byte, physical, withoutLastIf}
+use borrow.Author.Tests.{eq-eqb, ne-eqb, eqb-true, not-false}
+use Rattle.meaning.specs.Bytes.{choose, begins}
+use Rattle.meaning.specs.Unfold.{permitted, every, ends, withoutLast, Physical, tail, line, physical, withoutLastIf}
 use Rattle.meaning.specs.Cut.{End, lf, crlf}
+use Rattle.meaning.proofs.Unfolding.Physical.{phys-lf, phys-tail}
 use Rattle.meaning.proofs.Unfolding.Cuts.{Spelled, s-tail, s-line, spelled, phys-line}
 use Rattle.unfold.specs.First.{leading, noLf, endLen, Shortened, LineOf}
-use Rattle.unfold.proofs.Leading.{leading-within, leading-every, leading-append}
+use Rattle.unfold.proofs.Leading.{leading-within, leading-every, leading-behind, leading-append}
 
 -- ## Without the last byte
 
@@ -115,61 +116,16 @@ line-permitted f n k e g h =
 
 -- ## The line by its LF
 
-withoutLastIf-cons : (x : Bool) (b c : ℕ) (l : List ℕ) → b ∷ withoutLastIf x (c ∷ l) ≡ withoutLastIf x (b ∷ (c ∷ l))
-unfolding withoutLastIf withoutLast
-withoutLastIf-cons true b c l = refl
-withoutLastIf-cons false b c l = refl
-
--- a byte that is no LF, before one that is none
-phys-add : (b c : ℕ) (l : List ℕ) → eqb b 0x0a ≡ false → eqb c 0x0a ≡ false → physical (b ∷ (c ∷ l)) ≡ add b (physical (c ∷ l))
-unfolding physical byte begins
-phys-add b c l e g = rw (e, g, and-false (eqb b 0x0d))
-
--- the length by the first byte
-len-lf : (b : ℕ) (l : List ℕ) → eqb b 0x0a ≡ true → leading noLf (b ∷ l) ≡ 0
-unfolding leading choose
-len-lf b l e = rw e
-
-len-other : (b : ℕ) (l : List ℕ) → eqb b 0x0a ≡ false → leading noLf (b ∷ l) ≡ suc (leading noLf l)
-unfolding leading choose
-len-other b l e = rw e
-
-other : (b : ℕ) (l : List ℕ) → 0 < leading noLf (b ∷ l) → (eqb b 0x0a ≡ false) × (leading noLf (b ∷ l) ≡ suc (leading noLf l))
-other b l h = go (eqb b 0x0a) refl
-  where
-    go : (x : Bool) → eqb b 0x0a ≡ x → (eqb b 0x0a ≡ false) × (leading noLf (b ∷ l) ≡ suc (leading noLf l))
-    go true e = absurd (omega (arith, len-lf b l e))
-    go false e = (e, len-other b l e)
-
 pub no-line : (l : List ℕ) → length l ≤ leading noLf l → physical l ≡ tail l
-unfolding physical byte begins add
-no-line [] h = refl
-no-line (b ∷ []) h = rw (other b [] h .0, and-false (eqb b 0x0d))
-no-line (b ∷ (c ∷ l)) h =
-    let hb = other b (c ∷ l) (omega arith) in
-    let hc = other c l (omega arith) in
-    phys-add b c l (hb .0) (hc .0) ∙ ap (add b) (no-line (c ∷ l) (omega arith))
+no-line l h = phys-tail l (rw (take-all (leading noLf l) l h) at (leading-every noLf l))
 
 first-line : (l : List ℕ) → leading noLf l < length l →
     physical l ≡ line (withoutLastIf (ends 0x0d (take (leading noLf l) l)) (take (leading noLf l) l)) (physical (drop (suc (leading noLf l)) l))
-unfolding physical byte begins add ends withoutLastIf withoutLast leading choose
-first-line [] h = absurd (omega arith)
-first-line (b ∷ []) h = go (eqb b 0x0a) refl
-  where
-    go : (x : Bool) → eqb b 0x0a ≡ x → physical (b ∷ []) ≡ line (withoutLastIf (ends 0x0d (take (leading noLf (b ∷ [])) (b ∷ []))) (take (leading noLf (b ∷ [])) (b ∷ []))) (physical (drop (suc (leading noLf (b ∷ []))) (b ∷ [])))
-    go true e = rw e
-    go false e = absurd (omega (arith, len-other b [] e))
-first-line (b ∷ (c ∷ l)) h = go (eqb b 0x0a) (eqb b 0x0d) (eqb c 0x0a) refl refl refl (λ k. first-line (c ∷ l) k)
-  where
-    Goal : List ℕ → Type 0
-    Goal f = physical f ≡ line (withoutLastIf (ends 0x0d (take (leading noLf f) f)) (take (leading noLf f) f)) (physical (drop (suc (leading noLf f)) f))
-
-    go : (x y z : Bool) → eqb b 0x0a ≡ x → eqb b 0x0d ≡ y → eqb c 0x0a ≡ z → (leading noLf (c ∷ l) < length (c ∷ l) → Goal (c ∷ l)) → Goal (b ∷ (c ∷ l))
-    go true y z ex ey ez ih = rw ex
-    go false true true ex ey ez ih = simp (ex, ey, ez)
-    go false false true ex ey ez ih = simp (ex, ey, ez)
-    go false y false ex ey ez ih =
-        phys-add b c l ex ez ∙ ap (add b) (ih (omega (arith, len-other b (c ∷ l) ex))) ∙ simp (ex, ez, withoutLastIf-cons)
+first-line l h =
+    let n : ℕ = leading noLf l in
+    let ends-here : getD l n 0 ≡ 0x0a = eqb-true _ _ (not-false _ (leading-behind noLf l h)) in
+    let whole : l ≡ take n l ++ (0x0a ∷ drop (suc n) l) = split-at l n 0 h ∙ ap (λ (b : ℕ). take n l ++ (b ∷ drop (suc n) l)) ends-here in
+    ap physical whole ∙ phys-lf (take n l) (drop (suc n) l) (leading-every noLf l)
 
 line-of : (f : List ℕ) (n len : ℕ) → n ≡ leading noLf f → n < length f → Shortened (ends 0x0d (take n f)) (take n f) len → LineOf f len (n + 1)
 line-of f n len e h s =

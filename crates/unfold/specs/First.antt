@@ -5,8 +5,8 @@ use mathlib.Core.Bool.{Bool, true, false, not, _&&_}
 use mathlib.Core.List.{List, [], _∷_}
 use lib.ListN.{length, take, drop}
 use lib.Dec.{eqb}
-use Rattle.meaning.specs.Bytes.{choose}
-use Rattle.meaning.specs.Unfold.{permitted, every, begins, withoutLastIf, tail, line, physical}
+use Rattle.meaning.specs.Bytes.{choose, begins}
+use Rattle.meaning.specs.Unfold.{permitted, every, withoutLastIf, tail, line, physical}
 use Rattle.unfold.specs.declared.lines.First.{First}
 use Rattle.unfold.specs.declared.lines.First.the-variants.{Nothing, Open, Permitted, NotPermitted}
 

@@ -1,30 +1,40 @@
 -- A file has at most as many logical lines as bytes. Assumes nothing.
 use Prim.Native.Nat.{ℕ, suc, _+_, _≤_}
 use native.Mathlib.Omega.{arith}
-use mathlib.Core.Bool.{Bool, true, false, _&&_}
+use mathlib.Core.Path.{_≡_, refl}
+use mathlib.Core.Bool.{Bool, true, false}
 use mathlib.Core.List.{List, [], _∷_}
 use lib.ListN.{length}
 use lib.Dec.{eqb}
-use Rattle.meaning.specs.Bytes.{begins, ends}
-use Rattle.meaning.specs.Unfold.{Physical, tail, line, add, byte, physical, Unfolded, lines, fault, put, next, unfoldLines, unfoldFile}
-use Rattle.meaning.proofs.Tests.Refuse.{refuse-keeps}
+use Rattle.meaning.specs.Bytes.{ends}
+use Rattle.meaning.specs.Unfold.{Physical, tail, line, add, splitAtLF, withoutCR, physical, Unfolded, lines, fault, put, next, unfoldLines, unfoldFile}
+use Rattle.meaning.proofs.Tests.Refuse.{refuse-keeps, choose-keeps}
 
 -- the count of physical lines that have a line end
 unfoldable count : Physical → ℕ
 count (tail l) = 0
 count (line l p) = suc (count p)
 
-count-byte : (lf cr : Bool) (b : ℕ) (p : Physical) → count (byte lf cr b p) ≤ suc (count p)
-unfolding count byte add
-count-byte true cr b p = omega arith
-count-byte false true b p = omega arith
-count-byte false false b (tail l) = omega arith
-count-byte false false b (line l p) = omega arith
+count-add : (b : ℕ) (p : Physical) → count (add b p) ≡ count p
+unfolding count add
+count-add b (tail l) = refl
+count-add b (line l p) = refl
+
+count-split : (f : List ℕ) → count (splitAtLF f) ≤ length f
+unfolding count splitAtLF
+count-split [] = omega arith
+count-split (b ∷ f) =
+    let h = count-split f in
+    choose-keeps (λ p. count p ≤ suc (length f)) (eqb b 0x0a) (line [] (splitAtLF f)) (add b (splitAtLF f)) (λ _. omega arith) (λ _. omega (arith, count-add b (splitAtLF f)))
+
+count-cr : (p : Physical) → count (withoutCR p) ≡ count p
+unfolding count withoutCR
+count-cr (tail l) = refl
+count-cr (line l p) = rw (count-cr p)
 
 count-bytes : (f : List ℕ) → count (physical f) ≤ length f
-unfolding count physical
-count-bytes [] = omega arith
-count-bytes (b ∷ f) = omega (arith, count-byte (eqb b 0x0a) (eqb b 0x0d && begins 0x0a f) b (physical f), count-bytes f)
+unfolding physical
+count-bytes f = omega (arith, count-cr (splitAtLF f), count-split f)
 
 -- at most n lines, or a fault in a line up to last
 unfoldable pub Bounded : (n last : ℕ) → Unfolded → Type 0

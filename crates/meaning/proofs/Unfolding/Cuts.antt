@@ -3,17 +3,19 @@
 use Prim.Native.Nat.{ℕ, _+_, _≤_}
 use native.Mathlib.Omega.{arith}
 use mathlib.Core.Path.{_≡_, refl, sym, ap, ap₂, _∙_}
-use mathlib.Core.Bool.{Bool, true, false, not, _&&_, false≢true, or-true, and-true, and-false}
+use mathlib.Core.Bool.{Bool, true, false, not, _&&_, false≢true, or-true}
 use mathlib.Core.List.{List, [], _∷_, _++_, append-assoc}
 use lib.ListN.{length, drop, length-append}
 use lib.Dec.{eqb}
-use borrow.Author.Tests.{ne-eqb, eq-eqb, le-leb, eqb-true, not-false}
-use Rattle.meaning.specs.Bytes.{choose, refuse, permitted, every, allPermitted, begins, ends, withoutLast, prefix, cont}
-use Rattle.meaning.specs.Unfold.{physical, lines, Physical, line, tail, byte, add, none, fault, Unfolded, put, dropIf, withoutLastIf, next, unfoldLines, unfoldFile, unfoldedText}
+use borrow.Author.Tests.{ne-eqb, le-leb, eqb-true, not-false}
+use Rattle.meaning.specs.Bytes.{choose, refuse, permitted, every, allPermitted, ends, withoutLast, prefix, cont}
+use Rattle.meaning.specs.Unfold.{physical, lines, Physical, line, tail, none, fault, Unfolded, put, dropIf, withoutLastIf, next, unfoldLines, unfoldFile, unfoldedText}
 use Rattle.meaning.specs.Cut.{End, lf, crlf, last, more, Cut, done, Mark, Permitted}
 use Rattle.meaning.specs.Faults as faults
-use Rattle.meaning.specs.Faults.{lead, WithoutLF, Ended}
+use Rattle.meaning.specs.Faults.{lead, Ended}
 use Rattle.meaning.proofs.Tests.Refuse.{passed}
+use Rattle.meaning.proofs.Values.Digits.{every-append, every-parts, every-kind}
+use Rattle.meaning.proofs.Unfolding.Physical.{ends-snoc, init-snoc, init-split, phys-nil, phys-ended, Lined, l-tail, l-line, lined, some-left}
 pub use Rattle.meaning.proofs.Tests.Refuse.{both}
 
 -- ## A cut's length
@@ -42,24 +44,19 @@ not-cr : (b : ℕ) → permitted b ≡ true → eqb b 0x0d ≡ false
 unfolding permitted
 not-cr b h = ne-eqb b 0x0d (λ e. false≢true (rw e at h))
 
--- a byte that is no LF, and no CR before one
-pub phys-add : (b : ℕ) (f : List ℕ) → eqb b 0x0a ≡ false → (eqb b 0x0d && begins 0x0a f) ≡ false → physical (b ∷ f) ≡ add b (physical f)
-unfolding physical byte
-phys-add b f h k = rw (h, k)
+-- permitted bytes have no LF, and no CR at their end
+last-no-cr : (p : List ℕ) → allPermitted p ≡ true → ends 0x0d p ≡ false
+unfolding every ends
+last-no-cr [] h = refl
+last-no-cr (b ∷ []) h = not-cr b (both _ _ h .0)
+last-no-cr (b ∷ (c ∷ p)) h = last-no-cr (c ∷ p) (both (permitted b) _ h .1)
 
-phys-byte : (b : ℕ) (f : List ℕ) → permitted b ≡ true → physical (b ∷ f) ≡ add b (physical f)
-phys-byte b f h = phys-add b f (not-lf b h) (rw (not-cr b h))
-
-phys-end : {e : List ℕ} (f : List ℕ) → End e → physical (e ++ f) ≡ line [] (physical f)
-unfolding physical byte begins
-phys-end f lf = refl
-phys-end f crlf = refl
+ended : (p : List ℕ) {e : List ℕ} → allPermitted p ≡ true → End e → Ended p (p ++ e)
+ended p h lf = faults.lf (every-kind permitted _ (λ b k. rw (not-lf b k)) p h) (last-no-cr p h)
+ended p h crlf = faults.crlf (every-kind permitted _ (λ b k. rw (not-lf b k)) p h)
 
 pub phys-line : (p : List ℕ) {e : List ℕ} (f : List ℕ) → allPermitted p ≡ true → End e → physical (p ++ (e ++ f)) ≡ line p (physical f)
-unfolding every add
-phys-line [] f h e = phys-end f e
-phys-line (b ∷ p) {e} f h end =
-    phys-byte b (p ++ (e ++ f)) (both _ _ h .0) ∙ ap (add b) (phys-line p f (both (permitted b) _ h .1) end)
+phys-line p {e} f h end = rw (← append-assoc p e f) (phys-ended (ended p h end) f)
 
 -- ## What is unfolded
 
@@ -84,41 +81,9 @@ unfolding choose
 lead-append true q x = refl
 lead-append false q x = refl
 
-ends-snoc : (m : ℕ) (p : List ℕ) → ends m (p ++ m ∷ []) ≡ true
-unfolding ends
-ends-snoc m [] = eq-eqb m m refl
-ends-snoc m (b ∷ []) = eq-eqb m m refl
-ends-snoc m (b ∷ (c ∷ p)) = ends-snoc m (c ∷ p)
-
-init-snoc : (m : ℕ) (p : List ℕ) → withoutLast (p ++ m ∷ []) ≡ p
-unfolding withoutLast
-init-snoc m [] = refl
-init-snoc m (b ∷ []) = refl
-init-snoc m (b ∷ (c ∷ p)) = ap (λ (l : List ℕ). b ∷ l) (init-snoc m (c ∷ p))
-
-permitted-join : (p q : List ℕ) → allPermitted p ≡ true → allPermitted q ≡ true → allPermitted (p ++ q) ≡ true
-unfolding every
-permitted-join [] q h k = k
-permitted-join (b ∷ p) q h k =
-    let r : (permitted b ≡ true) × (allPermitted p ≡ true) = both _ _ h in
-    rw (r .0, permitted-join p q (r .1) k)
-
 pub permitted-snoc : (m : ℕ) (p : List ℕ) → allPermitted p ≡ true → permitted m ≡ true → allPermitted (p ++ m ∷ []) ≡ true
 unfolding every
-permitted-snoc m p h k = permitted-join p (m ∷ []) h (rw k)
-
-pub permitted-append : (p q : List ℕ) → allPermitted (p ++ q) ≡ true → (allPermitted p ≡ true) × (allPermitted q ≡ true)
-unfolding every
-permitted-append [] q h = (refl, h)
-permitted-append (b ∷ p) q h =
-    let c : (permitted b ≡ true) × (allPermitted (p ++ q) ≡ true) = both _ _ h in
-    let r : (allPermitted p ≡ true) × (allPermitted q ≡ true) = permitted-append p q (c .1) in
-    (rw (c .0, r .0), r .1)
-
-none-add : (b : ℕ) (p : Physical) → none (add b p) ≡ false
-unfolding none add
-none-add b (tail l) = refl
-none-add b (line l p) = refl
+permitted-snoc m p h k = every-append permitted p (m ∷ []) h (rw k)
 
 module _ (m : ℕ) (good : Mark m) where
   pub mark-permitted : permitted m ≡ true
@@ -149,25 +114,20 @@ module _ (m : ℕ) (good : Mark m) where
   step-more n true p f e h = simp (ends-snoc m (cont ++ p), e, permitted-snoc m p h mark-permitted, init-snoc)
   step-more n false p f e h = simp (ends-snoc m p, e, permitted-snoc m p h mark-permitted, init-snoc)
 
-  -- what stands behind CONT is no end
-  none-cont : (f : List ℕ) → none (physical (cont ++ f)) ≡ false
-  unfolding none physical byte
-  none-cont f = none-add _ _
-
   pub phys-lead : (o : Bool) (p : List ℕ) {e : List ℕ} (f : List ℕ) → allPermitted p ≡ true → End e → physical (lead o (p ++ (e ++ f))) ≡ line (lead o p) (physical f)
   unfolding every permitted choose
   phys-lead true p f h e = phys-line (cont ++ p) f h e
   phys-lead false p f h e = phys-line p f h e
 
   unfolds : {ls : List (List ℕ)} {f : List ℕ} → Cut m ls f → (n : ℕ) (o : Bool) → Ready o ls → unfoldLines m n o (physical (lead o f)) ≡ lines ls
-  unfolding unfoldLines physical put choose
+  unfolding unfoldLines put choose
   unfolds done n true r = absurd r
-  unfolds done n false r = refl
+  unfolds done n false r = rw phys-nil
   unfolds (last p {f = f} {ls = ls} ok ne e c) n o r =
       rw (phys-lead o p f ok e) (step-last n o p (physical f) ne ok ∙ rw (unfolds c (n + 1) false tt))
   unfolds (more p {e = e} {l = l} {f = f} {ls = ls} ok end c) n o r =
       rw (← (append-assoc p (m ∷ []) (e ++ (cont ++ f))), phys-lead o (p ++ m ∷ []) (cont ++ f) (permitted-snoc m p ok mark-permitted) end)
-      (step-more n o p (physical (cont ++ f)) (none-cont f) ok ∙ rw (unfolds c n true tt))
+      (step-more n o p (physical (cont ++ f)) (some-left _ _) ok ∙ rw (unfolds c n true tt))
 
   -- a cut is unfolded to its lines
   pub cut-unfolds : {ls : List (List ℕ)} {f : List ℕ} → Cut m ls f → unfoldFile m f ≡ lines ls
@@ -179,33 +139,6 @@ module _ (m : ℕ) (good : Mark m) where
 pub data Spelled : Physical → List ℕ → Type 0 where
   s-tail : {l : List ℕ} → Spelled (tail l) l
   s-line : (l : List ℕ) {e f : List ℕ} {p : Physical} → End e → Spelled p f → Spelled (line l p) (l ++ (e ++ f))
-
--- and each line has no LF, and no CR that belongs to its end
-pub data Lined : Physical → List ℕ → Type 0 where
-  l-tail : {l : List ℕ} → WithoutLF l → Lined (tail l) l
-  l-line : {x b f : List ℕ} {p : Physical} → Ended x b → Lined p f → Lined (line x p) (b ++ f)
-
-l-add : (b : ℕ) {p : Physical} {f : List ℕ} → eqb b 0x0a ≡ false → (eqb b 0x0d && begins 0x0a f) ≡ false → Lined p f → Lined (add b p) (b ∷ f)
-unfolding add every ends begins
-l-add b h k (l-tail {l = l} w) = l-tail {l = b ∷ l} (rw (h, w))
-l-add b h k (l-line (faults.lf {x = []} w n) r) = l-line (faults.lf {x = b ∷ []} (rw h) (sym (and-true (eqb b 0x0d)) ∙ k)) r
-l-add b h k (l-line (faults.lf {x = c ∷ x} w n) r) = l-line (faults.lf {x = b ∷ (c ∷ x)} (rw (h, w)) n) r
-l-add b h k (l-line (faults.crlf {x = x} w) r) = l-line (faults.crlf {x = b ∷ x} (rw (h, w))) r
-
-pub lined : (f : List ℕ) → Lined (physical f) f
-unfolding physical byte begins every ends
-lined [] = l-tail refl
-lined (b ∷ []) = go (eqb b 0x0a) refl
-  where
-    go : (x : Bool) → eqb b 0x0a ≡ x → Lined (physical (b ∷ [])) (b ∷ [])
-    go true ex = rw (eqb-true b 0x0a ex) (l-line (faults.lf {x = []} refl refl) (l-tail refl))
-    go false ex = rw (ex, and-false (eqb b 0x0d)) (l-add b ex (and-false (eqb b 0x0d)) (l-tail refl))
-lined (b ∷ (c ∷ f)) = go (eqb b 0x0a) (eqb b 0x0d && eqb c 0x0a) refl refl (lined (c ∷ f)) (lined f)
-  where
-    go : (x y : Bool) → eqb b 0x0a ≡ x → (eqb b 0x0d && eqb c 0x0a) ≡ y → Lined (physical (c ∷ f)) (c ∷ f) → Lined (physical f) f → Lined (physical (b ∷ (c ∷ f))) (b ∷ (c ∷ f))
-    go true y ex ey s t = rw (eqb-true b 0x0a ex) (l-line (faults.lf {x = []} refl refl) s)
-    go false true ex ey s t = let r = both (eqb b 0x0d) (eqb c 0x0a) ey in rw (eqb-true b 0x0d (r .0), eqb-true c 0x0a (r .1)) (l-line (faults.crlf {x = []} refl) t)
-    go false false ex ey s t = rw (ex, ey) (l-add b ex ey s)
 
 s-lined : {p : Physical} {f : List ℕ} → Lined p f → Spelled p f
 s-lined (l-tail w) = s-tail
@@ -225,12 +158,6 @@ prefix-split (a ∷ k) [] h = absurd (false≢true h)
 prefix-split (a ∷ k) (b ∷ l) h =
     let r : (eqb b a ≡ true) × (prefix k l ≡ true) = both _ _ h in
     ap₂ (λ (x : ℕ) (y : List ℕ). x ∷ y) (eqb-true b a (r .0)) (prefix-split k l (r .1))
-
-pub init-split : (m : ℕ) (q : List ℕ) → ends m q ≡ true → q ≡ withoutLast q ++ m ∷ []
-unfolding ends withoutLast
-init-split m [] h = absurd (false≢true h)
-init-split m (b ∷ []) h = ap (λ (x : ℕ). x ∷ []) (eqb-true b m h)
-init-split m (b ∷ (c ∷ q)) h = ap (λ (l : List ℕ). b ∷ l) (init-split m (c ∷ q) h)
 
 -- a line that passed the test for CONT stands behind it
 pub lead-split : (o : Bool) (l : List ℕ) → (o && not (prefix cont l)) ≡ false → l ≡ lead o (dropIf o 5 l)
@@ -270,8 +197,8 @@ module _ (m : ℕ) (good : Mark m) where
       record {
         file = withoutLast q ++ (m ∷ e ++ (cont ++ b .file));
         stands = lead-append o q (e ++ f) ∙ ap (lead o) (ap₂ (λ (x y : List ℕ). x ++ (e ++ y)) split (b .stands) ∙ append-assoc (withoutLast q) (m ∷ []) (e ++ (cont ++ b .file)));
-        cut = more (withoutLast q) (permitted-append (withoutLast q) (m ∷ []) (rw (← split) ok) .0) end (b .cut);
-        fine = (permitted-join (withoutLast q) l (permitted-append (withoutLast q) (m ∷ []) (rw (← split) ok) .0) (b .fine .0), b .fine .1);
+        cut = more (withoutLast q) (every-parts permitted (withoutLast q) (m ∷ []) (rw (← split) ok) .0) end (b .cut);
+        fine = (every-append permitted (withoutLast q) l (every-parts permitted (withoutLast q) (m ∷ []) (rw (← split) ok) .0) (b .fine .0), b .fine .1);
         ready = ready-cons o _ _;
       }
 

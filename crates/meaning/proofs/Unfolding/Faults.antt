@@ -6,17 +6,18 @@ use native.Mathlib.Omega.{arith}
 use mathlib.Core.Path.{_≡_, refl, sym, ap, _∙_, subst}
 use mathlib.Core.Bool.{Bool, true, false, not, _&&_, and-true, and-false, false≢true, true≢false}
 use mathlib.Core.List.{List, [], _∷_, _++_, append-assoc, append-nil}
-use lib.Dec.{eqb}
 use lib.ListN.{length, length-append}
 use borrow.Author.Tests.{not-true, not-false}
-use Rattle.meaning.specs.Bytes.{choose, refuse, every, allPermitted, begins, ends, withoutLast, prefix, cont}
-use Rattle.meaning.specs.Unfold.{Physical, tail, line, add, byte, physical, none, Unfolded, lines, fault, put, dropIf, withoutLastIf, next, unfoldLines, unfoldFile}
+use Rattle.meaning.specs.Bytes.{choose, refuse, permitted, allPermitted, ends, withoutLast, prefix, cont}
+use Rattle.meaning.specs.Unfold.{Physical, physical, none, Unfolded, lines, fault, put, dropIf, withoutLastIf, next, unfoldLines, unfoldFile}
 use Rattle.meaning.specs.Cut as cut
 use Rattle.meaning.specs.Cut.{End, Cut, Mark}
 use Rattle.meaning.specs.Faults as faults
-use Rattle.meaning.specs.Faults.{lead, Begun, WithoutLF, Ended, FirstFault}
+use Rattle.meaning.specs.Faults.{lead, Begun, Ended, FirstFault}
 use Rattle.meaning.proofs.Tests.Refuse.{both, refused-or}
-use Rattle.meaning.proofs.Unfolding.Cuts.{phys-add, Ready, ready-cons, permitted-lead, lead-append, permitted-append, permitted-snoc, mark-permitted, ends-lead, step-last, step-more, phys-lead, Lined, l-tail, l-line, lined, fault-lines, init-split, lead-split}
+use Rattle.meaning.proofs.Values.Digits.{every-parts}
+use Rattle.meaning.proofs.Unfolding.Physical.{init-split, phys-tail, phys-nil, phys-ended, Lined, l-tail, l-line, lined, some-left}
+use Rattle.meaning.proofs.Unfolding.Cuts.{Ready, ready-cons, permitted-lead, lead-append, permitted-snoc, mark-permitted, ends-lead, step-last, step-more, phys-lead, fault-lines, lead-split}
 
 -- ## A line as it stands, with its end
 
@@ -29,40 +30,6 @@ marked-part : (k : Bool) (m : ℕ) (p e : List ℕ) → lead k (p ++ m ∷ []) +
 marked-part k m p e = ap (λ (x : List ℕ). x ++ e) (sym (lead-append k p (m ∷ []))) ∙ append-assoc (lead k p) (m ∷ []) e
 
 -- ## Physical lines
-
--- bytes that stand in the first line
-unfoldable adds : List ℕ → Physical → Physical
-adds [] p = p
-adds (b ∷ x) p = add b (adds x p)
-
-adds-tail : (x : List ℕ) → adds x (tail []) ≡ tail x
-unfolding adds add
-adds-tail [] = refl
-adds-tail (b ∷ x) = rw (adds-tail x)
-
-adds-line : (x : List ℕ) (p : Physical) → adds x (line [] p) ≡ line x p
-unfolding adds add
-adds-line [] p = refl
-adds-line (b ∷ x) p = rw (adds-line x p)
-
--- bytes without LF stand in the first line, where their last is no CR before an LF
-phys-adds : (x y : List ℕ) → WithoutLF x → (ends 0x0d x && begins 0x0a y) ≡ false → physical (x ++ y) ≡ adds x (physical y)
-unfolding adds every ends begins
-phys-adds [] y w h = refl
-phys-adds (b ∷ []) y w h = phys-add b y (not-true (eqb b 0x0a) (both (not (eqb b 0x0a)) _ w .0)) h
-phys-adds (b ∷ (c ∷ x)) y w h =
-    let r = both (not (eqb b 0x0a)) _ w in
-    let q = both (not (eqb c 0x0a)) _ (r .1) in
-    phys-add b (c ∷ (x ++ y)) (not-true (eqb b 0x0a) (r .0)) (rw (not-true (eqb c 0x0a) (q .0)) (and-false (eqb b 0x0d))) ∙ ap (add b) (phys-adds (c ∷ x) y (r .1) h)
-
-phys-tail : (x : List ℕ) → WithoutLF x → physical x ≡ tail x
-unfolding physical begins
-phys-tail x w = ap physical (sym (append-nil x)) ∙ phys-adds x [] w (and-false (ends 0x0d x)) ∙ adds-tail x
-
-phys-ended : {x b : List ℕ} → Ended x b → (f : List ℕ) → physical (b ++ f) ≡ line x (physical f)
-unfolding physical byte begins
-phys-ended (faults.lf {x = x} w n) f = rw (append-assoc x (0x0a ∷ []) f) (phys-adds x (0x0a ∷ f) w (rw n) ∙ adds-line x (physical f))
-phys-ended (faults.crlf {x = x} w) f = rw (append-assoc x (0x0d ∷ 0x0a ∷ []) f) (phys-adds x (0x0d ∷ (0x0a ∷ f)) w (and-false (ends 0x0d x)) ∙ adds-line x (physical f))
 
 -- no line is left exactly where no byte is
 none-empty : {p : Physical} {f : List ℕ} → Lined p f → none p ≡ true → f ≡ []
@@ -79,13 +46,6 @@ empty-none : {p : Physical} {f : List ℕ} → Lined p f → f ≡ [] → none p
 unfolding none
 empty-none (l-tail w) e = rw e
 empty-none (l-line {b = b} {f = f} n s) e = let z : length (b ++ f) ≡ 0 = ap length e in absurd (omega (arith, length-append b f, ended-some n))
-
-some-left : (b : ℕ) (f : List ℕ) → none (physical (b ∷ f)) ≡ false
-some-left b f = go (none (physical (b ∷ f))) refl
-  where
-    go : (t : Bool) → none (physical (b ∷ f)) ≡ t → none (physical (b ∷ f)) ≡ false
-    go true h = let z : suc (length f) ≡ 0 = ap length (none-empty (lined (b ∷ f)) h) in absurd (omega arith)
-    go false h = h
 
 -- a line end behind a line
 record EndOf (x b : List ℕ) : Type 0 where
@@ -172,12 +132,12 @@ module _ (m : ℕ) (good : Mark m) where
   not-last x (b ∷ others) h = rw (some-left b others) (and-false (ends m x))
 
   pub first-fault : {f : List ℕ} {a b : ℕ} → FirstFault m f a b → unfoldFile m f ≡ fault a b
-  unfolding unfoldLines refuse none physical
+  unfolding unfoldLines refuse none
   first-fault (faults.unended f [] g w some) = absurd (omega arith)
   first-fault (faults.unended {n = n} f (c ∷ x) g w some) = let there = phys-tail (c ∷ x) w in passes g (c ∷ x) (rw there) 3 (n + 1) (rw there)
   first-fault (faults.marked {n = n} {x = x} {b = b} f g e h) =
       let there = rw (append-nil b) at (phys-ended e []) in
-      passes g b (rw there) 3 (n + 1) (rw there (rw h))
+      passes g b (rw there) 3 (n + 1) (rw there (rw (h, phys-nil)))
   first-fault (faults.uncontinued {n = n} {x = x} {b = b} f others g e some h) =
       let there = phys-ended e others in
       passes g (b ++ others) (rw there) 5 (n + 1) (rw there (rw (not-last x others some, h)))
@@ -198,7 +158,7 @@ module _ (m : ℕ) (good : Mark m) where
   goes-on {n} {k} {f} false q {e} {r} p a b g end ok ne h all u = rw (← append-assoc f (lead k q ++ e) r) (all (n + 1) false (f ++ (lead k q ++ e)) (faults.last q g ok ne end) refl u)
   goes-on {n} {k} {f} true q {e} {r} p a b g end ok ne h all u =
       let split : q ≡ withoutLast q ++ m ∷ [] = init-split m q ne in
-      let fine = permitted-append (withoutLast q) (m ∷ []) (rw (← split) ok) .0 in
+      let fine = every-parts permitted (withoutLast q) (m ∷ []) (rw (← split) ok) .0 in
       let is : lead k q ++ e ≡ lead k (withoutLast q) ++ (m ∷ e) = ap (λ (x : List ℕ). lead k x ++ e) split ∙ marked-part k m (withoutLast q) e in
       rw (is, ← append-assoc f (lead k (withoutLast q) ++ (m ∷ e)) r) (all n true (f ++ (lead k (withoutLast q) ++ (m ∷ e))) (faults.more (withoutLast q) g fine end) h u)
 

@@ -26,6 +26,19 @@ unfolding every
 every-append k [] t p q = q
 every-append k (b ∷ s) t p q = let r = both (k b) _ p in rw (r .0) (every-append k s t (r .1) q)
 
+pub every-parts : (k : ℕ → Bool) (s t : List ℕ) → every k (s ++ t) ≡ true → (every k s ≡ true) × (every k t ≡ true)
+unfolding every
+every-parts k [] t h = (refl, h)
+every-parts k (b ∷ s) t h =
+    let c : (k b ≡ true) × (every k (s ++ t) ≡ true) = both _ _ h in
+    let r = every-parts k s t (c .1) in
+    (rw (c .0, r .0), r .1)
+
+pub every-kind : (k l : ℕ → Bool) → ((b : ℕ) → k b ≡ true → l b ≡ true) → (s : List ℕ) → every k s ≡ true → every l s ≡ true
+unfolding every
+every-kind k l f [] h = refl
+every-kind k l f (b ∷ s) h = let r = both (k b) _ h in rw (f b (r .0), every-kind k l f s (r .1))
+
 is-digit : (n : ℕ) → n < 10 → digit (0x30 + n) ≡ true
 unfolding digit
 is-digit n h = rw (le-leb 0x30 (0x30 + n) (omega arith), le-leb (0x30 + n) 0x39 (omega arith))

@@ -20,18 +20,13 @@ use Rattle.meaning.specs.Writing.{identificationBytes, typeBytes, fieldB
 use Rattle.meaning.specs.Readback.{isText}
 use Rattle.meaning.proofs.Tests.Unequal.{no-found}
 use Rattle.meaning.proofs.Tests.Refuse.{both, holds, choose-keeps}
-use Rattle.meaning.proofs.Values.Digits.{every-append, every-take, every-drop, last-digits, short-digits}
+use Rattle.meaning.proofs.Values.Digits.{every-append, every-kind, every-take, every-drop, last-digits, short-digits}
 use Rattle.meaning.proofs.Judge.Valid.{RowOk, done, absent, plain, word, name, without, along, noLine, line, ObjectOk, Place, topicsFrom, tablesFrom, objects, Rest, finished, topicOut, topicIn, topicEnd, tableOut, tableIn, object, tableEnd, Valid}
 use Rattle.meaning.proofs.Writing.Rows.{word-bytes, name-bytes}
 use Rattle.meaning.proofs.Model.GoodPairs.{table-name}
 use Rattle.meaning.proofs.Writing.Tables.{linesAt, last-lines, topic-out-lines, topic-in-lines, topic-end-lines, table-out-lines, table-in-lines, object-lines, table-end-lines}
 
 -- ## Kinds of bytes that are permitted
-
-every-kind : (k l : ℕ → Bool) → ((b : ℕ) → k b ≡ true → l b ≡ true) → (s : List ℕ) → every k s ≡ true → every l s ≡ true
-unfolding every
-every-kind k l f [] h = refl
-every-kind k l f (b ∷ s) h = let r = both (k b) _ h in rw (f b (r .0), every-kind k l f s (r .1))
 
 in-range : (b : ℕ) → 0x20 ≤ b → b ≤ 0x7e → permitted b ≡ true
 unfolding permitted
