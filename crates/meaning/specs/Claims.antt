@@ -38,12 +38,17 @@ abbrev pub OneCut : Type 0
 OneCut = (mark : ℕ) → Mark mark → (f : List ℕ) → ((number line : ℕ) → unfoldFile mark f ≡ fault number line → ⊥)
     → OnlyCut mark f
 
--- lines that a file is a cut of are complete behind its physical lines, and the other way round
+-- the lines that a file is a cut of are complete behind its physical lines, and the other way round
 abbrev pub CutIsBegun : Type 0
 CutIsBegun = (mark : ℕ) → Mark mark → (ls : List (List ℕ)) (f : List ℕ) → Cut mark ls f → Begun mark (length ls) false f
 
+-- f is a cut of so many lines, and of no others
+pub record CutOf (mark n : ℕ) (f : List ℕ) : Type 0 where
+  pub lines : OnlyCut mark f
+  pub count : length (lines .of) ≡ n
+
 abbrev pub BegunIsCut : Type 0
-BegunIsCut = (mark : ℕ) → Mark mark → (n : ℕ) (f : List ℕ) → Begun mark n false f → OnlyCut mark f
+BegunIsCut = (mark : ℕ) → Mark mark → (n : ℕ) (f : List ℕ) → Begun mark n false f → CutOf mark n f
 
 -- the fault of unfolding is the first one, and no other
 abbrev pub FaultExactly : Type 0

@@ -24,7 +24,7 @@ cut-unfolds m mark ls f c = cuts.cut-unfolds m mark c
 pub unfolds-cut : UnfoldsCut
 unfolds-cut m mark ls f e = cuts.unfolds-cut m mark ls f e
 
-only-cut : (m : ℕ) → Mark m → (ls : List (List ℕ)) (f : List ℕ) → Cut m ls f → OnlyCut m f
+abbrev only-cut : (m : ℕ) → Mark m → (ls : List (List ℕ)) (f : List ℕ) → Cut m ls f → OnlyCut m f
 only-cut m mark ls f c = record { of = ls; cut = c; only = λ ks d. cuts.cut-unique m mark d c }
 
 pub one-cut : OneCut
@@ -38,7 +38,7 @@ pub cut-is-begun : CutIsBegun
 cut-is-begun m mark ls f c = faults.cut-begun m c
 
 pub begun-is-cut : BegunIsCut
-begun-is-cut m mark n f b = let s = faults.begun-cut m b in only-cut m mark (s .of) f (s .cut)
+begun-is-cut m mark n f b = let s = faults.begun-cut m b in record { lines = only-cut m mark (s .of) f (s .cut); count = s .count }
 
 pub fault-exactly : FaultExactly
 fault-exactly m mark f number line = (faults.fault-first m mark f number line, faults.first-fault m mark)

@@ -86,23 +86,25 @@ module _ (m : ℕ) where
   unfolding choose
   cut-begun {ls} c = rw (zero-add (length ls)) at (begun-on c 0 false [] faults.none tt)
 
-  -- a cut of some lines
-  pub record SomeCut (f : List ℕ) : Type 0 where
+  -- a cut of so many lines
+  pub record SomeCut (n : ℕ) (f : List ℕ) : Type 0 where
     pub of : List (List ℕ)
     pub cut : Cut m of f
+    pub count : length of ≡ n
 
-  cut-on : {n : ℕ} {k : Bool} {f : List ℕ} → Begun m n k f → (ls : List (List ℕ)) (g : List ℕ) → Cut m ls g → Ready k ls → SomeCut (f ++ lead k g)
+  cut-on : {n : ℕ} {k : Bool} {f : List ℕ} → Begun m n k f → (ls : List (List ℕ)) (g : List ℕ) → Cut m ls g → Ready k ls → SomeCut (n + length ls) (f ++ lead k g)
   unfolding choose
-  cut-on faults.none ls g c r = record { of = ls; cut = c }
-  cut-on (faults.last {k = k} {f = f} {e = e} p b ok ne end) ls g c r =
-      rw (between k f p e g) (cut-on b (p ∷ ls) (p ++ (e ++ g)) (cut.last p ok ne end c) (ready-cons k p ls))
+  cut-on faults.none ls g c r = record { of = ls; cut = c; count = omega arith }
+  cut-on (faults.last {n = n} {k = k} {f = f} {e = e} p b ok ne end) ls g c r =
+      let one-more : n + 1 + length ls ≡ n + length (p ∷ ls) = omega arith in
+      rw (between k f p e g, one-more) (cut-on b (p ∷ ls) (p ++ (e ++ g)) (cut.last p ok ne end c) (ready-cons k p ls))
   cut-on (faults.more {k = k} {f = f} {e = e} p b ok end) [] g c r = absurd r
   cut-on (faults.more {k = k} {f = f} {e = e} p b ok end) (l ∷ ls) g c r =
       rw (between k f p (m ∷ e) (cont ++ g)) (cut-on b ((p ++ l) ∷ ls) (p ++ (m ∷ e ++ (cont ++ g))) (cut.more p ok end c) (ready-cons k (p ++ l) ls))
 
-  pub begun-cut : {n : ℕ} {f : List ℕ} → Begun m n false f → SomeCut f
+  pub begun-cut : {n : ℕ} {f : List ℕ} → Begun m n false f → SomeCut n f
   unfolding choose
-  begun-cut {f = f} b = rw (append-nil f) at (cut-on b [] [] cut.done tt)
+  begun-cut {n} {f} b = rw (append-nil f, add-zero n) at (cut-on b [] [] cut.done tt)
 
 -- a line as it stands passes the test for CONT
 cont-there : (k : Bool) (p : List ℕ) → (k && not (prefix cont (lead k p))) ≡ false
