@@ -3,3 +3,4 @@ pub mod Cuts
 pub mod Faults
 pub mod Widths
 pub mod TextLeft
+pub mod Texts

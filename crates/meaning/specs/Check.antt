@@ -268,7 +268,7 @@ unfoldable pub inTopicOrder : (least : ℕ) → List Table → Bool
 inTopicOrder least [] = true
 inTopicOrder least (t ∷ others) = leb least (t .topic) && inTopicOrder (t .topic) others
 
--- what is known of every model that the check calls good
+-- what a good model is (`GoodExactly`, ModelClaims)
 pub record GoodModel (m : Model) : Type 0 where
   pub blank : special (m .blank) ≡ true
   pub undefined : special (m .undefined) ≡ true

@@ -1,17 +1,17 @@
 -- What is proved of these definitions, in proofs/Reading/Claims.antt.
-use Prim.Native.Nat.{ℕ, _*_, _-_, _≤_}
+use Prim.Native.Nat.{ℕ, _*_, _-_, _≤_, _<_}
 use mathlib.Core.Path.{_≡_}
 use mathlib.Core.Bool.{false}
 use mathlib.Core.List.{List}
 use mathlib.Core.Logic.{_↔_}
 use lib.IntN.{pos}
 use lib.ListN.{length, drop, replicate}
-use Rattle.meaning.specs.Unfold.{lines, fault, unfoldFile}
+use Rattle.meaning.specs.Unfold.{lines, fault, unfoldFile, unfoldedText}
 use Rattle.meaning.specs.Cut.{Cut, Mark, Permitted}
 use Rattle.meaning.specs.Faults.{Begun, FirstFault}
 use Rattle.meaning.specs.Model.{Model}
 use Rattle.meaning.specs.Check.{Checked, good, bad, checkModel}
-use Rattle.meaning.specs.Answer.{accepted, refusal, textUnfolded, unfoldText}
+use Rattle.meaning.specs.Answer.{accepted, refusal, filled, textUnfolded, unfoldText}
 use Rattle.meaning.specs.Reading.{Rooms}
 use Rattle.meaning.specs.Table.{Result, refusedWith, readText, read}
 use Rattle.meaning.specs.Width.{cutLines}
@@ -55,6 +55,37 @@ abbrev pub FaultExactly : Type 0
 FaultExactly = (mark : ℕ) → Mark mark → (f : List ℕ) (number line : ℕ)
     → (unfoldFile mark f ≡ fault number line) ↔ FirstFault mark f number line
 
+-- "under a good model every file without a fault of unfolding is a cut of exactly one list of lines"
+abbrev pub OneCutUnder : Type 0
+OneCutUnder = (model : List ℕ) (m : Model) (f : List ℕ) → checkModel model ≡ good m
+    → ((number line : ℕ) → FirstFault (m .mark) f number line → ⊥) → OnlyCut (m .mark) f
+
+-- ## The unfolding alone: "0, text bytes, 0, 0 or reading's 1, 2, 3 to 6"
+
+-- a cut of lines whose text has room is answered with the text's length, and the room holds the text
+abbrev pub TextUnfolds : Type 0
+TextUnfolds =
+    (model : List ℕ) (m : Model) (ls : List (List ℕ)) (f : List ℕ) (room : ℕ) → checkModel model ≡ good m
+    → length f ≤ 16777216 → Cut (m .mark) ls f → length (unfoldedText ls) ≤ room
+    → unfoldText model f room ≡ record {
+      answer = accepted (length (unfoldedText ls)) 0 0;
+      text = filled 0 room (unfoldedText ls);
+    }
+
+-- the first refusal of an unfolding: its number and its first place number
+pub data FirstOfText (model file : List ℕ) (room : ℕ) : (number first : ℕ) → Type 0 where
+  tooLarge : 16777216 < length file → FirstOfText model file room 1 0
+  badModel : {at : ℕ} → length file ≤ 16777216 → checkModel model ≡ bad at → FirstOfText model file room 2 at
+  faulty : {m : Model} {number line : ℕ} → length file ≤ 16777216 → checkModel model ≡ good m
+      → FirstFault (m .mark) file number line → FirstOfText model file room number line
+  noRoom : {m : Model} {ls : List (List ℕ)} → length file ≤ 16777216 → checkModel model ≡ good m
+      → Cut (m .mark) ls file → room < length (unfoldedText ls) → FirstOfText model file room 6 0
+
+-- an unfolding is refused exactly with the first refusal
+abbrev pub TextRefusedExactly : Type 0
+TextRefusedExactly = (model file : List ℕ) (room number first : ℕ)
+    → (unfoldText model file room .answer ≡ refusal number first 0) ↔ FirstOfText model file room number first
+
 -- ## Demand 3
 
 -- a cut within the size limit is read as its lines: the answer and every buffer are those that reading defines for the
@@ -82,8 +113,7 @@ abbrev pub CutUnder : Checked → List (List ℕ) → List ℕ → Type 0
 CutUnder (good m) ls f = Cut (m .mark) ls f
 CutUnder (bad at) ls f = Unit {0}
 
--- "Two cuts of the same logical lines of permitted bytes into physical lines get the same answer and the same content
--- of every result buffer"
+-- two cuts of the same logical lines get "the same number, place, counts and contents of every result buffer"
 abbrev pub CutsReadAlike : Type 0
 CutsReadAlike =
     (model : List ℕ) (ls : List (List ℕ)) (f g : List ℕ) (rooms : Rooms) → length f ≤ 16777216 → length g ≤ 16777216

@@ -26,7 +26,8 @@ pub data Begun (mark : ℕ) : (complete : ℕ) (continues : Bool) → List ℕ �
 abbrev pub WithoutLF : List ℕ → Type 0
 WithoutLF x = every (λ b. not (eqb b 0x0a)) x ≡ true
 
--- these bytes are the physical line x and its line end: "LF, or CR LF"
+-- these bytes are the physical line x and its line end: "A physical line ends in LF; one CR directly before it belongs
+-- to the end"
 pub data Ended : (x bytes : List ℕ) → Type 0 where
   lf : {x : List ℕ} → WithoutLF x → ends 0x0d x ≡ false → Ended x (x ++ (0x0a ∷ []))
   crlf : {x : List ℕ} → WithoutLF x → Ended x (x ++ (0x0d ∷ 0x0a ∷ []))

@@ -26,7 +26,7 @@ u64Bytes n = n % 256 ∷ n / 256 % 256 ∷ n / 256 ^ 2 % 256 ∷ n / 256 ^ 3 % 2
 
 -- ## Sizes
 
--- "u16 longest length", "u16 count of leaves"
+-- "u16 longest length", "u16 count of leaves"; a reference's table is bounded by the count of tables (`GoodModel`)
 unfoldable pub isU16 : AttributeType → Bool
 isU16 (Reference t) = true
 isU16 (Coordinate cs) = true

@@ -1,6 +1,6 @@
 -- What is proved of the check of a model: which bytes it calls good, and which record it calls the first bad one.
 -- Proved in proofs/Model/ModelClaims.antt.
-use Prim.Native.Nat.{ℕ, _-_, _≤_, _<_}
+use Prim.Native.Nat.{ℕ, _≤_, _<_}
 use mathlib.Core.Path.{_≡_}
 use mathlib.Core.Bool.{true, false}
 use mathlib.Core.List.{List, [], _∷_, _++_}
@@ -86,7 +86,9 @@ pub data FirstOutsideOf (ts : List Table) : List Table → (at : ℕ) → Type 0
 
 -- "The first bad record is the first that overruns the model, has a kind not allowed there, or breaks a rule; a missing
 -- record is at the model's end, bytes behind the end record are at the first of them. References are judged last, in
--- order. A model too long is bad at 0." The bytes b, whose first bad record is at this byte: behind f, which is fine
+-- order. A model too long is bad at 0." The bytes b, whose first bad record is at this byte: behind f, which is fine.
+-- What may follow and which rules a record keeps are the check's own (`follows`, `keeps`, `see`); where the record stands
+-- is said here, and Models has a row for each rule
 pub data FirstBad (b : List ℕ) : (at : ℕ) → Type 0 where
   tooLong : 65536 < length b → FirstBad b 0
   missing : {last : ℕ} {seen : Seen} → length b ≤ 65536 → Kept b last seen → (last ≡ 6 → ⊥) → FirstBad b (length b)

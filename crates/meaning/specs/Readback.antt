@@ -84,7 +84,7 @@ sameCells [] (b ∷ k) = false
 sameCells (a ∷ l) [] = false
 sameCells (a ∷ l) (b ∷ k) = allOf (not (ltZ a b) ∷ not (ltZ b a) ∷ sameCells l k ∷ [])
 
--- what lies outside the text is the same as nothing
+-- what lies outside the text equals nothing, not even itself
 unfoldable pub sameShown : Shown → Shown → Bool
 sameShown (ofCells a b) (ofCells a′ b′) = sameCells (a ∷ b ∷ []) (a′ ∷ b′ ∷ [])
 sameShown (ofCells a b) (ofBytes s) = false

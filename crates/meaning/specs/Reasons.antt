@@ -1,6 +1,8 @@
 -- Why a line is refused (01, "Lines and fields" and "Refusal numbers"): where a file has come to, which lines may
 -- follow there, and for a line that may not its number and field, one rule for each row of 01's table. In the words of
--- `Right` and of the grammar of values (`Shapes`); it names no step and no state of reading.
+-- `Right` and of the grammar of values (`Shapes`); it names no step of reading, and of its states only how far the lines
+-- of a line attribute have come. A point that may follow is said by `PointLine` of `Right`, a wrong one by `Shapes`:
+-- `NumberExactly` (ValueClaims) says that both mean the same numbers.
 -- Short names: m the model, u the undefined byte, p a topic's number, t a table's, l a line, f a field, i an
 -- identification's field, fs fields, ps the pairs that are left, cs components.
 use Prim.Native.Nat.{ℕ, _+_, _*_, _≤_, _<_}
@@ -17,7 +19,7 @@ use Rattle.meaning.specs.Value.{isIdentification, isUndefined, isUndefin
 use Rattle.meaning.specs.Row.{Pair, OfAttribute, OfComponent, OfLine, pairsOf}
 use Rattle.meaning.specs.Reading.{LineState, unstarted, started, inArc, reached, Rooms, sameName}
 use Rattle.meaning.specs.Shapes.{WrongShape, OutsideDomain, RightValue}
-use Rattle.meaning.specs.Right.{Line, Coded, Alone, Defined, Identification, Values, PointLine, HasStraights}
+use Rattle.meaning.specs.Right.{Line, Coded, Alone, Defined, Identification, PointLine, HasStraights}
 use Rattle.meaning.specs.Right.{HasArcs, AllOptional}
 
 -- ## Where a file has come to
@@ -112,7 +114,7 @@ MayBeUndefined before (OfLine o forms cs) = Unit {0}
 abbrev pub MayBeDefined : (before : Bool) → Pair → Type 0
 MayBeDefined before (OfAttribute o type) = Unit {0}
 MayBeDefined before (OfComponent c) = before ≡ true
-MayBeDefined before (OfLine o forms cs) = Unit {0}
+MayBeDefined before (OfLine o forms cs) = ⊥
 
 -- a pair has a field on the OBJE line, of this type; a line attribute has none
 pub data FieldType : Pair → AttributeType → Type 0 where

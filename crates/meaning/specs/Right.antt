@@ -327,8 +327,8 @@ numberCell (found n) = pos n
 numberCell missing = pos 0
 
 -- "Undefined is 0 0. Number, date, enumeration: 1 and the value. Text: 1 plus length, start. Reference: 1 and the
--- number of the object.
--- Line: 1 plus its count of points, its first point", where k points stand before
+-- number of the object, from 0 in file order. Line: 1 plus its count of points, its first point", where k points stand
+-- before
 unfoldable pub entryCells : List Object → (k : ℕ) → List Entry → List ℤ
 entryCells os k [] = []
 entryCells os k (Undefined ∷ es) = pos 0 ∷ pos 0 ∷ entryCells os k es

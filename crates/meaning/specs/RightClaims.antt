@@ -61,7 +61,7 @@ pub record RightFile (m : Model) (file : List ℕ) (rooms : Rooms) : Type 0 wher
   pub cut : Cut (m .mark) of file
   pub within : RightWithin m of rooms
 
--- "With enough room, a file within the size limit under a good model is accepted exactly when its structure, values,
+-- "With enough room, a file within the size limit and under a good model is accepted exactly when its structure, values,
 -- identifications and references are right"
 abbrev pub AcceptedExactlyWhenRight : Type 0
 AcceptedExactlyWhenRight =
@@ -125,11 +125,11 @@ pub data FirstOfObjects (m : Model) (all : List Delivered) : (n : ℕ) → List 
 abbrev pub Short : List ℕ → Type 0
 Short file = length file ≤ 16777216
 
--- the file is not too long, the model is good, and the file is unfolded to these lines
+-- the file is not too long, the model is good (`GoodExactly` says when), and the file is a cut of these lines
 pub record Opened (model file : List ℕ) (m : Model) (ls : List (List ℕ)) : Type 0 where
   pub short : Short file
   pub isGood : checkModel model ≡ good m
-  pub unfolds : unfoldFile (m .mark) file ≡ lines ls
+  pub cut : Cut (m .mark) ls file
 
 -- there is room for text and marks
 pub record HasRoom (m : Model) (ls : List (List ℕ)) (rooms : Rooms) : Type 0 where
@@ -149,6 +149,7 @@ lineBehind before l = record { start = length (unfoldedText before); bytes = l }
 -- the first refusal of a file under a model, with these rooms: its number and its place
 pub data First (model file : List ℕ) (rooms : Rooms) : (number first second : ℕ) → Type 0 where
   tooLarge : 16777216 < length file → First model file rooms 1 0 0
+  -- `BadExactly` says at which byte
   badModel : {at : ℕ} → Short file → checkModel model ≡ bad at → First model file rooms 2 at 0
   badUnfolding : {m : Model} {number line : ℕ} → Short file → checkModel model ≡ good m
       → FirstFault (m .mark) file number line → First model file rooms number line 0

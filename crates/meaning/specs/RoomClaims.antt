@@ -33,9 +33,10 @@ isPlaceOf number first second =
     (choose (isOneOf number (7 ∷ 8 ∷ 18 ∷ [])) (leb 1 first && eqb second 1)
     (choose (isOneOf number (9 ∷ 15 ∷ [])) (leb 1 first && eqb second 2)
     (choose (eqb number 10) (leb 1 first && (eqb second 1 || eqb second 2))
-    (choose (isOneOf number (11 ∷ 12 ∷ 13 ∷ 14 ∷ [])) (leb 1 first && leb 1 second)
+    (choose (isOneOf number (11 ∷ 13 ∷ 14 ∷ [])) (leb 1 first && leb 2 second)
+    (choose (eqb number 12) (leb 1 first && leb 1 second)
     (choose (eqb number 17) (leb 3 second)
-    false)))))))
+    false))))))))
 
 -- an answer's refusal is one of these numbers, at such a place; so it is never 0, which says that all went well
 abbrev pub Numbered : List ℕ → Answer → Type 0

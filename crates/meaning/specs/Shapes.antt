@@ -1,5 +1,5 @@
 -- Fields and values by a grammar (01, "Lines and fields"): a second statement beside `Field` and `Value`, of which it
--- names nothing but the record of a field. ValueClaims says that both are the same.
+-- names the record of a field, the bounds (`within`) and the days (`isDay`). ValueClaims says that both are the same.
 use Prim.Native.Nat.{ℕ, suc, _+_, _*_, _-_, _^_, _≤_}
 use mathlib.Core.Path.{_≡_}
 use mathlib.Core.Bool.{true, not}

@@ -24,12 +24,12 @@ unfoldable pub add : ℕ → Physical → Physical
 add b (tail l) = tail (b ∷ l)
 add b (line l p) = line (b ∷ l) p
 
--- an LF ends a line; behind the last one is the tail
+-- "A physical line ends in LF"; behind the last one is the tail
 unfoldable pub splitAtLF : List ℕ → Physical
 splitAtLF [] = tail []
 splitAtLF (b ∷ f) = choose (eqb b 0x0a) (line [] (splitAtLF f)) (add b (splitAtLF f))
 
--- "LF, or CR LF": a CR right before the LF is of the line end, and not of the line
+-- "one CR directly before it belongs to the end"
 unfoldable pub withoutCR : Physical → Physical
 withoutCR (tail l) = tail l
 withoutCR (line l p) = line (withoutLastIf (ends 0x0d l) l) (withoutCR p)

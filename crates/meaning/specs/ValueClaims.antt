@@ -1,6 +1,6 @@
--- What we claim of values and their bytes: each written value reads as itself, is told from every other, and is the
--- shortest.
--- One type for each claim; proofs/Values/ValueClaims.antt proves them.
+-- What is proved of fields, values and their bytes: fields and values are those of the grammar (`Shapes`), and each
+-- written value reads as itself, is told from every other, and is the shortest. Proved in
+-- proofs/Values/ValueClaims.antt.
 use Prim.Native.Nat.{ℕ, _+_, _/_, _%_, _^_, _≤_, _<_}
 use mathlib.Core.Path.{_≡_}
 use mathlib.Core.Bool.{true, not, _&&_, _||_}

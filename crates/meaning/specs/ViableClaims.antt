@@ -1,5 +1,5 @@
--- The place of a refusal by what can be continued: over `Right` alone, without a word of how lines are read. Proved in
--- proofs/Right/ViableClaims.antt.
+-- The line of a refusal by what can be continued: over `Right` alone, without a word of how lines are read. The field is
+-- said by `Reason` alone. Proved in proofs/Right/ViableClaims.antt.
 use Prim.Native.Nat.{ℕ, _+_, _-_, _≤_}
 use mathlib.Core.Path.{_≡_}
 use mathlib.Core.Bool.{true}
@@ -39,7 +39,7 @@ pub record StandsFirst (m : Model) (ls : List (List ℕ)) (line : ℕ) : Type 0 
   pub past : line ≤ length ls + 1
   pub all : RightAside m ls → ⊥
 
--- "7 to 15 and 18: the line": the first such line is the refusal's
+-- the line of a refusal 7 to 15 or 18 is the first such line
 abbrev pub PlaceIsFirst : Type 0
 PlaceIsFirst =
     (model file : List ℕ) (m : Model) (ls : List (List ℕ)) (rooms : Rooms) (number line field : ℕ)

@@ -85,8 +85,8 @@ pub record SameTable (m : Model) (text : List ℕ) (c : Content) (text′ : List
   pub inside : ObjectsInside (shownObjects m text (c .cells) (c .rows))
   pub points : c .points ≡ c′ .points
 
--- the test of tables is equality of their objects, of which nothing lies outside the text: so it goes both ways and on,
--- and holds of a table and itself where nothing does
+-- the test of tables is equality of their objects, of which nothing lies outside the text: so it is symmetric and
+-- transitive, and a table is the same as itself exactly when no stretch lies outside its text
 abbrev pub SameExactly : Type 0
 SameExactly = (m : Model) (text : List ℕ) (c : Content) (text′ : List ℕ) (c′ : Content)
     → (sameTable m text c text′ c′ ≡ true) ↔ SameTable m text c text′ c′
@@ -122,7 +122,7 @@ TooSmallExactly =
     → (write model t width room .answer ≡ refusal 21 0 0)
     ↔ ((NoLines m t → ⊥) × (OutputFits room (fileOf m t width) → ⊥))
 
--- 20: "width below 16 or above 65,535", before all but the model
+-- 20: "writing: width not 16 to 65,535", before all but the model
 abbrev pub WidthExactly : Type 0
 WidthExactly =
     (model : List ℕ) (m : Model) (t : Lent) (width room : ℕ) → checkModel model ≡ good m

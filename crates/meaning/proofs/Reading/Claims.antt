@@ -10,10 +10,11 @@ use Rattle.meaning.specs.Cut.{Cut, Mark}
 use Rattle.meaning.specs.Check.{bad, good, Checked, checkModel}
 use Rattle.meaning.specs.Answer.{Answer, textChecked, unfoldText}
 use Rattle.meaning.specs.Table.{read, readUnfolded, readChecked}
-use Rattle.meaning.specs.Claims.{CutUnfolds, UnfoldsCut, OnlyCut, OneCut, CutIsBegun, BegunIsCut, FaultExactly, CutReadsAsLines, CutUnfoldsToText, BadModelReads, CutUnder, CutsReadAlike, RefusalZeroes, BuffersKept, CountsSayWhatIsUsed, UnfoldingRefusalZeroes, UnfoldingKeepsRoom, WidthCuts}
+use Rattle.meaning.specs.Claims.{OneCutUnder, TextUnfolds, TextRefusedExactly, CutUnfolds, UnfoldsCut, OnlyCut, OneCut, CutIsBegun, BegunIsCut, FaultExactly, CutReadsAsLines, CutUnfoldsToText, BadModelReads, CutUnder, CutsReadAlike, RefusalZeroes, BuffersKept, CountsSayWhatIsUsed, UnfoldingRefusalZeroes, UnfoldingKeepsRoom, WidthCuts}
 use Rattle.meaning.proofs.Unfolding.TextLeft as text-left
 use Rattle.meaning.proofs.Unfolding.Cuts as cuts
 use Rattle.meaning.proofs.Unfolding.Faults as faults
+use Rattle.meaning.proofs.Unfolding.Texts as texts
 use Rattle.meaning.proofs.Model.Marks as marks
 use Rattle.meaning.proofs.Unfolding.Widths as widths
 use Rattle.meaning.proofs.Reading.Buffers as buffers
@@ -43,6 +44,9 @@ begun-is-cut m mark n f b = let s = faults.begun-cut m b in record { lines = onl
 pub fault-exactly : FaultExactly
 fault-exactly m mark f number line = (faults.fault-first m mark f number line, faults.first-fault m mark)
 
+pub one-cut-under : OneCutUnder
+one-cut-under model m f e fine = one-cut (m .mark) (marks.good-mark model m e) f (λ number line q. fine number line (faults.fault-first (m .mark) (marks.good-mark model m e) f number line q))
+
 pub cut-reads-as-lines : CutReadsAsLines
 unfolding read refuse readChecked readUnfolded
 cut-reads-as-lines model m ls f rooms e short cut =
@@ -52,6 +56,14 @@ pub cut-unfolds-to-text : CutUnfoldsToText
 unfolding unfoldText refuse textChecked
 cut-unfolds-to-text model m ls f room e short cut =
     rw (le-ltb 16777216 (length f) short, e, cuts.cut-unfolds (m .mark) (marks.good-mark model m e) cut)
+
+-- ## The unfolding alone
+
+pub text-unfolds : TextUnfolds
+text-unfolds model m ls f room e short cut h = cut-unfolds-to-text model m ls f room e short cut ∙ texts.text-fits ls room h
+
+pub text-refused-exactly : TextRefusedExactly
+text-refused-exactly model file room number first = (texts.refused-first model file room number first, texts.first-refuses model file room)
 
 pub bad-model-reads : BadModelReads
 unfolding read refuse readChecked

@@ -120,7 +120,7 @@ module _ (model file : List ℕ) (m : Model) (rooms : Rooms) (number first secon
     where
       by : (x : Bool) → ltb 16777216 (length file) ≡ x → ⊥
       by true q = other 1 0 0 not-1 (order.read-large model file rooms (ltb-true 16777216 (length file) q))
-      by false q = opened-not (record { short = ltb-false 16777216 (length file) q; isGood = e; unfolds = cuts.cut-unfolds (m .mark) (marks.good-mark model m e) cut })
+      by false q = opened-not (record { short = ltb-false 16777216 (length file) q; isGood = e; cut = cut })
 
 pub refused-means-not-right : RefusedMeansNotRight
 refused-means-not-right model file m rooms number first second e h a b c ls ds cut r = not-right model file m rooms number first second e h a b c ls ds cut r

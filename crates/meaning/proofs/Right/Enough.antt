@@ -46,7 +46,7 @@ spends-within m n rooms {used = used} enough short s =
 module _ (model file : List ℕ) (rooms : Rooms) (suffice : (m : Model) → checkModel model ≡ good m → NoLess (roomsFor m (length file)) rooms) where
   -- the lines of a file are no longer than the file
   text-short : {m : Model} {ls : List (List ℕ)} → Opened model file m ls → length (unfoldedText ls) ≤ length file
-  text-short {m} {ls} o = cuts.cut-long (cuts.unfolds-cut (m .mark) (marks.good-mark model m (o .isGood)) ls file (o .unfolds) .0)
+  text-short {m} {ls} o = cuts.cut-long (o .cut)
 
   -- what lines deliver has room
   line-within : {m : Model} {x y : Place} {used : List (List ℕ)} {cells points : ℕ} {g : Gain} (before : List (List ℕ)) (l : List ℕ) (after : List (List ℕ)) → Opened model file m (before ++ (l ∷ after))

@@ -23,6 +23,7 @@ use Rattle.meaning.specs.RightClaims.{First, tooLarge, badModel, badUnfo
 use Rattle.meaning.specs.RightClaims as claims
 use Rattle.meaning.proofs.Tests.Unequal.{not-accepted}
 use Rattle.meaning.proofs.Model.Marks as marks
+use Rattle.meaning.proofs.Unfolding.Cuts as cuts
 use Rattle.meaning.proofs.Model.GoodModels as models
 use Rattle.meaning.proofs.Reading.Claims.{fault-exactly}
 use Rattle.meaning.proofs.Writing.Writable.{read-to-end}
@@ -53,6 +54,10 @@ objects-first m all (claims.FirstOfObjects.later n r) (claims.FirstOfObjects.lat
 
 -- ## The parts of reading
 
+-- a file that is opened is unfolded to its lines
+pub opened-unfolds : (model file : List ℕ) (m : Model) (ls : List (List ℕ)) → Opened model file m ls → unfoldFile (m .mark) file ≡ lines ls
+opened-unfolds model file m ls o = cuts.cut-unfolds (m .mark) (marks.good-mark model m (o .isGood)) (o .cut)
+
 module _ (model file : List ℕ) (rooms : Rooms) where
   pub read-opened : (m : Model) (ls : List (List ℕ)) → Opened model file m ls → HasRoom m ls rooms → (r : Run) → readLines m rooms (unfoldedText ls) (startOf m) ls ≡ r
       → read model file rooms ≡ readRun m rooms (unfoldedText ls) r
@@ -61,7 +66,7 @@ module _ (model file : List ℕ) (rooms : Rooms) where
       rw (
         le-ltb 16777216 (length file) (o .short),
         o .isGood,
-        o .unfolds,
+        opened-unfolds model file m ls o,
         le-ltb (rooms .text) (length (unfoldedText ls)) (room .text),
         le-ltb (rooms .marks) (length (m .topics) + length (m .tables)) (room .marks),
         e,
@@ -70,7 +75,7 @@ module _ (model file : List ℕ) (rooms : Rooms) where
   pub read-crowded : (m : Model) (ls : List (List ℕ)) → Opened model file m ls → (ltb (rooms .text) (length (unfoldedText ls)) || ltb (rooms .marks) (length (m .topics) + length (m .tables))) ≡ true
       → read model file rooms ≡ refusedWith rooms 6 0 0
   unfolding read refuse readChecked readUnfolded readText
-  read-crowded m ls o e = rw (le-ltb 16777216 (length file) (o .short), o .isGood, o .unfolds, e)
+  read-crowded m ls o e = rw (le-ltb 16777216 (length file) (o .short), o .isGood, opened-unfolds model file m ls o, e)
 
   pub read-faulty : (m : Model) (number line : ℕ) → Short file → checkModel model ≡ good m → unfoldFile (m .mark) file ≡ fault number line → read model file rooms ≡ refusedWith rooms number line 0
   unfolding read refuse readChecked readUnfolded
@@ -247,7 +252,7 @@ module _ (model file : List ℕ) (rooms : Rooms) where
       where
         unfolded : (m : Model) → checkModel model ≡ good m → (u : Unfolded) → unfoldFile (m .mark) file ≡ u → Answered
         unfolded m e (fault n line) q = given n line 0 (badUnfolding short e (fault-exactly (m .mark) (marks.good-mark model m e) file n line .0 q))
-        unfolded m e (lines ls) q = room-given m ls (record { short = short; isGood = e; unfolds = q })
+        unfolded m e (lines ls) q = room-given m ls (record { short = short; isGood = e; cut = cuts.unfolds-cut (m .mark) (marks.good-mark model m e) ls file q .0 })
 
         by : (c : Checked) → checkModel model ≡ c → Answered
         by (bad at) e = given 2 at 0 (badModel short e)

@@ -123,27 +123,27 @@ abbrev pub lineNumbers : List ℕ
 lineNumbers = 7 ∷ 8 ∷ 9 ∷ 10 ∷ 11 ∷ 12 ∷ 13 ∷ 14 ∷ 15 ∷ 18 ∷ []
 
 -- a field has one of these, at its own place
-field-fine : {u : ℕ} {before : Bool} {place n k : ℕ} {ps : List Pair} {fs : List Field} (line : ℕ) → 1 ≤ line → 1 ≤ place → FieldReason u before place ps fs n k → Fine lineNumbers n line k
+field-fine : {u : ℕ} {before : Bool} {place n k : ℕ} {ps : List Pair} {fs : List Field} (line : ℕ) → 1 ≤ line → 2 ≤ place → FieldReason u before place ps fs n k → Fine lineNumbers n line k
 unfolding isPlaceOf isOneOf choose
 field-fine line one at (reasons.FieldReason.line r) = field-fine line one at r
-field-fine {place = place} line one at (reasons.FieldReason.missing t) = (refl, rw (le-leb 1 line one, le-leb 1 place at))
-field-fine {place = place} line one at reasons.FieldReason.extra = (refl, rw (le-leb 1 line one, le-leb 1 place at))
-field-fine {place = place} line one at (reasons.FieldReason.undefined h t b) = (refl, rw (le-leb 1 line one, le-leb 1 place at))
-field-fine {place = place} line one at (reasons.FieldReason.mixed h t b) = (refl, rw (le-leb 1 line one, le-leb 1 place at))
-field-fine {place = place} line one at (reasons.FieldReason.covers h t b) = (refl, rw (le-leb 1 line one, le-leb 1 place at))
-field-fine {place = place} line one at (reasons.FieldReason.behindTwice h t b o) = (refl, rw (le-leb 1 line one, le-leb 1 (place + 1) (omega arith)))
-field-fine {place = place} line one at (reasons.FieldReason.shape h b t w) = (refl, rw (le-leb 1 line one, le-leb 1 place at))
-field-fine {place = place} line one at (reasons.FieldReason.domain h b t w) = (refl, rw (le-leb 1 line one, le-leb 1 place at))
+field-fine {place = place} line one at (reasons.FieldReason.missing t) = (refl, rw (le-leb 1 line one, le-leb 2 place at))
+field-fine {place = place} line one at reasons.FieldReason.extra = (refl, rw (le-leb 1 line one, le-leb 2 place at))
+field-fine {place = place} line one at (reasons.FieldReason.undefined h t b) = (refl, rw (le-leb 1 line one, le-leb 1 place (omega arith)))
+field-fine {place = place} line one at (reasons.FieldReason.mixed h t b) = (refl, rw (le-leb 1 line one, le-leb 1 place (omega arith)))
+field-fine {place = place} line one at (reasons.FieldReason.covers h t b) = (refl, rw (le-leb 1 line one, le-leb 1 place (omega arith)))
+field-fine {place = place} line one at (reasons.FieldReason.behindTwice h t b o) = (refl, rw (le-leb 1 line one, le-leb 2 (place + 1) (omega arith)))
+field-fine {place = place} line one at (reasons.FieldReason.shape h b t w) = (refl, rw (le-leb 1 line one, le-leb 2 place at))
+field-fine {place = place} line one at (reasons.FieldReason.domain h b t w) = (refl, rw (le-leb 1 line one, le-leb 2 place at))
 field-fine line one at (reasons.FieldReason.behindDefined h b t v r) = field-fine line one (omega arith) r
 field-fine line one at (reasons.FieldReason.behindUndefined h b t r) = field-fine line one (omega arith) r
 
-point-fine : {u place n k : ℕ} {cs : List Component} {fs : List Field} (line : ℕ) → 1 ≤ line → 1 ≤ place → PointReason u place cs fs n k → Fine lineNumbers n line k
+point-fine : {u place n k : ℕ} {cs : List Component} {fs : List Field} (line : ℕ) → 1 ≤ line → 2 ≤ place → PointReason u place cs fs n k → Fine lineNumbers n line k
 unfolding isPlaceOf isOneOf choose
-point-fine {place = place} line one at reasons.PointReason.missing = (refl, rw (le-leb 1 line one, le-leb 1 place at))
-point-fine {place = place} line one at reasons.PointReason.extra = (refl, rw (le-leb 1 line one, le-leb 1 place at))
-point-fine {place = place} line one at (reasons.PointReason.undefined h) = (refl, rw (le-leb 1 line one, le-leb 1 place at))
-point-fine {place = place} line one at (reasons.PointReason.shape h w) = (refl, rw (le-leb 1 line one, le-leb 1 place at))
-point-fine {place = place} line one at (reasons.PointReason.domain h w) = (refl, rw (le-leb 1 line one, le-leb 1 place at))
+point-fine {place = place} line one at reasons.PointReason.missing = (refl, rw (le-leb 1 line one, le-leb 2 place at))
+point-fine {place = place} line one at reasons.PointReason.extra = (refl, rw (le-leb 1 line one, le-leb 2 place at))
+point-fine {place = place} line one at (reasons.PointReason.undefined h) = (refl, rw (le-leb 1 line one, le-leb 1 place (omega arith)))
+point-fine {place = place} line one at (reasons.PointReason.shape h w) = (refl, rw (le-leb 1 line one, le-leb 2 place at))
+point-fine {place = place} line one at (reasons.PointReason.domain h w) = (refl, rw (le-leb 1 line one, le-leb 2 place at))
 point-fine line one at (reasons.PointReason.behind h v r) = point-fine line one (omega arith) r
 
 pub reason-fine : {m : Model} {used : List (List ℕ)} {x : Place} {l : Line} {n k : ℕ} (line : ℕ) → 1 ≤ line → Reason m used x l n k → Fine lineNumbers n line k

@@ -52,7 +52,7 @@ module _ (m : Model) (ls : List (List ℕ)) (rooms : Rooms) where
 
 -- a file that is opened is read as its lines
 read-text : (model file : List ℕ) (m : Model) (ls : List (List ℕ)) (rooms : Rooms) → Opened model file m ls → read model file rooms ≡ readText m rooms ls
-read-text model file m ls rooms o = cut-reads-as-lines model m ls file rooms (o .isGood) (o .short) (cuts.unfolds-cut (m .mark) (marks.good-mark model m (o .isGood)) ls file (o .unfolds) .0)
+read-text model file m ls rooms o = cut-reads-as-lines model m ls file rooms (o .isGood) (o .short) (o .cut)
 
 pub lines-say-what-is-used : LinesSayWhatIsUsed
 lines-say-what-is-used model file m ls rooms objects cells points o =

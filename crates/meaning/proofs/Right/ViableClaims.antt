@@ -18,6 +18,7 @@ use Rattle.meaning.specs.RightClaims.{First, tooLarge, badModel, badUnfo
 use Rattle.meaning.specs.RoomClaims.{isOneOf}
 use Rattle.meaning.specs.ViableClaims.{RightAside, Viable, Lost, StandsFirst, PlaceIsFirst}
 use Rattle.meaning.proofs.Model.GoodModels as models
+use Rattle.meaning.proofs.Right.First.{opened-unfolds}
 use Rattle.meaning.proofs.Right.Behind.{starts-append}
 use Rattle.meaning.proofs.Right.Complete.{reached-complete}
 use Rattle.meaning.proofs.Right.Lost.{refused-lost, missing-lost}
@@ -81,7 +82,7 @@ module _ (model file : List ℕ) (m : Model) (ls : List (List ℕ)) (o : Opened 
   opened-alike {m′} {ls′} {line} o′ s =
       let models-e : good m′ ≡ good m = sym (o′ .isGood) ∙ o .isGood in
       let model-e : m′ ≡ m = cc in
-      let lines-e : lines ls′ ≡ lines ls = sym (o′ .unfolds) ∙ (rw model-e (o .unfolds)) in
+      let lines-e : lines ls′ ≡ lines ls = sym (opened-unfolds model file _ ls′ o′) ∙ (rw model-e (opened-unfolds model file _ ls o)) in
       let line-e : ls′ ≡ ls = cc in
       subst (λ (n : Model). StandsFirst n ls line) model-e (subst (λ (ks : List (List ℕ)). StandsFirst m′ ks line) line-e s)
 
