@@ -43,9 +43,17 @@ abbrev pub three : String → List ℕ
 three name =
     recordBytes 5 (0 ∷ 3 ∷ (componentBytes 0 0 9 ++ componentBytes 0 0 9 ++ componentBytes 0 0 9 ++ bytesOf name))
 
--- a line of these forms
+-- an enumeration of so many leaves
+abbrev pub leaves : ℕ → String → List ℕ
+leaves count name = recordBytes 5 (0 ∷ 7 ∷ count ∷ 0 ∷ bytesOf name)
+
+-- a line of these forms; one of three components
 abbrev pub line : ℕ → String → List ℕ
 line forms name = recordBytes 5 (0 ∷ 8 ∷ forms ∷ 2 ∷ (componentBytes 0 0 9 ++ componentBytes 0 0 9 ++ bytesOf name))
+
+abbrev pub lineOfThree : String → List ℕ
+lineOfThree name = recordBytes 5
+    (0 ∷ 8 ∷ 3 ∷ 3 ∷ (componentBytes 0 0 9 ++ componentBytes 0 0 9 ++ componentBytes 0 0 9 ++ bytesOf name))
 
 abbrev pub close : List ℕ
 close = recordBytes 6 []
@@ -58,11 +66,7 @@ oneTable attributes = head ++ (topic "N" ++ (table "A" ++ (attributes ++ close))
 abbrev pub nameOf : ℕ → List ℕ
 nameOf n = (0x41 + n / 26) ∷ (0x41 + n % 26) ∷ []
 
--- so many tables of a date, and so many topics of such a table
-unfoldable pub tables : ℕ → List ℕ
-tables zero = []
-tables (suc n) = recordBytes 4 (0 ∷ nameOf n) ++ (date "D" ++ tables n)
-
+-- so many topics of a table of a date, and so many dates
 unfoldable pub topics : ℕ → List ℕ
 topics zero = []
 topics (suc n) = recordBytes 3 (nameOf n) ++ (table "A" ++ (date "D" ++ topics n))
@@ -95,6 +99,11 @@ goodModels =
     -- a reference to a table of the topic, itself or a later one
     ∷ row (head ++ (topic "N" ++ (table "A" ++ (reference 1 "R" ++ (table "B" ++ (reference 1 "R" ++ close))))))
     (accepted 1 0 0)
+    -- an enumeration of one leaf, a line of three components
+    ∷ row (oneTable (leaves 1 "E")) (accepted 1 0 0)
+    ∷ row (oneTable (lineOfThree "L")) (accepted 1 0 0)
+    -- names that differ in a letter's case, and a word of the language
+    ∷ row (oneTable (date "N" ++ (date "n" ++ date "END"))) (accepted 1 0 0)
     -- a name of 24 bytes with all that may stand in one
     ∷ row (oneTable (date "Ab_0123456789012345678_z")) (accepted 1 0 0)
     ∷ row (head ++ (topics 64 ++ close)) (accepted 64 0 0)
@@ -123,11 +132,16 @@ badModels =
     -- "or breaks a rule": names
     ∷ row (head ++ topic "9") (refusal 2 13 0)
     ∷ row (head ++ topic "") (refusal 2 13 0)
+    ∷ row (head ++ topic "_N") (refusal 2 13 0)
+    ∷ row (head ++ topic "N-N") (refusal 2 13 0)
+    ∷ row (head ++ recordBytes 3 (0xc4 ∷ [])) (refusal 2 13 0)
+    ∷ row (head ++ (topic "N" ++ (table "A" ++ (date "D" ++ topic "N")))) (refusal 2 31 0)
     ∷ row (head ++ topic "Abcdefghijklmnopqrstuvwxy") (refusal 2 13 0)
     ∷ row (oneTable (date "D" ++ date "D")) (refusal 2 31 0)
     ∷ row (head ++ (topic "N" ++ (table "A" ++ (date "D" ++ (table "A" ++ (date "D" ++ close)))))) (refusal 2 31 0)
     -- values
     ∷ row (oneTable (text 0 "X")) (refusal 2 24 0)
+    ∷ row (oneTable (leaves 0 "E")) (refusal 2 24 0)
     ∷ row (oneTable (number 10 0 9 "Z")) (refusal 2 24 0)
     ∷ row (oneTable (number 0 6 5 "Z")) (refusal 2 24 0)
     ∷ row (oneTable (number 0 0 (10 ^ 18) "Z")) (refusal 2 24 0)
@@ -151,6 +165,16 @@ badModels =
     ∷ row (oneTable (date "D") ++ replicate 65501 0) (refusal 2 35 0)
     ∷ row (oneTable (date "D") ++ replicate 65502 0) (refusal 2 0 0)
     ∷ []
+
+-- a record and a component in their bytes: length and kind (u16), then the payload; decimals, -500 and 999 (i64 each),
+-- "all little-endian"
+pub each-record :
+    (recordBytes 5 (bytesOf "AB") ∷ componentBytes 2 (2 ^ 64 - 500) 999 ∷ [])
+    ≡ ((2 ∷ 0 ∷ 5 ∷ 0 ∷ 0x41 ∷ 0x42 ∷ [])
+    ∷ (2 ∷ 0x0c ∷ 0xfe ∷ 0xff ∷ 0xff ∷ 0xff ∷ 0xff ∷ 0xff ∷ 0xff ∷ 0xe7 ∷ 0x03 ∷ 0 ∷ 0 ∷ 0 ∷ 0 ∷ 0 ∷ 0 ∷ [])
+    ∷ [])
+unfolding recordBytes u16Bytes u64Bytes
+each-record = refl
 
 -- each of these models is called as these rows say
 pub each-model : checked (goodModels ++ badModels) ≡ asked (goodModels ++ badModels)

@@ -5,13 +5,14 @@ use mathlib.Core.Path.{_≡_, refl}
 use mathlib.Core.Bool.{Bool}
 use mathlib.Core.List.{List, [], _∷_, _++_}
 use lib.IntN.{pos}
-use Rattle.meaning.specs.Bytes.{choose, permitted, separator, textByte, bytesOf, ends}
-use Rattle.meaning.specs.Answer.{Answer, accepted, refusal, numbersOf, codeForC}
+use Rattle.meaning.specs.Bytes.{choose, allOf, permitted, separator, digit, letter, textByte, bytesOf, ends}
+use Rattle.meaning.specs.Check.{special, nameByte}
+use Rattle.meaning.specs.Answer.{Answer, accepted, refusal, numbersOf, TextResult, codeForC, numbersIn}
 use Rattle.meaning.specs.Reading.{Rooms}
 use Rattle.meaning.specs.Writing.{Lent}
 use Rattle.meaning.specs.Width.{goesWhole, cutRest, cutLine}
 use Rattle.meaning.specs.Listing.{listingRooms}
-use Rattle.meaning.specs.Compute.{computeRead, computeWrite}
+use Rattle.meaning.specs.Compute.{computeRead, computeUnfold, computeWrite}
 use Rattle.meaning.specs.ModelBytes.{u16Bytes, u64Bytes, recordBytes}
 use Rattle.meaning.specs.Sample.{componentBytes}
 
@@ -269,6 +270,30 @@ pub each-cut :
 unfolding cutLine cutRest goesWhole choose ends
 each-cut = refl
 
+-- ## The unfolding alone
+
+unfoldable pub unfolds : List ℕ → (room : ℕ) → TextResult
+unfolding computeUnfold smallModel
+unfolds file room = computeUnfold smallModel file room
+
+-- "0, text bytes, 0, 0 or reading's 1, 2, 3 to 6": a text of 5 bytes in just enough room, with two bytes more, in one
+-- byte too few; 3 and not 6 where there is no room at all; 2 before 3
+pub each-unfolding :
+    (unfolds (bytesOf "SC\\\nCONT NT\n") 5
+    ∷ unfolds (bytesOf "SCNT\n") 7
+    ∷ unfolds (bytesOf "SCNT\n") 4
+    ∷ unfolds (bytesOf "SCNT") 0
+    ∷ computeUnfold [] (bytesOf "SCNT") 1
+    ∷ [])
+    ≡ (record { answer = accepted 5 0 0; text = bytesOf "SCNT\n" }
+    ∷ record { answer = accepted 5 0 0; text = bytesOf "SCNT\n" ++ (0 ∷ 0 ∷ []) }
+    ∷ record { answer = refusal 6 0 0; text = 0 ∷ 0 ∷ 0 ∷ 0 ∷ [] }
+    ∷ record { answer = refusal 3 1 0; text = [] }
+    ∷ record { answer = refusal 2 0 0; text = 0 ∷ [] }
+    ∷ [])
+unfolding unfolds computeUnfold
+each-unfolding = refl
+
 -- ## What a host sees
 
 -- "An answer is four numbers", "C gets each as one u64: first number plus 256 times the second"
@@ -277,6 +302,13 @@ pub each-number :
     ≡ ((0 ∷ 1 ∷ 2 ∷ 3 ∷ []) ∷ (14 ∷ 5 ∷ 7 ∷ 0 ∷ []) ∷ [])
 unfolding numbersOf
 each-number = refl
+
+-- "An answer is four numbers": as many as there is room for, and zeros behind
+pub each-room-of-numbers :
+    (numbersIn 2 (refusal 14 5 7) ∷ numbersIn 4 (accepted 1 2 3) ∷ numbersIn 6 (refusal 14 5 7) ∷ [])
+    ≡ ((14 ∷ 5 ∷ []) ∷ (0 ∷ 1 ∷ 2 ∷ 3 ∷ []) ∷ (14 ∷ 5 ∷ 7 ∷ 0 ∷ 0 ∷ 0 ∷ []) ∷ [])
+unfolding numbersIn numbersOf
+each-room-of-numbers = refl
 
 pub each-code :
     (codeForC (accepted 5 7 9) ∷ codeForC (refusal 2 5 7) ∷ []) ≡ (1280 ∷ 1282 ∷ [])
@@ -295,12 +327,18 @@ unfoldable pub numbersFrom : (first count : ℕ) → List ℕ
 numbersFrom first zero = []
 numbersFrom first (suc count) = first ∷ numbersFrom (first + 1) count
 
--- of all bytes: "09, 20 to 7E, A0 to FF hex"; space and tab; "21 to 7E, C0 to FF without D7 and F7"
+-- of all bytes: "09, 20 to 7E, A0 to FF hex"; space and tab; "21 to 7E, C0 to FF without D7 and F7"; of a model's names
+-- letters, digits and _; of its three bytes "21 to 7E hex .. no letter, digit, + - . or /"
 pub each-byte :
-    (ofKind permitted 256 ∷ ofKind separator 256 ∷ ofKind textByte 256 ∷ [])
+    (ofKind permitted 256 ∷ ofKind separator 256 ∷ ofKind textByte 256 ∷ ofKind digit 256 ∷ ofKind letter 256
+    ∷ ofKind nameByte 256 ∷ ofKind special 256 ∷ [])
     ≡ ((9 ∷ (numbersFrom 0x20 95 ++ numbersFrom 0xa0 96))
     ∷ (0x09 ∷ 0x20 ∷ [])
     ∷ (numbersFrom 0x21 94 ++ (numbersFrom 0xc0 23 ++ (numbersFrom 0xd8 31 ++ numbersFrom 0xf8 8)))
+    ∷ numbersFrom 0x30 10
+    ∷ (numbersFrom 0x41 26 ++ numbersFrom 0x61 26)
+    ∷ (numbersFrom 0x30 10 ++ (numbersFrom 0x41 26 ++ (0x5f ∷ numbersFrom 0x61 26)))
+    ∷ (numbersFrom 0x21 10 ++ (0x2c ∷ (numbersFrom 0x3a 7 ++ (numbersFrom 0x5b 6 ++ numbersFrom 0x7b 4))))
     ∷ [])
-unfolding ofKind numbersFrom permitted separator textByte choose
+unfolding ofKind numbersFrom permitted separator textByte digit letter nameByte special allOf choose
 each-byte = refl
