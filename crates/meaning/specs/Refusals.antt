@@ -9,7 +9,7 @@ use Rattle.meaning.specs.Bytes.{choose, permitted, separator, textByte, 
 use Rattle.meaning.specs.Answer.{Answer, accepted, refusal, numbersOf, codeForC}
 use Rattle.meaning.specs.Reading.{Rooms}
 use Rattle.meaning.specs.Writing.{Lent}
-use Rattle.meaning.specs.Width.{goesWhole, cutRest, cutLine}
+use Rattle.meaning.specs.Width.{goesWhole, cutIn, cutLine}
 use Rattle.meaning.specs.Listing.{listingRooms}
 use Rattle.meaning.specs.Compute.{computeRead, computeWrite}
 use Rattle.meaning.specs.Sample.{recordBytes, componentBytes}
@@ -264,7 +264,7 @@ pub each-cut :
     ∷ bytesOf "OBJE a bcdefgh\\\\\nCONT \n"
     ∷ bytesOf "OBJE a bcdefghi\\\nCONT \\\\\nCONT \n"
     ∷ [])
-unfolding cutLine cutRest goesWhole choose ends
+unfolding cutLine cutIn goesWhole choose ends
 each-cut = refl
 
 -- ## What a host sees
