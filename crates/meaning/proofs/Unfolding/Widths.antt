@@ -21,7 +21,7 @@ unfolding goesWhole ends
 cuts-left mark room cuts [] r e h = absurd (false≢true (sym (rw (le-leb 0 room (omega arith)) at e)))
 cuts-left mark room cuts (b ∷ l) r e h = omega (arith, length-drop (room - 1) (b ∷ l))
 
--- what holds of each rest that goes out whole, and of each that is cut where it holds of the rest behind the cut
+-- what holds of each rest that goes out whole, and of each that is cut where it holds of the rest behind the cut, holds of a line
 module _ (mark width : ℕ) (least : 16 ≤ width) (P : (room : ℕ) (l out : List ℕ) → Type 0)
     (whole : (room : ℕ) (l : List ℕ) → goesWhole mark room l ≡ true → P room l (l ++ (0x0a ∷ [])))
     (cut : (room : ℕ) (l out : List ℕ) → 2 ≤ room → goesWhole mark room l ≡ false → P (width - 5) (drop (room - 1) l) out
