@@ -1,4 +1,4 @@
--- A line's cuts by their count and places.
+-- A line's cuts: byte by byte, and by their count and places.
 use Prim.Native.Nat.{ℕ, zero, suc, _+_, _*_, _-_, _≤_, _<_}
 use mathlib.Core.Path.{_≡_}
 use mathlib.Core.Bool.{Bool}
@@ -11,8 +11,8 @@ use Rattle.meaning.specs.Width.{goesWhole}
 abbrev pub cutBytes : (mark : ℕ) → List ℕ
 cutBytes mark = mark ∷ 0x0a ∷ cont
 
--- "Else as many bytes as fit before a mark, then the mark", byte by byte: the rest of a line, of which `left` bytes more
--- stand before the next mark.
+-- "Else as many bytes as fit before a mark, then the mark", byte by byte: the rest of a line, of which `left` bytes
+-- more stand before the next mark.
 -- Behind CONT and a space a line has room for width - 5 bytes: the whole rest, or width - 6 bytes of it and the mark.
 -- The first of these is written together with CONT, so width - 7 are left behind it.
 unfoldable pub cutRest : (mark width left : ℕ) → List ℕ → List ℕ
