@@ -173,6 +173,6 @@ UnfoldingKeepsRoom = (model file : List ℕ) (room : ℕ) → length (unfoldText
 
 -- ## Writing
 
--- the writer's lines, cut to any width, are a cut of them
+-- the writer's lines, cut to a width, are a cut of them
 abbrev pub WidthCuts : Type 0
-WidthCuts = (mark width : ℕ) (ls : List (List ℕ)) → Permitted ls → Cut mark ls (cutLines mark width ls)
+WidthCuts = (mark width : ℕ) (ls : List (List ℕ)) → 16 ≤ width → Permitted ls → Cut mark ls (cutLines mark width ls)

@@ -10,7 +10,7 @@ use Rattle.meaning.specs.Check.{special, nameByte}
 use Rattle.meaning.specs.Answer.{Answer, accepted, refusal, numbersOf, TextResult, codeForC, numbersIn}
 use Rattle.meaning.specs.Reading.{Rooms}
 use Rattle.meaning.specs.Writing.{Lent}
-use Rattle.meaning.specs.Width.{goesWhole, cutRest, cutLine}
+use Rattle.meaning.specs.Width.{goesWhole, cutIn, cutLine}
 use Rattle.meaning.specs.Listing.{listingRooms}
 use Rattle.meaning.specs.Compute.{computeRead, computeUnfold, computeWrite}
 use Rattle.meaning.specs.ModelBytes.{u16Bytes, u64Bytes, recordBytes}
@@ -267,7 +267,7 @@ pub each-cut :
     ∷ bytesOf "OBJE a bcdefgh\\\\\nCONT \n"
     ∷ bytesOf "OBJE a bcdefghi\\\nCONT \\\\\nCONT \n"
     ∷ [])
-unfolding cutLine cutRest goesWhole choose ends
+unfolding cutLine cutIn goesWhole choose ends
 each-cut = refl
 
 -- ## The unfolding alone

@@ -1,9 +1,9 @@
 -- The cut to a width, and the call of writing (01, "Writing" and "Refusal numbers").
-use Prim.Native.Nat.{ℕ, zero, suc, _-_}
+use Prim.Native.Nat.{ℕ, zero, suc, _+_, _-_}
 use mathlib.Core.Bool.{Bool, not, _&&_, _||_}
 use mathlib.Core.List.{List, [], _∷_, _++_}
 use lib.Dec.{leb, ltb}
-use lib.ListN.{length, replicate}
+use lib.ListN.{length, take, drop, replicate}
 use Rattle.meaning.specs.Bytes.{choose, refuse, ends, cont}
 use Rattle.meaning.specs.Check.{Checked, good, bad, checkModel}
 use Rattle.meaning.specs.Answer.{Answer, accepted, refusal, filled}
@@ -16,23 +16,23 @@ use Rattle.meaning.specs.Readback.{isTable}
 unfoldable pub goesWhole : (mark room : ℕ) → List ℕ → Bool
 goesWhole mark room rest = leb (length rest) room && not (ends mark rest)
 
--- "Else as many bytes as fit before a mark, then the mark": the rest of a line, of which `left` bytes more stand before
--- the next mark.
--- Behind CONT and a space a line has room for width - 5 bytes: the whole rest, or width - 6 bytes of it and the mark.
--- The first of these is written together with CONT, so width - 7 are left behind it. At width 16 the 17 bytes `OBJE a
--- bcdefghij` and `k` are cut to
+-- "the rest goes out whole if it fits the width .. and does not end in the mark. Else as many bytes as fit before a
+-- mark, then the mark", and CONT and a space before the next rest: the rest of a line, for which the physical line has
+-- room for so many bytes; behind CONT and a space there is room for 5 less than the width. `cuts` counts the cuts, and
+-- is never used up: each takes a byte at least, and one more may follow the last byte. At width 16 the 18 bytes
+-- `OBJE a bcdefghijk` and a mark are cut to
 --   `OBJE a bcdefghi\`   15 bytes and the mark
---   `CONT jk`            the rest, which fits
-unfoldable pub cutRest : (mark width left : ℕ) → List ℕ → List ℕ
-cutRest mark width left [] = mark ∷ 0x0a ∷ (cont ++ (0x0a ∷ []))
-cutRest mark width (suc left) (b ∷ rest) = b ∷ cutRest mark width left rest
-cutRest mark width zero (b ∷ rest) =
-    let others : List ℕ = cutRest mark width (width - 7) rest in
-    mark ∷ 0x0a ∷ (cont ++ choose (goesWhole mark (width - 5) (b ∷ rest)) ((b ∷ rest) ++ (0x0a ∷ [])) (b ∷ others))
+--   `CONT jk\\`          the rest, which ends in the mark, and the mark
+--   `CONT `              no byte is left
+unfoldable pub cutIn : (cuts mark width room : ℕ) → List ℕ → List ℕ
+cutIn zero mark width room rest = []
+cutIn (suc cuts) mark width room rest =
+    choose (goesWhole mark room rest) (rest ++ (0x0a ∷ []))
+    (take (room - 1) rest ++ (mark ∷ 0x0a ∷ (cont ++ cutIn cuts mark width (width - 5) (drop (room - 1) rest))))
 
 -- "A line is cut only where needed"
 unfoldable pub cutLine : (mark width : ℕ) → List ℕ → List ℕ
-cutLine mark width l = choose (goesWhole mark width l) (l ++ (0x0a ∷ [])) (cutRest mark width (width - 1) l)
+cutLine mark width l = cutIn (length l + 2) mark width width l
 
 unfoldable pub cutLines : (mark width : ℕ) → List (List ℕ) → List ℕ
 cutLines mark width [] = []

@@ -11,11 +11,12 @@ use lib.ListN.{length, take, drop, set, take-append-drop, length-append, length-
 use lib.Seq.{sets, length-sets, take-take, take-all, drop-drop}
 use borrow.Author.Tests.{le-leb, lt-leb, leb-true, leb-false}
 use Rattle.meaning.specs.Bytes.{choose, ends}
-use Rattle.meaning.specs.Width.{goesWhole, cutRest}
+use Rattle.meaning.specs.Width.{goesWhole, cutLine}
 use Rattle.base.proofs.Scan.{and-false}
-use Rattle.write_lines.specs.Cuts.{cutBytes, withCuts, lastRoom}
+use Rattle.write_lines.specs.Cuts.{cutBytes, cutRest, withCuts, lastRoom}
 use Rattle.write_lines.proofs.Runs.{between, length-between, between-drop, between-same, take-sets, drop-run, sets-before}
 use Rattle.meaning.proofs.Lists.{drop-take}
+use Rattle.meaning.proofs.Unfolding.Widths.{by-cuts-of-line}
 
 -- ## Which line goes out whole
 
@@ -59,28 +60,37 @@ room-most false room = omega arith
 
 -- ## What stands behind a cut
 
--- the rest of a line behind a cut
-behindCut : (mark width : ℕ) → List ℕ → List ℕ
-behindCut mark width [] = 0x0a ∷ []
-behindCut mark width (b ∷ rest) = choose (goesWhole mark (width - 5) (b ∷ rest)) ((b ∷ rest) ++ (0x0a ∷ [])) (b ∷ cutRest mark width (width - 7) rest)
+-- a rest for which there is room for so many bytes: whole, or cut byte by byte
+abbrev pub wholeOrCut : (mark width room : ℕ) → List ℕ → List ℕ
+wholeOrCut mark width room l = choose (goesWhole mark room l) (l ++ (0x0a ∷ [])) (cutRest mark width (room - 1) l)
 
-module _ (mark width : ℕ) where
+-- the rest of a line behind a cut
+abbrev behindCut : (mark width : ℕ) → List ℕ → List ℕ
+behindCut mark width l = wholeOrCut mark width (width - 5) l
+
+module _ (mark width : ℕ) (wide : 16 ≤ width) where
   cut-first : (p : ℕ) (l : List ℕ) → cutRest mark width p l ≡ take p l ++ (cutBytes mark ++ behindCut mark width (drop p l))
-  unfolding cutRest behindCut
-  cut-first zero [] = refl
-  cut-first (suc p) [] = refl
-  cut-first zero (b ∷ l) = refl
+  unfolding cutRest choose
+  cut-first zero [] = rw (goes-whole mark (width - 5) [] (omega arith))
+  cut-first (suc p) [] = rw (goes-whole mark (width - 5) [] (omega arith))
+  cut-first zero (b ∷ l) = let z : width - 5 - 1 ≡ suc (width - 7) = omega arith in rw z
   cut-first (suc p) (b ∷ l) = ap (λ (t : List ℕ). b ∷ t) (cut-first p l)
 
   behind-last : (l : List ℕ) → length l ≤ lastRoom mark (width - 5) l → behindCut mark width l ≡ l ++ (0x0a ∷ [])
-  unfolding behindCut choose
-  behind-last [] h = refl
-  behind-last (b ∷ l) h = rw (goes-whole mark (width - 5) (b ∷ l) h)
+  unfolding choose
+  behind-last l h = rw (goes-whole mark (width - 5) l h)
 
-  behind-more : (l : List ℕ) → 7 ≤ width → lastRoom mark (width - 5) l < length l → behindCut mark width l ≡ cutRest mark width (width - 6) l
-  unfolding behindCut choose cutRest
-  behind-more [] w h = absurd (omega arith)
-  behind-more (b ∷ l) w h = let z : width - 6 ≡ suc (width - 7) = omega arith in rw (goes-cut mark (width - 5) (b ∷ l) h, z)
+  behind-more : (l : List ℕ) → lastRoom mark (width - 5) l < length l → behindCut mark width l ≡ cutRest mark width (width - 6) l
+  unfolding choose
+  behind-more l h = let z : width - 5 - 1 ≡ width - 6 = omega arith in rw (goes-cut mark (width - 5) l h, z)
+
+  -- a line cut to a width goes out whole, or it is cut byte by byte
+  pub line-whole-or-cut : (l : List ℕ) → cutLine mark width l ≡ wholeOrCut mark width width l
+  unfolding choose
+  line-whole-or-cut =
+      by-cuts-of-line mark width wide (λ room l out. out ≡ wholeOrCut mark width room l)
+      (λ room l e. rw e)
+      (λ room l out r e others. rw (e, others) (sym (cut-first (room - 1) l)))
 
 -- ## Counting the cuts
 
@@ -89,10 +99,10 @@ pub cutOn : (mark width count last : ℕ) → List ℕ → List ℕ
 cutOn mark width zero last l = []
 cutOn mark width (suc count) last l = withCuts mark (width - 6) count (last - (width - 6)) (take last l) (cutBytes mark ++ behindCut mark width (drop last l))
 
-module _ (mark width : ℕ) (l : List ℕ) (wide : 7 ≤ width) where
+module _ (mark width : ℕ) (l : List ℕ) (wide : 16 ≤ width) where
   pub count-first : cutRest mark width (width - 1) l ≡ cutOn mark width 1 (width - 1) l
   unfolding cutOn withCuts
-  count-first = cut-first mark width (width - 1) l
+  count-first = cut-first mark width wide (width - 1) l
 
   pub count-turn : (count last : ℕ) → 0 < count → last + lastRoom mark (width - 5) l < length l → cutOn mark width count last l ≡ cutOn mark width (count + 1) (last + (width - 6)) l
   unfolding cutOn withCuts
@@ -103,13 +113,13 @@ module _ (mark width : ℕ) (l : List ℕ) (wide : 7 ≤ width) where
       let d : last + step - last ≡ step = omega arith in
       let room = room-drop mark (width - 5) last l (omega arith) in
       let rest : behindCut mark width (drop last l) ≡ take step (drop last l) ++ (cutBytes mark ++ behindCut mark width (drop (last + step) l)) =
-      behind-more mark width (drop last l) wide (omega (arith, room, length-drop last l)) ∙ cut-first mark width step (drop last l) ∙ rw (drop-drop step last l) in
+      behind-more mark width wide (drop last l) (omega (arith, room, length-drop last l)) ∙ cut-first mark width wide step (drop last l) ∙ rw (drop-drop step last l) in
       rw (rest, add-one (suc count), z, take-take last (last + step) l (omega arith), drop-take last (last + step) l, d)
 
   pub count-end : (count last : ℕ) → 0 < count → length l ≤ last + lastRoom mark (width - 5) l → cutOn mark width count last l ≡ withCuts mark (width - 6) count last l (0x0a ∷ [])
   unfolding cutOn withCuts
   count-end zero last h all = absurd (omega arith)
-  count-end (suc count) last h all = rw (behind-last mark width (drop last l) (go (leb (length l) last) refl))
+  count-end (suc count) last h all = rw (behind-last mark width wide (drop last l) (go (leb (length l) last) refl))
     where
       go : (t : Bool) → leb (length l) last ≡ t → length (drop last l) ≤ lastRoom mark (width - 5) (drop last l)
       go true e = omega (arith, leb-true (length l) last e, length-drop last l)

@@ -1,20 +1,20 @@
 -- Lines put into a room and ended, whole or cut. Assumes nothing.
-use Prim.Native.Nat.{ℕ, zero, suc, _+_, _*_, _-_, _<_, _≤_, min}
+use Prim.Native.Nat.{ℕ, _+_, _*_, _-_, _<_, _≤_, min}
 use native.Mathlib.Omega.{arith}
 use mathlib.Core.Path.{_≡_, refl, sym, _∙_}
-use mathlib.Core.Bool.{Bool, true, false}
 use mathlib.Core.List.{List, [], _∷_, _++_, append-assoc}
 use lib.Dec.{eqb}
-use lib.ListN.{length, take, drop, set, length-append}
+use lib.ListN.{length, take, drop, set, length-append, length-take, length-drop}
 use lib.Seq.{sets, sets-eq, take-set-le, take-at}
-use Rattle.meaning.specs.Bytes.{choose, ends, cont}
-use Rattle.meaning.specs.Width.{goesWhole, cutRest, cutLine}
+use Rattle.meaning.specs.Bytes.{choose, ends}
+use Rattle.meaning.specs.Width.{cutLine}
+use Rattle.meaning.proofs.Unfolding.Widths.{by-cuts-of-line}
 use Rattle.write_lines.specs.declared.Put.{Put}
-use Rattle.write_lines.specs.Cuts.{withCuts, lastRoom, CutsCounted}
+use Rattle.write_lines.specs.Cuts.{cutBytes, cutRest, withCuts, lastRoom, CutsCounted}
 use Rattle.write_lines.specs.Puts.{lastIn, Puts}
 use Rattle.write_lines.proofs.Runs.{between, between-same, sets-over, drop-run}
 use Rattle.write_lines.proofs.Puts.{then, last-append}
-use Rattle.write_lines.proofs.Cutting.{goes-whole, goes-cut, room-by, cutRoom, cuts-length, cuts-append}
+use Rattle.write_lines.proofs.Cutting.{goes-whole, goes-cut, line-whole-or-cut, room-by, cutRoom, cuts-length, cuts-append}
 
 -- ## The last byte of a line
 
@@ -29,44 +29,18 @@ last-whole : (d : ℕ) (l : List ℕ) → lastIn d (l ++ (0x0a ∷ [])) ≡ 0x0a
 unfolding lastIn
 last-whole d l = last-append d l (0x0a ∷ [])
 
-module _ (mark width : ℕ) where
-  last-rest : (left d : ℕ) (l : List ℕ) → lastIn d (cutRest mark width left l) ≡ 0x0a
-  unfolding cutRest lastIn choose
-  last-rest left d [] = refl
-  last-rest (suc left) d (b ∷ l) = last-rest left b l
-  last-rest zero d (b ∷ l) = go (goesWhole mark (width - 5) (b ∷ l)) (last-rest (width - 7) b l)
-    where
-      go : (t : Bool) → lastIn b (cutRest mark width (width - 7) l) ≡ 0x0a → lastIn 0x20 (choose t ((b ∷ l) ++ (0x0a ∷ [])) (b ∷ cutRest mark width (width - 7) l)) ≡ 0x0a
-      go true h = last-whole b l
-      go false h = h
-
+module _ (mark width : ℕ) (wide : 16 ≤ width) where
   last-line : (d : ℕ) (l : List ℕ) → lastIn d (cutLine mark width l) ≡ 0x0a
-  unfolding cutLine choose
-  last-line d l = go (goesWhole mark width l)
-    where
-      go : (t : Bool) → lastIn d (choose t (l ++ (0x0a ∷ [])) (cutRest mark width (width - 1) l)) ≡ 0x0a
-      go true = last-whole d l
-      go false = last-rest (width - 1) d l
+  last-line d l =
+      by-cuts-of-line mark width wide (λ room l out. (d : ℕ) → lastIn d out ≡ 0x0a) (λ room l e d. last-whole d l)
+      (λ room l out r e h d. last-append d (take (room - 1) l) (cutBytes mark ++ out) ∙ (last-append _ (cutBytes mark) out ∙ h _)) l d
 
   -- ## A line is longer with its end
 
-  rest-longer : (left : ℕ) (l : List ℕ) → length l < length (cutRest mark width left l)
-  unfolding cutRest choose
-  rest-longer left [] = omega arith
-  rest-longer (suc left) (b ∷ l) = omega (arith, rest-longer left l)
-  rest-longer zero (b ∷ l) = go (goesWhole mark (width - 5) (b ∷ l)) (rest-longer (width - 7) l)
-    where
-      go : (t : Bool) → length l < length (cutRest mark width (width - 7) l) → suc (length l) < length (mark ∷ 0x0a ∷ (cont ++ choose t ((b ∷ l) ++ (0x0a ∷ [])) (b ∷ cutRest mark width (width - 7) l)))
-      go true h = omega (arith, length-append l (0x0a ∷ []))
-      go false h = omega arith
-
   line-longer : (l : List ℕ) → length l < length (cutLine mark width l)
-  unfolding cutLine choose
-  line-longer l = go (goesWhole mark width l)
-    where
-      go : (t : Bool) → length l < length (choose t (l ++ (0x0a ∷ [])) (cutRest mark width (width - 1) l))
-      go true = omega (arith, length-append l (0x0a ∷ []))
-      go false = rest-longer (width - 1) l
+  line-longer =
+      by-cuts-of-line mark width wide (λ room l out. length l < length out) (λ room l e. omega (arith, length-append l (0x0a ∷ [])))
+      (λ room l out r e h. omega (arith, length-append (take (room - 1) l) (cutBytes mark ++ out), length-take (room - 1) l, length-drop (room - 1) l))
 
 -- ## A line put, and then ended
 
@@ -76,21 +50,21 @@ module _ (mark width : ℕ) (line : List ℕ) (before put : Put) (e entry : List
   last-room-of some = room-by mark width line (eqb (put .last) mark) (rw (p .last) (ends-last (before .last) mark line some))
 
   -- its bytes are more than are counted
-  pub ended-above : 4294967295 ≤ put .count → Puts (cutLine mark width line) before e entry (record { count = 4294967295; last = 0x0a })
-  ended-above h = record {
-    count = omega (arith, p .count, line-longer mark width line);
-    last = sym (last-line mark width (before .last) line);
+  pub ended-above : 16 ≤ width → 4294967295 ≤ put .count → Puts (cutLine mark width line) before e entry (record { count = 4294967295; last = 0x0a })
+  ended-above wide h = record {
+    count = omega (arith, p .count, line-longer mark width wide line);
+    last = sym (last-line mark width wide (before .last) line);
     room = p .room;
-    bytes = λ a b. absurd (omega (arith, p .count, line-longer mark width line));
+    bytes = λ a b. absurd (omega (arith, p .count, line-longer mark width wide line));
   }
 
-  pub ended-whole : (exit : List ℕ) (r : Put) → length line ≤ lastRoom mark width line → Puts (0x0a ∷ []) put entry exit r → Puts (cutLine mark width line) before e exit r
-  unfolding cutLine choose
-  ended-whole exit r h q = rw (goes-whole mark width line h) (then line (0x0a ∷ []) before put r e entry exit p q)
+  pub ended-whole : (exit : List ℕ) (r : Put) → 16 ≤ width → length line ≤ lastRoom mark width line → Puts (0x0a ∷ []) put entry exit r → Puts (cutLine mark width line) before e exit r
+  unfolding choose
+  ended-whole exit r wide h q = rw (line-whole-or-cut mark width wide line, goes-whole mark width line h) (then line (0x0a ∷ []) before put r e entry exit p q)
 
-  pub ended-cut : (exit : List ℕ) (r : Put) → lastRoom mark width line < length line → Puts (cutRest mark width (width - 1) line) before e exit r → Puts (cutLine mark width line) before e exit r
-  unfolding cutLine choose
-  ended-cut exit r h q = rw (goes-cut mark width line h) q
+  pub ended-cut : (exit : List ℕ) (r : Put) → 16 ≤ width → lastRoom mark width line < length line → Puts (cutRest mark width (width - 1) line) before e exit r → Puts (cutLine mark width line) before e exit r
+  unfolding choose
+  ended-cut exit r wide h q = rw (line-whole-or-cut mark width wide line, goes-cut mark width line h) q
 
   module _ (start count last : ℕ) (r : Put) (at : before .count ≡ start) (some : 1 ≤ length line) (low : put .count < 4294967295)
       (cuts : CutsCounted width (put .count - start) (eqb (put .last) mark) count last)
@@ -101,6 +75,9 @@ module _ (mark width : ℕ) (line : List ℕ) (before put : Put) (e entry : List
     cut : cutRest mark width (width - 1) line ≡ withCuts mark (width - 6) count last line (0x0a ∷ [])
     cut = cuts .cut mark line (omega (arith, behind)) (rw (p .last) (ends-last (before .last) mark line some))
 
+    rest-last : (d : ℕ) → lastIn d (cutRest mark width (width - 1) line) ≡ 0x0a
+    rest-last d = rw (cut, cuts-append mark (width - 6) count last line [] (0x0a ∷ [])) (last-whole d (withCuts mark (width - 6) count last line []))
+
     rest-size : start + length (cutRest mark width (width - 1) line) ≡ put .count + 7 * count + 1
     rest-size = rw cut (omega (arith, behind, cuts-length mark (width - 6) count last line (0x0a ∷ [])))
 
@@ -108,7 +85,7 @@ module _ (mark width : ℕ) (line : List ℕ) (before put : Put) (e entry : List
     pub cut-none : length entry ≤ put .count + 7 * count → Puts (cutRest mark width (width - 1) line) before e entry r
     cut-none h = record {
       count = omega (arith, rest-size);
-      last = end ∙ sym (last-rest mark width (width - 1) (before .last) line);
+      last = end ∙ sym (rest-last (before .last));
       room = p .room;
       bytes = λ a b. absurd (omega (arith, rest-size, p .room));
     }
@@ -130,7 +107,7 @@ module _ (mark width : ℕ) (line : List ℕ) (before put : Put) (e entry : List
         → Puts (cutRest mark width (width - 1) line) before e exit r
     cut-stands exit same room made = record {
       count = omega (arith, rest-size);
-      last = end ∙ sym (last-rest mark width (width - 1) (before .last) line);
+      last = end ∙ sym (rest-last (before .last));
       room = same ∙ p .room;
       bytes = λ h f.
           let rest : List ℕ = cutRest mark width (width - 1) line in

@@ -1,15 +1,26 @@
--- A line's cuts by their count and places.
+-- A line's cuts: byte by byte, and by their count and places.
 use Prim.Native.Nat.{ℕ, zero, suc, _+_, _*_, _-_, _≤_, _<_}
 use mathlib.Core.Path.{_≡_}
 use mathlib.Core.Bool.{Bool}
 use mathlib.Core.List.{List, [], _∷_, _++_}
 use lib.ListN.{length, take, drop}
 use Rattle.meaning.specs.Bytes.{choose, ends, cont}
-use Rattle.meaning.specs.Width.{cutRest}
+use Rattle.meaning.specs.Width.{goesWhole}
 
 -- a cut: the mark, the line's end, and CONT with its space before the next part
 abbrev pub cutBytes : (mark : ℕ) → List ℕ
 cutBytes mark = mark ∷ 0x0a ∷ cont
+
+-- "Else as many bytes as fit before a mark, then the mark", byte by byte: the rest of a line, of which `left` bytes
+-- more stand before the next mark.
+-- Behind CONT and a space a line has room for width - 5 bytes: the whole rest, or width - 6 bytes of it and the mark.
+-- The first of these is written together with CONT, so width - 7 are left behind it.
+unfoldable pub cutRest : (mark width left : ℕ) → List ℕ → List ℕ
+cutRest mark width left [] = cutBytes mark ++ (0x0a ∷ [])
+cutRest mark width (suc left) (b ∷ rest) = b ∷ cutRest mark width left rest
+cutRest mark width zero (b ∷ rest) =
+    let others : List ℕ = cutRest mark width (width - 7) rest in
+    cutBytes mark ++ choose (goesWhole mark (width - 5) (b ∷ rest)) ((b ∷ rest) ++ (0x0a ∷ [])) (b ∷ others)
 
 -- l, cut so many times, and what stands behind it: the last cut lies behind `last` bytes of l, each other `step` bytes
 -- before the next

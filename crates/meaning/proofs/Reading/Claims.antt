@@ -86,7 +86,7 @@ pub counts-say-what-is-used : CountsSayWhatIsUsed
 counts-say-what-is-used model file rooms objects count points e = subst (λ (a : Answer). buffers.Leaves rooms (read model file rooms) a) e (buffers.read-leaves model file rooms .leaves)
 
 pub width-cuts : WidthCuts
-width-cuts mark width ls h = widths.width-cuts mark width ls h
+width-cuts mark width ls least h = widths.width-cuts mark width ls least h
 
 pub unfolding-refusal-zeroes : UnfoldingRefusalZeroes
 unfolding-refusal-zeroes model file room = text-left.unfolding-left model file room .zeroes

@@ -1,54 +1,68 @@
 -- What the writer's cut to a width gives is a cut of the lines. Assumes nothing.
-use Prim.Native.Nat.{ℕ, zero, suc, _-_}
-use mathlib.Core.Path.{_≡_, refl}
-use mathlib.Core.Bool.{Bool, true, false}
+use Prim.Native.Nat.{ℕ, zero, suc, _+_, _-_, _≤_, _<_}
+use native.Mathlib.Omega.{arith}
+use mathlib.Core.Path.{_≡_, sym}
+use mathlib.Core.Bool.{true, false, false≢true}
 use mathlib.Core.List.{List, [], _∷_, _++_, append-assoc}
-use lib.ListN.{length}
+use lib.ListN.{length, take, drop, length-drop, take-append-drop}
 use lib.Dec.{leb}
-use borrow.Author.Tests.{not-true}
-use Rattle.meaning.specs.Bytes.{choose, permitted, every, allPermitted, ends}
+use borrow.Author.Tests.{le-leb, not-true}
+use Rattle.meaning.specs.Bytes.{permitted, allPermitted, ends, cont}
 use Rattle.meaning.specs.Cut.{lf, last, more, Cut, done, Permitted}
-use Rattle.meaning.specs.Width.{goesWhole, cutRest, cutLine, cutLines}
-use Rattle.meaning.proofs.Tests.Refuse.{both}
-use Rattle.meaning.proofs.Unfolding.Cuts.{permitted-snoc}
+use Rattle.meaning.specs.Width.{goesWhole, cutIn, cutLine, cutLines}
+use Rattle.meaning.proofs.Tests.Refuse.{both, choose-keeps}
+use Rattle.meaning.proofs.Values.Digits.{every-take, every-drop}
+
+-- ## What holds of a line cut to a width
+
+-- each cut takes a byte at least: they are not used up before the rest is
+cuts-left : (mark room cuts : ℕ) (l : List ℕ) → 2 ≤ room → goesWhole mark room l ≡ false → length l < suc cuts → length (drop (room - 1) l) < cuts
+unfolding goesWhole ends
+cuts-left mark room cuts [] r e h = absurd (false≢true (sym (rw (le-leb 0 room (omega arith)) at e)))
+cuts-left mark room cuts (b ∷ l) r e h = omega (arith, length-drop (room - 1) (b ∷ l))
+
+-- what holds of each rest that goes out whole, and of each that is cut where it holds of the rest behind the cut, holds of a line
+module _ (mark width : ℕ) (least : 16 ≤ width) (P : (room : ℕ) (l out : List ℕ) → Type 0)
+    (whole : (room : ℕ) (l : List ℕ) → goesWhole mark room l ≡ true → P room l (l ++ (0x0a ∷ [])))
+    (cut : (room : ℕ) (l out : List ℕ) → 2 ≤ room → goesWhole mark room l ≡ false → P (width - 5) (drop (room - 1) l) out
+    → P room l (take (room - 1) l ++ (mark ∷ 0x0a ∷ (cont ++ out)))) where
+  by-cuts : (cuts room : ℕ) (l : List ℕ) → 2 ≤ room → length l < cuts → P room l (cutIn cuts mark width room l)
+  unfolding cutIn
+  by-cuts zero room l r h = absurd (omega arith)
+  by-cuts (suc cuts) room l r h =
+      choose-keeps (P room l) (goesWhole mark room l) _ _ (whole room l)
+      (λ e. cut room l _ r e (by-cuts cuts (width - 5) (drop (room - 1) l) (omega arith) (cuts-left mark room cuts l r e h)))
+
+  pub by-cuts-of-line : (l : List ℕ) → P width l (cutLine mark width l)
+  unfolding cutLine
+  by-cuts-of-line l = by-cuts (length l + 2) width l (omega arith) (omega arith)
+
+-- ## It is a cut
 
 -- what goes out whole does not end in the mark
 whole-ends : (mark room : ℕ) (l : List ℕ) → goesWhole mark room l ≡ true → ends mark l ≡ false
 unfolding goesWhole
 whole-ends mark room l h = not-true _ (both (leb (length l) room) _ h .1)
 
-module _ (mark width : ℕ) {ls : List (List ℕ)} {f : List ℕ} (c : Cut mark ls f) where
-  -- a line's rest that goes out whole
-  whole-cut : (l : List ℕ) → allPermitted l ≡ true → ends mark l ≡ false → Cut mark (l ∷ ls) ((l ++ (0x0a ∷ [])) ++ f)
-  whole-cut l ok e = rw (append-assoc l (0x0a ∷ []) f) (last l ok e lf c)
+module _ (mark width : ℕ) (least : 16 ≤ width) {ls : List (List ℕ)} {f : List ℕ} (c : Cut mark ls f) where
+  -- a rest that goes out whole
+  whole-cut : (room : ℕ) (l : List ℕ) → goesWhole mark room l ≡ true → allPermitted l ≡ true → Cut mark (l ∷ ls) ((l ++ (0x0a ∷ [])) ++ f)
+  whole-cut room l h ok = rw (append-assoc l (0x0a ∷ []) f) (last l ok (whole-ends mark room l h) lf c)
 
-  -- the rest of a line, where q is what its part has so far
-  rest-cut : (left : ℕ) (q l : List ℕ) → allPermitted q ≡ true → allPermitted l ≡ true → Cut mark ((q ++ l) ∷ ls) (q ++ (cutRest mark width left l ++ f))
-  unfolding cutRest ends choose every
-  rest-cut left q [] hq hl = more q hq lf (last [] refl refl lf c)
-  rest-cut (suc left) q (b ∷ rest) hq hl =
-      let h = both (permitted b) _ hl in
-      rw (append-assoc q (b ∷ []) rest, append-assoc q (b ∷ []) (cutRest mark width left rest ++ f)) at
-      (rest-cut left (q ++ (b ∷ [])) rest (permitted-snoc b q hq (h .0)) (h .1))
-  rest-cut zero q (b ∷ rest) hq hl =
-      let h = both (permitted b) _ hl in
-      go (goesWhole mark (width - 5) (b ∷ rest)) refl (rest-cut (width - 7) (b ∷ []) rest (permitted-snoc b [] refl (h .0)) (h .1))
-    where
-      go : (t : Bool) → goesWhole mark (width - 5) (b ∷ rest) ≡ t → Cut mark ((b ∷ rest) ∷ ls) (b ∷ (cutRest mark width (width - 7) rest ++ f))
-          → Cut mark ((q ++ (b ∷ rest)) ∷ ls) (q ++ (cutRest mark width zero (b ∷ rest) ++ f))
-      go true h others = rw h (more q hq lf (whole-cut (b ∷ rest) hl (whole-ends mark (width - 5) (b ∷ rest) h)))
-      go false h others = rw h (more q hq lf others)
+  -- a rest with a cut behind its first bytes
+  part-cut : (n : ℕ) (l out : List ℕ) → (allPermitted (drop n l) ≡ true → Cut mark (drop n l ∷ ls) (out ++ f))
+      → allPermitted l ≡ true → Cut mark (l ∷ ls) ((take n l ++ (mark ∷ 0x0a ∷ (cont ++ out))) ++ f)
+  part-cut n l out others ok =
+      rw (append-assoc (take n l) (mark ∷ 0x0a ∷ (cont ++ out)) f)
+      (rw (take-append-drop n l) at (more (take n l) (every-take permitted n l ok) lf (others (every-drop permitted n l ok))))
 
   line-cut : (l : List ℕ) → allPermitted l ≡ true → Cut mark (l ∷ ls) (cutLine mark width l ++ f)
-  unfolding cutLine choose every
-  line-cut l ok = go (goesWhole mark width l) refl
-    where
-      go : (t : Bool) → goesWhole mark width l ≡ t → Cut mark (l ∷ ls) (cutLine mark width l ++ f)
-      go true h = rw h (whole-cut l ok (whole-ends mark width l h))
-      go false h = rw h (rest-cut (width - 1) [] l refl ok)
+  line-cut =
+      by-cuts-of-line mark width least (λ room l out. allPermitted l ≡ true → Cut mark (l ∷ ls) (out ++ f)) whole-cut
+      (λ room l out r e. part-cut (room - 1) l out)
 
 -- the writer's lines, cut to a width, are a cut of them
-pub width-cuts : (mark width : ℕ) (ls : List (List ℕ)) → Permitted ls → Cut mark ls (cutLines mark width ls)
+pub width-cuts : (mark width : ℕ) (ls : List (List ℕ)) → 16 ≤ width → Permitted ls → Cut mark ls (cutLines mark width ls)
 unfolding cutLines
-width-cuts mark width [] h = done
-width-cuts mark width (l ∷ ls) h = line-cut mark width (width-cuts mark width ls (h .1)) l (h .0)
+width-cuts mark width [] least h = done
+width-cuts mark width (l ∷ ls) least h = line-cut mark width least (width-cuts mark width ls least (h .1)) l (h .0)

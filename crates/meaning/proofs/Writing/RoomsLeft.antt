@@ -1,11 +1,11 @@
 -- What writing leaves in its room, and the width of what is written. Assumes nothing.
-use Prim.Native.Nat.{ℕ, zero, suc, _+_, _-_, _≤_, _<_}
+use Prim.Native.Nat.{ℕ, _+_, _-_, _≤_, _<_}
 use native.Mathlib.Omega.{arith}
 use mathlib.Core.Path.{_≡_, refl, subst}
-use mathlib.Core.Bool.{Bool, true, false, _||_}
+use mathlib.Core.Bool.{true, _||_}
 use mathlib.Core.List.{List, [], _∷_, _++_, append-assoc}
 use lib.Dec.{ltb, leb}
-use lib.ListN.{length, take, replicate, length-replicate}
+use lib.ListN.{length, take, drop, replicate, length-replicate, length-take}
 use lib.Seq.{drop-append-seam}
 use borrow.Author.Tests.{ltb-false, lt-ltb, leb-true, le-leb, ne-eqb}
 use Rattle.meaning.specs.Bytes.{choose, permitted, every, allPermitted, cont}
@@ -14,12 +14,14 @@ use Rattle.meaning.specs.Model.{Model}
 use Rattle.meaning.specs.Check.{Checked, good, bad, checkModel, GoodModel}
 use Rattle.meaning.specs.Answer.{accepted, refusal}
 use Rattle.meaning.specs.Writing.{Lent, contentOf, linesOf}
-use Rattle.meaning.specs.Width.{goesWhole, cutRest, cutLine, cutLines, Written, writingRefused, writeBytes, writeChecked, write}
+use Rattle.meaning.specs.Width.{goesWhole, cutLine, cutLines, Written, writingRefused, writeBytes, writeChecked, write}
 use Rattle.meaning.specs.WritingClaims.{RoomUsed, fitsWidth}
 use Rattle.meaning.proofs.Tests.Refuse.{refuse-keeps, both, neither}
 use Rattle.meaning.proofs.Model.Marks.{good-mark}
 use Rattle.meaning.proofs.Tests.Unequal.{not-refused, not-accepted}
+use Rattle.meaning.proofs.Values.Digits.{every-take, every-drop}
 use Rattle.meaning.proofs.Unfolding.TextLeft.{filled-length}
+use Rattle.meaning.proofs.Unfolding.Widths.{by-cuts-of-line}
 use Rattle.meaning.proofs.Model.GoodModels.{checked-good}
 use Rattle.meaning.proofs.Judge.Unwritable.{table-permitted}
 use Rattle.meaning.proofs.Writing.RoundTrip.{written-as}
@@ -83,29 +85,28 @@ module _ (width : ℕ) where
     unfolding every permitted
     cut-fits column s h k = byte-fits mark column _ p h (end-fits (column + 1) _ (bytes-fit cont 0 s refl (omega arith) k))
 
-    rest-fits : (left column : ℕ) (l s : List ℕ) → column + left < width → allPermitted l ≡ true → fitsWidth width 0 s ≡ true → fitsWidth width column (cutRest mark width left l ++ s) ≡ true
-    unfolding cutRest every choose goesWhole
-    rest-fits left column [] s h q k = cut-fits column (0x0a ∷ s) (omega arith) (end-fits 5 s k)
-    rest-fits (suc left) column (b ∷ l) s h q k =
-        let r = both (permitted b) _ q in
-        byte-fits b column (cutRest mark width left l ++ s) (r .0) (omega arith) (rest-fits left (column + 1) l s (omega arith) (r .1) k)
-    rest-fits zero column (b ∷ l) s h q k = go (goesWhole mark (width - 5) (b ∷ l)) refl (rest-fits (width - 7) 6 l s (omega arith) (both (permitted b) _ q .1) k)
-      where
-        go : (t : Bool) → goesWhole mark (width - 5) (b ∷ l) ≡ t → fitsWidth width 6 (cutRest mark width (width - 7) l ++ s) ≡ true → fitsWidth width column (cutRest mark width zero (b ∷ l) ++ s) ≡ true
-        go true e others =
-            let short : length (b ∷ l) ≤ width - 5 = leb-true (length (b ∷ l)) (width - 5) (both (leb (length (b ∷ l)) (width - 5)) _ e .0) in
-            rw (e, append-assoc (b ∷ l) (0x0a ∷ []) s) (cut-fits column _ (omega arith) (bytes-fit (b ∷ l) 5 (0x0a ∷ s) q (omega arith) (end-fits _ s k)))
-        go false e others = rw e (cut-fits column _ (omega arith) (byte-fits b 5 (cutRest mark width (width - 7) l ++ s) (both (permitted b) _ q .0) (omega arith) others))
+    -- a rest goes out whole
+    whole-fits : (room : ℕ) (l s : List ℕ) → goesWhole mark room l ≡ true → fitsWidth width 0 s ≡ true
+        → (column : ℕ) → column + room ≡ width → allPermitted l ≡ true → fitsWidth width column ((l ++ (0x0a ∷ [])) ++ s) ≡ true
+    unfolding goesWhole
+    whole-fits room l s e k column h q =
+        let short : length l ≤ room = leb-true (length l) room (both (leb (length l) room) _ e .0) in
+        rw (append-assoc l (0x0a ∷ []) s) (bytes-fit l column (0x0a ∷ s) q (omega arith) (end-fits _ s k))
+
+    -- as many bytes as fit before a mark
+    part-fits : (room : ℕ) (l out s : List ℕ) → 1 ≤ room → (allPermitted (drop (room - 1) l) ≡ true → fitsWidth width 5 (out ++ s) ≡ true)
+        → (column : ℕ) → column + room ≡ width → allPermitted l ≡ true → fitsWidth width column ((take (room - 1) l ++ (mark ∷ 0x0a ∷ (cont ++ out))) ++ s) ≡ true
+    part-fits room l out s some others column h q =
+        let n : ℕ = room - 1 in
+        let size = length-take n l in
+        rw (append-assoc (take n l) (mark ∷ 0x0a ∷ (cont ++ out)) s)
+        (bytes-fit (take n l) column _ (every-take permitted n l q) (omega arith) (cut-fits _ (out ++ s) (omega arith) (others (every-drop permitted n l q))))
 
     line-fits : (l s : List ℕ) → allPermitted l ≡ true → fitsWidth width 0 s ≡ true → fitsWidth width 0 (cutLine mark width l ++ s) ≡ true
-    unfolding cutLine choose goesWhole
-    line-fits l s q k = go (goesWhole mark width l) refl
-      where
-        go : (t : Bool) → goesWhole mark width l ≡ t → fitsWidth width 0 (choose t (l ++ (0x0a ∷ [])) (cutRest mark width (width - 1) l) ++ s) ≡ true
-        go true e =
-            let short : length l ≤ width = leb-true (length l) width (both (leb (length l) width) _ e .0) in
-            rw (append-assoc l (0x0a ∷ []) s) (bytes-fit l 0 (0x0a ∷ s) q (omega arith) (end-fits _ s k))
-        go false e = rest-fits (width - 1) 0 l s (omega arith) q k
+    line-fits l s q k =
+        by-cuts-of-line mark width least (λ room l out. (column : ℕ) → column + room ≡ width → allPermitted l ≡ true → fitsWidth width column (out ++ s) ≡ true)
+        (λ room l e. whole-fits room l s e k) (λ room l out r e others. part-fits room l out s (omega arith) (others 5 (omega arith)))
+        l 0 (omega arith) q
 
     lines-fit : (ls : List (List ℕ)) → Permitted ls → fitsWidth width 0 (cutLines mark width ls) ≡ true
     unfolding cutLines fitsWidth

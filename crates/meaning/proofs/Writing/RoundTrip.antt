@@ -83,7 +83,7 @@ pub written-is-cut : (model : List ℕ) (m : Model) (t : Lent) (width room n : �
     → Cut (m .mark) (linesOf m (t .text) (contentOf m t)) (take n (write model t width room .output))
 written-is-cut model m t width room n e h =
     let w = written-as model m t width room n e h in
-    rw (w .bytes) (width-cuts (m .mark) width (linesOf m (t .text) (contentOf m t)) (table-permitted m (checked-good model m e) t (w .table)))
+    rw (w .bytes) (width-cuts (m .mark) width (linesOf m (t .text) (contentOf m t)) (w .wide) (table-permitted m (checked-good model m e) t (w .table)))
 
 -- rooms for the bytes that were written and for the lent counts have enough
 pub lent-is-enough : (model : List ℕ) (m : Model) (t : Lent) (width room n : ℕ) (rooms : Rooms) → checkModel model ≡ good m → write model t width room .answer ≡ accepted n 0 0 → RoomsAsLent m t n rooms

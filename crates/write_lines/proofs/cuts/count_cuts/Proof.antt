@@ -6,7 +6,7 @@ use native.Mathlib.Omega.{arith}
 use borrow.Author.Needs.{needs}
 use lib.ListN.{length}
 use Rattle.meaning.specs.Bytes.{ends}
-use Rattle.meaning.specs.Width.{cutRest}
+use Rattle.write_lines.specs.Cuts.{cutRest}
 use Rattle.write_lines.proofs.Cutting.{cutOn, count-first, count-turn, count-end, placed-next, room-by, room-most}
 use Rattle.write_lines.proofs.cuts.count_cuts.Statement.{statement}
 use Rattle.write_lines.proofs.cuts.count_cuts.Tie as tie

@@ -9,7 +9,7 @@ use Rattle.write_lines.proofs.cuts.end_line.Tie as tie
 returns : tie.Need-returns
 returns c =
     let a = c .before .before .args in
-    record { ends = λ line before e at some p. ended-above (a .mark) (a .width) line before (a .put) e (now (a .out)) p (omega arith) }
+    record { ends = λ line before e at some p. ended-above (a .mark) (a .width) line before (a .put) e (now (a .out)) p (omega arith) (omega arith) }
 
 returns-2 : tie.Need-returns-2
 returns-2 c = record { ends = λ line before e at some p. absurd (omega (arith, p .count)) }
@@ -32,7 +32,7 @@ returns-3 c =
     let a = c .before .before .before .before .before .before .before .before .before .before .args in
     record {
       ends = λ line before e at some p.
-          ended-whole (a .mark) (a .width) line before (a .put) e (now (a .out)) p _ _ (omega (arith, p .count, q .before .before .before .last-room .ensures, last-room-of (a .mark) (a .width) line before (a .put) e (now (a .out)) p some)) (q .put-byte .ensures);
+          ended-whole (a .mark) (a .width) line before (a .put) e (now (a .out)) p _ _ (omega arith) (omega (arith, p .count, q .before .before .before .last-room .ensures, last-room-of (a .mark) (a .width) line before (a .put) e (now (a .out)) p some)) (q .put-byte .ensures);
     }
 
 same-length-2 : tie.Need-same-length-2
@@ -44,7 +44,7 @@ returns-4 c =
     let a = c .before .before .before .before .before .before .before .before .before .before .args in
     record {
       ends = λ line before e at some p.
-          ended-cut (a .mark) (a .width) line before (a .put) e (now (a .out)) p _ _ (omega (arith, p .count, q .before .before .before .last-room .ensures, last-room-of (a .mark) (a .width) line before (a .put) e (now (a .out)) p some)) (q .cut-line .ensures line before e at some p);
+          ended-cut (a .mark) (a .width) line before (a .put) e (now (a .out)) p _ _ (omega arith) (omega (arith, p .count, q .before .before .before .last-room .ensures, last-room-of (a .mark) (a .width) line before (a .put) e (now (a .out)) p some)) (q .cut-line .ensures line before e at some p);
     }
 
 pub end-line-spec : {M : Type 1} → statement M
