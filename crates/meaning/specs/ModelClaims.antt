@@ -40,6 +40,10 @@ GoodExactly = (b : List ℕ) (m : Model) → AreBytes b → (checkModel b ≡ go
 abbrev pub GoodPasses : Type 0
 GoodPasses = (m : Model) → GoodModel m → length (recordsOf m) ≤ 65536 → checkModel (recordsOf m) ≡ good (placed m)
 
+-- and they are bytes, where its sizes are u16
+abbrev pub GoodBytes : Type 0
+GoodBytes = (m : Model) → GoodModel m → allU16 (m .tables) ≡ true → AreBytes (recordsOf m)
+
 -- a good model's mark lies in 21 to 7E hex
 abbrev pub GoodMark : Type 0
 GoodMark = (model : List ℕ) (m : Model) → checkModel model ≡ good m → Mark (m .mark)

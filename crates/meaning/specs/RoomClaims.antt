@@ -1,10 +1,12 @@
 -- What is proved of answers and rooms: a refusal's number is one of 01's, at a place as its row says; more room gives
 -- the same answer; which rooms suffice for every file. Proved in proofs/Right/RoomClaims.antt.
-use Prim.Native.Nat.{ℕ, _+_, _*_, _-_, _/_, _≤_, max}
+use Prim.Native.Nat.{ℕ, _+_, _*_, _-_, _/_, _^_, _≤_, max}
 use mathlib.Core.Path.{_≡_}
 use mathlib.Core.Bool.{Bool, true, false, _&&_, _||_}
 use mathlib.Core.List.{List, [], _∷_}
 use lib.Dec.{leb, eqb}
+use lib.IntN.{ℤ, pos, negsuc}
+use lib.Signed.{ltZ}
 use lib.ListN.{length, drop, replicate}
 use Rattle.meaning.specs.Bytes.{choose}
 use Rattle.meaning.specs.Unfold.{unfoldedText}
@@ -114,3 +116,16 @@ abbrev pub LinesSayWhatIsUsed : Type 0
 LinesSayWhatIsUsed = (model file : List ℕ) (m : Model) (ls : List (List ℕ)) (rooms : Rooms) (objects cells points : ℕ)
     → Opened model file m ls → read model file rooms .answer ≡ accepted objects cells points
     → UsedText m ls rooms (read model file rooms)
+
+-- ## "Signed 64-bit cells"
+
+abbrev pub IsCell : ℤ → Type 0
+IsCell v = (ltZ v (pos (2 ^ 63)) ≡ true) × (ltZ v (negsuc (2 ^ 63 - 1)) ≡ false)
+
+abbrev pub AreCells : List ℤ → Type 0
+AreCells [] = Unit {0}
+AreCells (v ∷ vs) = IsCell v × AreCells vs
+
+abbrev pub CellsFit : Type 0
+CellsFit = (model file : List ℕ) (rooms : Rooms)
+    → AreCells (read model file rooms .cells) × AreCells (read model file rooms .points)

@@ -1,14 +1,14 @@
 -- What is proved of writing: unwritable exactly when no lines read as the table, the judge that says so, and the round
 -- trip. Proved in proofs/Writing/WritingClaims.antt.
-use Prim.Native.Nat.{ℕ, _+_, _*_, _-_, _≤_}
+use Prim.Native.Nat.{ℕ, _+_, _*_, _-_, _≤_, _<_}
 use mathlib.Core.Path.{_≡_}
 use mathlib.Core.Bool.{Bool, true, _&&_}
-use mathlib.Core.List.{List, [], _∷_}
+use mathlib.Core.List.{List, [], _∷_, _++_}
 use mathlib.Core.Logic.{_↔_}
 use lib.IntN.{ℤ}
 use lib.Dec.{ltb, eqb}
 use lib.ListN.{length, take, drop, replicate}
-use Rattle.meaning.specs.Bytes.{choose}
+use Rattle.meaning.specs.Bytes.{choose, ends, cont}
 use Rattle.meaning.specs.Unfold.{unfoldedText}
 use Rattle.meaning.specs.Cut.{Cut, Permitted}
 use Rattle.meaning.specs.Model.{Model, markCount}
@@ -21,7 +21,7 @@ use Rattle.meaning.specs.Writing.{Lent, countsFit, contentOf, linesOf}
 use Rattle.meaning.specs.Readback.{Shown, ofCells, ofBytes, outside, ShownObject, shownObjects, sameTable}
 use Rattle.meaning.specs.Readback.{readsAs, isTable}
 use Rattle.meaning.specs.Judge.{judge}
-use Rattle.meaning.specs.Width.{cutLines, write}
+use Rattle.meaning.specs.Width.{cutLine, cutLines, write}
 
 -- ## Unwritable exactly when
 
@@ -239,6 +239,27 @@ WrittenZeroBehind = (model : List ℕ) (t : Lent) (width room n : ℕ) → write
     → RoomUsed room n (write model t width room .output)
 
 -- ## The width
+
+-- "A line is cut only where needed: the rest goes out whole if it fits the width (after CONT and space where continued,
+-- LF not counted) and does not end in the mark. Else as many bytes as fit before a mark, then the mark." A line, or the
+-- rest of one, and its physical lines, of which the first has room for so many bytes:
+--   whole   it fits and does not end in the mark
+--   full    a part of it, which fills the room with its mark; CONT and a space, and the rest
+--   short   all of it, which ends in the mark and does not fill the room; CONT and a space, and nothing
+pub data CutTo (mark width : ℕ) : (room : ℕ) (l bytes : List ℕ) → Type 0 where
+  whole : {room : ℕ} (l : List ℕ) → length l ≤ room → ends mark l ≡ false
+      → CutTo mark width room l (l ++ (0x0a ∷ []))
+  full : {room : ℕ} {bytes : List ℕ} (p rest : List ℕ) → length p + 1 ≡ room
+      → (length (p ++ rest) ≤ room → ends mark (p ++ rest) ≡ true) → CutTo mark width (width - 5) rest bytes
+      → CutTo mark width room (p ++ rest) (p ++ (mark ∷ 0x0a ∷ (cont ++ bytes)))
+  short : {room : ℕ} (l : List ℕ) → length l + 1 < room → ends mark l ≡ true
+      → CutTo mark width room l (l ++ (mark ∷ 0x0a ∷ (cont ++ (0x0a ∷ []))))
+
+-- a line at a permitted width is written as these physical lines and no others: each that is continued is full, unless
+-- what it has ends in the mark
+abbrev pub CutExactly : Type 0
+CutExactly = (mark width : ℕ) (l bytes : List ℕ) → 16 ≤ width
+    → (cutLine mark width l ≡ bytes) ↔ CutTo mark width width l bytes
 
 -- no physical line of these bytes is longer than the width, the first of which has so many bytes before them
 unfoldable pub fitsWidth : (width column : ℕ) → List ℕ → Bool
