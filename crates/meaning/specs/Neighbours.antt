@@ -6,15 +6,15 @@ use mathlib.Core.Path.{_≡_, refl}
 use mathlib.Core.List.{List, [], _∷_, _++_}
 use lib.IntN.{ℤ, pos}
 use Rattle.meaning.specs.Bytes.{bytesOf}
-use Rattle.meaning.specs.Answer.{accepted, refusal}
+use Rattle.meaning.specs.Answer.{accepted, refusal, numbersOf}
 use Rattle.meaning.specs.Reading.{Rooms}
 use Rattle.meaning.specs.Table.{Result}
 use Rattle.meaning.specs.Writing.{Lent}
 use Rattle.meaning.specs.Width.{Written}
 use Rattle.meaning.specs.Listing.{listingRooms}
 use Rattle.meaning.specs.Compute.{computeListing, computeRead, computeWrite}
-use Rattle.meaning.specs.ModelBytes.{u16Bytes, recordBytes}
-use Rattle.meaning.specs.Sample.{sampleModel, with7}
+use Rattle.meaning.specs.ModelBytes.{u16Bytes, u64Bytes, recordBytes}
+use Rattle.meaning.specs.Sample.{componentBytes, lage, sampleModel, with7}
 
 -- ## A model of one table: a mandatory date D, an optional text X and a mandatory text Y of 4 bytes; its topic's name
 -- has 24 bytes
@@ -139,3 +139,64 @@ pub whole-table : readsSample oneMore ≡ record {
 }
 unfolding readsSample
 whole-table = refl
+
+-- ## Two topics, and what the sample has not: an enumeration, heights, and a line attribute before a reference
+
+-- topic N with a table A: an enumeration E of 3 leaves, an optional coordinate P of three, an optional line L, an
+-- optional reference R to A; topic O with a table B, which may be left out: a date
+unfoldable pub wideModel : List ℕ
+unfolding recordBytes u16Bytes u64Bytes
+wideModel =
+    recordBytes 1 (bytesOf "_@\\T")
+    ++ recordBytes 2 (bytesOf "M")
+    ++ recordBytes 3 (bytesOf "N")
+    ++ recordBytes 4 (0 ∷ bytesOf "A")
+    ++ recordBytes 5 (0 ∷ 7 ∷ 3 ∷ 0 ∷ bytesOf "E")
+    ++ recordBytes 5 (1 ∷ 3 ∷ (lage ++ componentBytes 0 0 9 ++ bytesOf "P"))
+    ++ recordBytes 5 (1 ∷ 8 ∷ 3 ∷ 3 ∷ (lage ++ componentBytes 0 0 9 ++ bytesOf "L"))
+    ++ recordBytes 5 (1 ∷ 1 ∷ 0 ∷ 0 ∷ bytesOf "R")
+    ++ recordBytes 3 (bytesOf "O")
+    ++ recordBytes 4 (1 ∷ bytesOf "B")
+    ++ recordBytes 5 (0 ∷ 6 ∷ bytesOf "D")
+    ++ recordBytes 6 []
+
+unfoldable pub readsWide : List ℕ → Rooms → Result
+unfolding computeRead wideModel
+readsWide ls rooms = computeRead wideModel (bytesOf "SCNT\n////\nMTID T\nMODL M\n" ++ ls) rooms
+
+abbrev pub wideLines : List ℕ
+wideLines = bytesOf "TOPI N\nTABL A\nOBJE a 02 1.0 2.0 3 a\nSTPT 1.0 2.0 3\nLIPT 4.0 5.0 6\nELIN\nETAB\nETOP\n"
+    ++ bytesOf "TOPI O\nTABL B\nOBJE b 20000229\nETAB\nETOP\nEMOD\nENDE\n"
+
+abbrev pub roomsOfMarks : ℕ → Rooms
+roomsOfMarks marks = record { text = 100; marks = marks; rows = 0; cells = 0; points = 0 }
+
+-- all buffers, in just enough room
+pub two-topics : readsWide wideLines (record { text = 155; marks = 4; rows = 2; cells = 20; points = 8 }) ≡ record {
+  answer = accepted 2 20 2;
+  text = bytesOf "SCNT\n////\nMTID T\nMODL M\n" ++ wideLines;
+  marks = 1 ∷ 1 ∷ 1 ∷ 1 ∷ [];
+  rows = 0 ∷ 15 ∷ [];
+  cells = pos 0 ∷ pos 43 ∷ pos 1 ∷ pos 1 ∷ pos 2 ∷ pos 1 ∷ pos 10 ∷ pos 1 ∷ pos 20 ∷ pos 1 ∷ pos 3 ∷ pos 3 ∷ pos 0
+      ∷ pos 1 ∷ pos 0
+      ∷ pos 1 ∷ pos 124 ∷ pos 1 ∷ pos 1 ∷ pos 20000229 ∷ [];
+  points = pos 0 ∷ pos 10 ∷ pos 20 ∷ pos 3 ∷ pos 1 ∷ pos 40 ∷ pos 50 ∷ pos 6 ∷ [];
+}
+unfolding readsWide
+two-topics = refl
+
+-- "Marks: one byte per topic, then per table": the second topic alone, with its table and without; 17 behind a line
+-- attribute, which has no field; a leaf beyond the last
+pub topics-and-fields :
+    (readsWide (bytesOf "TOPI O\nTABL B\nETAB\nETOP\nEMOD\nENDE\n") (roomsOfMarks 4) .marks
+    ∷ readsWide (bytesOf "TOPI O\nETOP\nEMOD\nENDE\n") (roomsOfMarks 5) .marks
+    ∷ numbersOf (readsWide (bytesOf "TOPI N\nTABL A\nOBJE a 0 @ @ @ q\nELIN\nETAB\nETOP\nEMOD\nENDE\n") listingRooms .answer)
+    ∷ numbersOf (readsWide (bytesOf "TOPI N\nTABL A\nOBJE a 3\n") listingRooms .answer)
+    ∷ [])
+    ≡ ((0 ∷ 1 ∷ 0 ∷ 1 ∷ [])
+    ∷ (0 ∷ 1 ∷ 0 ∷ 0 ∷ 0 ∷ [])
+    ∷ (17 ∷ 0 ∷ 7 ∷ 0 ∷ [])
+    ∷ (14 ∷ 7 ∷ 3 ∷ 0 ∷ [])
+    ∷ [])
+unfolding readsWide numbersOf
+topics-and-fields = refl
