@@ -14,4 +14,5 @@ pub mod Encoding
 pub mod GoodPairs
 pub mod Names
 pub mod Decoding
+pub mod GoodBytes
 pub mod ModelClaims

@@ -12,6 +12,7 @@ pub mod Refusals
 pub mod RoundTrip
 pub mod WritingClaims
 pub mod RoomsLeft
+pub mod CutLines
 pub mod EqualLines
 pub mod LongerText
 pub mod WrittenAgain

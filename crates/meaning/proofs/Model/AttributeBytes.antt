@@ -20,7 +20,7 @@ use Rattle.meaning.proofs.Model.RecordBytes.{u16-read, i64-read}
 
 -- ## Components
 
-bound-small : (v : ℤ) → isBound v ≡ true → natAbs v < 10 ^ 18
+pub bound-small : (v : ℤ) → isBound v ≡ true → natAbs v < 10 ^ 18
 unfolding isBound
 bound-small (pos n) h = ltb-true n (10 ^ 18) (both (ltZ (negsuc (10 ^ 18 - 1)) (pos n)) _ h .1)
 bound-small (negsuc n) h = let l = ltb-true n (10 ^ 18 - 1) (both (ltb n (10 ^ 18 - 1)) _ h .0) in omega arith

@@ -63,7 +63,7 @@ attributes-pass ts topic before at seen (a ∷ others) rs rest f o n l g k =
 
 -- ## Tables
 
-abbrev namesOf : List Table → List (List ℕ)
+abbrev pub namesOf : List Table → List (List ℕ)
 namesOf ts = map (λ (t : Table). t .name) ts
 
 -- tables, with their attributes
@@ -85,7 +85,7 @@ tables-pass all before at seen (t ∷ others) rs rest f o n l g k =
 
 -- ## Topics
 
-names-in : (topic : ℕ) (ts : List Table) → namesOf (tablesIn topic ts) ≡ tableNames topic ts
+pub names-in : (topic : ℕ) (ts : List Table) → namesOf (tablesIn topic ts) ≡ tableNames topic ts
 unfolding tablesIn tableNames choose
 names-in topic [] = refl
 names-in topic (t ∷ others) = go (eqb (t .topic) topic) refl (names-in topic others)

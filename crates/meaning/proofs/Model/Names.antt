@@ -19,10 +19,13 @@ use Rattle.meaning.proofs.Model.GoodPairs.{names-good, table-name}
 
 -- ## Names
 
+pub name-length : (longest : ℕ) (n : List ℕ) → isName longest n ≡ true → length n ≤ longest
+unfolding isName
+name-length longest n h = leb-true (length n) longest (both (letter (byteAt n 0) && every nameByte n) (leb (length n) longest) h .1)
+
 -- a name of at most 24 bytes is its own first 24 bytes
 pub short-name : (n : List ℕ) → isName 24 n ≡ true → take 24 n ≡ n
-unfolding isName
-short-name n h = take-all 24 n (leb-true (length n) 24 (both (letter (byteAt n 0) && every nameByte n) (leb (length n) 24) h .1))
+short-name n h = take-all 24 n (name-length 24 n h)
 
 names-differ : (a b : List ℕ) → isName 24 a ≡ true → isName 24 b ≡ true → same b a ≡ false → sameName a b ≡ false
 unfolding sameName

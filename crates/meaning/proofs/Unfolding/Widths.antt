@@ -4,9 +4,10 @@ use native.Mathlib.Omega.{arith}
 use mathlib.Core.Path.{_≡_, sym}
 use mathlib.Core.Bool.{true, false, false≢true}
 use mathlib.Core.List.{List, [], _∷_, _++_, append-assoc}
+use mathlib.Core.Logic.{_↔_}
 use lib.ListN.{length, take, drop, length-drop, take-append-drop}
 use lib.Dec.{leb}
-use borrow.Author.Tests.{le-leb, not-true}
+use borrow.Author.Tests.{leb-true, le-leb, not-true}
 use Rattle.meaning.specs.Bytes.{permitted, allPermitted, ends, cont}
 use Rattle.meaning.specs.Cut.{lf, last, more, Cut, done, Permitted}
 use Rattle.meaning.specs.Width.{goesWhole, cutIn, cutLine, cutLines}
@@ -14,6 +15,12 @@ use Rattle.meaning.proofs.Tests.Refuse.{both, choose-keeps}
 use Rattle.meaning.proofs.Values.Digits.{every-take, every-drop}
 
 -- ## What holds of a line cut to a width
+
+-- what goes out whole fits and does not end in the mark
+pub whole-exactly : (mark room : ℕ) (l : List ℕ) → (goesWhole mark room l ≡ true) ↔ ((length l ≤ room) × (ends mark l ≡ false))
+unfolding goesWhole
+whole-exactly mark room l =
+    (λ h. let q = both (leb (length l) room) _ h in (leb-true (length l) room (q .0), not-true _ (q .1)), λ h. rw (le-leb (length l) room (h .0), h .1))
 
 -- each cut takes a byte at least: they are not used up before the rest is
 cuts-left : (mark room cuts : ℕ) (l : List ℕ) → 2 ≤ room → goesWhole mark room l ≡ false → length l < suc cuts → length (drop (room - 1) l) < cuts
@@ -39,15 +46,10 @@ module _ (mark width : ℕ) (least : 16 ≤ width) (P : (room : ℕ) (l out : Li
 
 -- ## It is a cut
 
--- what goes out whole does not end in the mark
-whole-ends : (mark room : ℕ) (l : List ℕ) → goesWhole mark room l ≡ true → ends mark l ≡ false
-unfolding goesWhole
-whole-ends mark room l h = not-true _ (both (leb (length l) room) _ h .1)
-
 module _ (mark width : ℕ) (least : 16 ≤ width) {ls : List (List ℕ)} {f : List ℕ} (c : Cut mark ls f) where
   -- a rest that goes out whole
   whole-cut : (room : ℕ) (l : List ℕ) → goesWhole mark room l ≡ true → allPermitted l ≡ true → Cut mark (l ∷ ls) ((l ++ (0x0a ∷ [])) ++ f)
-  whole-cut room l h ok = rw (append-assoc l (0x0a ∷ []) f) (last l ok (whole-ends mark room l h) lf c)
+  whole-cut room l h ok = rw (append-assoc l (0x0a ∷ []) f) (last l ok (whole-exactly mark room l .0 h .1) lf c)
 
   -- a rest with a cut behind its first bytes
   part-cut : (n : ℕ) (l out : List ℕ) → (allPermitted (drop n l) ≡ true → Cut mark (drop n l ∷ ls) (out ++ f))

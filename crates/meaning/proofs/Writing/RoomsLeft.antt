@@ -4,10 +4,10 @@ use native.Mathlib.Omega.{arith}
 use mathlib.Core.Path.{_≡_, refl, subst}
 use mathlib.Core.Bool.{true, _||_}
 use mathlib.Core.List.{List, [], _∷_, _++_, append-assoc}
-use lib.Dec.{ltb, leb}
+use lib.Dec.{ltb}
 use lib.ListN.{length, take, drop, replicate, length-replicate, length-take}
 use lib.Seq.{drop-append-seam}
-use borrow.Author.Tests.{ltb-false, lt-ltb, leb-true, le-leb, ne-eqb}
+use borrow.Author.Tests.{ltb-false, lt-ltb, le-leb, ne-eqb}
 use Rattle.meaning.specs.Bytes.{choose, permitted, every, allPermitted, cont}
 use Rattle.meaning.specs.Cut.{Mark, Permitted}
 use Rattle.meaning.specs.Model.{Model}
@@ -21,7 +21,7 @@ use Rattle.meaning.proofs.Model.Marks.{good-mark}
 use Rattle.meaning.proofs.Tests.Unequal.{not-refused, not-accepted}
 use Rattle.meaning.proofs.Values.Digits.{every-take, every-drop}
 use Rattle.meaning.proofs.Unfolding.TextLeft.{filled-length}
-use Rattle.meaning.proofs.Unfolding.Widths.{by-cuts-of-line}
+use Rattle.meaning.proofs.Unfolding.Widths.{by-cuts-of-line, whole-exactly}
 use Rattle.meaning.proofs.Model.GoodModels.{checked-good}
 use Rattle.meaning.proofs.Judge.Unwritable.{table-permitted}
 use Rattle.meaning.proofs.Writing.RoundTrip.{written-as}
@@ -88,9 +88,8 @@ module _ (width : ℕ) where
     -- a rest goes out whole
     whole-fits : (room : ℕ) (l s : List ℕ) → goesWhole mark room l ≡ true → fitsWidth width 0 s ≡ true
         → (column : ℕ) → column + room ≡ width → allPermitted l ≡ true → fitsWidth width column ((l ++ (0x0a ∷ [])) ++ s) ≡ true
-    unfolding goesWhole
     whole-fits room l s e k column h q =
-        let short : length l ≤ room = leb-true (length l) room (both (leb (length l) room) _ e .0) in
+        let short : length l ≤ room = whole-exactly mark room l .0 e .0 in
         rw (append-assoc l (0x0a ∷ []) s) (bytes-fit l column (0x0a ∷ s) q (omega arith) (end-fits _ s k))
 
     -- as many bytes as fit before a mark

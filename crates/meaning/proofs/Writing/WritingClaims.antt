@@ -1,11 +1,12 @@
 -- The claims of specs/WritingClaims.antt. Assumes nothing.
-use Rattle.meaning.specs.WritingClaims.{Unwritable, NoLinesEither, JudgedExactly, SameExactly, Writes, TooSmallExactly, WidthExactly, BadModelWrites, WrittenIsCut, RoundTrip, LentIsEnough, WrittenAgain, ReadIsWritable, WritingRefusalZeroes, WritingKeepsRoom, WrittenZeroBehind, WrittenFitsWidth}
+use Rattle.meaning.specs.WritingClaims.{Unwritable, NoLinesEither, JudgedExactly, SameExactly, Writes, TooSmallExactly, WidthExactly, BadModelWrites, WrittenIsCut, RoundTrip, LentIsEnough, WrittenAgain, ReadIsWritable, WritingRefusalZeroes, WritingKeepsRoom, WrittenZeroBehind, CutExactly, WrittenFitsWidth}
 use Rattle.meaning.proofs.Judge.Unwritable as lines
 use Rattle.meaning.proofs.Judge.Exactly as judged
 use Rattle.meaning.proofs.Judge.SameTables as tables
 use Rattle.meaning.proofs.Writing.Refusals as refusals
 use Rattle.meaning.proofs.Writing.RoundTrip as back
 use Rattle.meaning.proofs.Writing.RoomsLeft as left
+use Rattle.meaning.proofs.Writing.CutLines as cuts
 use Rattle.meaning.proofs.Writing.WrittenAgain as again
 use Rattle.meaning.proofs.Writing.ReadWritable as writable
 
@@ -56,6 +57,9 @@ writing-keeps-room model t width room = left.writing-left model t width room .ke
 
 pub written-zero-behind : WrittenZeroBehind
 written-zero-behind model t width room = left.writing-left model t width room .used
+
+pub cut-exactly : CutExactly
+cut-exactly = cuts.cut-exactly
 
 pub written-fits-width : WrittenFitsWidth
 written-fits-width = left.written-fits
