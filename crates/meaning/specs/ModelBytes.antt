@@ -59,14 +59,14 @@ componentsBytes [] = []
 componentsBytes (c ∷ cs) = componentBytes c ++ componentsBytes cs
 
 -- a type's number and its parameters; a coordinate's number is its count of components, "2 and 3"
-unfoldable pub typeBytes : AttributeType → List ℕ
-typeBytes (Reference t) = 1 ∷ u16Bytes t
-typeBytes (Coordinate cs) = length cs ∷ componentsBytes cs
-typeBytes (Number c) = 4 ∷ componentBytes c
-typeBytes (Text longest) = 5 ∷ u16Bytes longest
-typeBytes Date = 6 ∷ []
-typeBytes (Enumeration leaves) = 7 ∷ u16Bytes leaves
-typeBytes (Line forms cs) = 8 ∷ forms ∷ length cs ∷ componentsBytes cs
+unfoldable pub typeParameters : AttributeType → List ℕ
+typeParameters (Reference t) = 1 ∷ u16Bytes t
+typeParameters (Coordinate cs) = length cs ∷ componentsBytes cs
+typeParameters (Number c) = 4 ∷ componentBytes c
+typeParameters (Text longest) = 5 ∷ u16Bytes longest
+typeParameters Date = 6 ∷ []
+typeParameters (Enumeration leaves) = 7 ∷ u16Bytes leaves
+typeParameters (Line forms cs) = 8 ∷ forms ∷ length cs ∷ componentsBytes cs
 
 -- "optional (0 or 1)"
 unfoldable pub flagByte : Bool → ℕ
@@ -75,7 +75,7 @@ flagByte false = 0
 
 -- "5 attribute: optional (0 or 1), type, parameters, name"
 unfoldable pub attributeRecord : Attribute → List ℕ
-attributeRecord a = recordBytes 5 (flagByte (a .optional) ∷ (typeBytes (a .type) ++ a .name))
+attributeRecord a = recordBytes 5 (flagByte (a .optional) ∷ (typeParameters (a .type) ++ a .name))
 
 unfoldable pub attributeRecords : List Attribute → List ℕ
 attributeRecords [] = []

@@ -52,11 +52,11 @@ GoodMark = (model : List ℕ) (m : Model) → checkModel model ≡ good m → Ma
 
 -- bytes that are whole records, of which each may stand behind those before it and keeps the rules: the last of them is
 -- of kind `last` (0 where there is none), and what is seen behind it
-pub data Kept : List ℕ → (last : ℕ) → Seen → Type 0 where
-  none : Kept [] 0 nothingSeen
-  more : {f : List ℕ} {last : ℕ} {seen : Seen} (kind : ℕ) (p : List ℕ) → Kept f last seen → length p < 65536
+pub data GoodRecords : List ℕ → (last : ℕ) → Seen → Type 0 where
+  none : GoodRecords [] 0 nothingSeen
+  more : {f : List ℕ} {last : ℕ} {seen : Seen} (kind : ℕ) (p : List ℕ) → GoodRecords f last seen → length p < 65536
       → kind < 65536 → follows last kind ≡ true → keeps kind p seen ≡ true
-      → Kept (f ++ recordBytes kind p) kind (see kind p seen)
+      → GoodRecords (f ++ recordBytes kind p) kind (see kind p seen)
 
 -- these bytes begin with a whole record
 pub record Whole (b : List ℕ) : Type 0 where
@@ -95,15 +95,15 @@ pub data FirstOutsideOf (ts : List Table) : List Table → (at : ℕ) → Type 0
 -- is said here, and Models has a row for each rule
 pub data FirstBad (b : List ℕ) : (at : ℕ) → Type 0 where
   tooLong : 65536 < length b → FirstBad b 0
-  missing : {last : ℕ} {seen : Seen} → length b ≤ 65536 → Kept b last seen → (last ≡ 6 → ⊥) → FirstBad b (length b)
-  overruns : {last : ℕ} {seen : Seen} (f r : List ℕ) → length b ≤ 65536 → Kept f last seen → b ≡ f ++ r
+  missing : {last : ℕ} {seen : Seen} → length b ≤ 65536 → GoodRecords b last seen → (last ≡ 6 → ⊥) → FirstBad b (length b)
+  overruns : {last : ℕ} {seen : Seen} (f r : List ℕ) → length b ≤ 65536 → GoodRecords f last seen → b ≡ f ++ r
       → 0 < length r → (Whole r → ⊥) → FirstBad b (length f)
-  misplaced : {last : ℕ} {seen : Seen} (f r : List ℕ) → length b ≤ 65536 → Kept f last seen → b ≡ f ++ r
+  misplaced : {last : ℕ} {seen : Seen} (f r : List ℕ) → length b ≤ 65536 → GoodRecords f last seen → b ≡ f ++ r
       → (w : Whole r) → follows last (w .kind) ≡ false → FirstBad b (length f)
-  breaks : {last : ℕ} {seen : Seen} (f r : List ℕ) → length b ≤ 65536 → Kept f last seen → b ≡ f ++ r
+  breaks : {last : ℕ} {seen : Seen} (f r : List ℕ) → length b ≤ 65536 → GoodRecords f last seen → b ≡ f ++ r
       → (w : Whole r) → follows last (w .kind) ≡ true → keeps (w .kind) (w .payload) seen ≡ false
       → FirstBad b (length f)
-  outside : {seen : Seen} {m : Model} {at : ℕ} → length b ≤ 65536 → Kept b 6 seen
+  outside : {seen : Seen} {m : Model} {at : ℕ} → length b ≤ 65536 → GoodRecords b 6 seen
       → modelOf (recordsFrom 0 0 b) ≡ m → FirstOutsideOf (m .tables) (m .tables) at → FirstBad b at
 
 -- a model is called bad exactly at its first bad record
@@ -114,5 +114,5 @@ BadExactly = (b : List ℕ) (at : ℕ) → AreBytes b → (checkModel b ≡ bad 
 -- the byte of a reference is that of its record
 abbrev pub RecordsSay : Type 0
 RecordsSay =
-    (b : List ℕ) (seen : Seen) (m : Model) → AreBytes b → Kept b 6 seen → modelOf (recordsFrom 0 0 b) ≡ m
+    (b : List ℕ) (seen : Seen) (m : Model) → AreBytes b → GoodRecords b 6 seen → modelOf (recordsFrom 0 0 b) ≡ m
     → (b ≡ recordsOf m) × (placed m ≡ m)

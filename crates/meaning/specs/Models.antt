@@ -9,7 +9,7 @@ use Rattle.meaning.specs.Bytes.{bytesOf}
 use Rattle.meaning.specs.Answer.{Answer, accepted, refusal}
 use Rattle.meaning.specs.Compute.{computeCheck}
 use Rattle.meaning.specs.ModelBytes.{u16Bytes, u64Bytes, recordBytes}
-use Rattle.meaning.specs.Sample.{componentBytes}
+use Rattle.meaning.specs.Sample.{componentOfBits}
 use Rattle.meaning.specs.Refusals.{Row, row, asked}
 
 -- the records of transfer and model: 8 and 5 bytes, so that a topic is at byte 13
@@ -34,14 +34,14 @@ abbrev pub reference : ℕ → String → List ℕ
 reference target name = recordBytes 5 (0 ∷ 1 ∷ target ∷ 0 ∷ bytesOf name)
 
 abbrev pub number : (decimals least greatest : ℕ) → String → List ℕ
-number decimals least greatest name = recordBytes 5 (0 ∷ 4 ∷ (componentBytes decimals least greatest ++ bytesOf name))
+number decimals least greatest name = recordBytes 5 (0 ∷ 4 ∷ (componentOfBits decimals least greatest ++ bytesOf name))
 
 abbrev pub two : String → List ℕ
-two name = recordBytes 5 (0 ∷ 2 ∷ (componentBytes 0 0 9 ++ componentBytes 0 0 9 ++ bytesOf name))
+two name = recordBytes 5 (0 ∷ 2 ∷ (componentOfBits 0 0 9 ++ componentOfBits 0 0 9 ++ bytesOf name))
 
 abbrev pub three : String → List ℕ
 three name =
-    recordBytes 5 (0 ∷ 3 ∷ (componentBytes 0 0 9 ++ componentBytes 0 0 9 ++ componentBytes 0 0 9 ++ bytesOf name))
+    recordBytes 5 (0 ∷ 3 ∷ (componentOfBits 0 0 9 ++ componentOfBits 0 0 9 ++ componentOfBits 0 0 9 ++ bytesOf name))
 
 -- an enumeration of so many leaves
 abbrev pub leaves : ℕ → String → List ℕ
@@ -49,11 +49,11 @@ leaves count name = recordBytes 5 (0 ∷ 7 ∷ count ∷ 0 ∷ bytesOf name)
 
 -- a line of these forms; one of three components
 abbrev pub line : ℕ → String → List ℕ
-line forms name = recordBytes 5 (0 ∷ 8 ∷ forms ∷ 2 ∷ (componentBytes 0 0 9 ++ componentBytes 0 0 9 ++ bytesOf name))
+line forms name = recordBytes 5 (0 ∷ 8 ∷ forms ∷ 2 ∷ (componentOfBits 0 0 9 ++ componentOfBits 0 0 9 ++ bytesOf name))
 
 abbrev pub lineOfThree : String → List ℕ
 lineOfThree name = recordBytes 5
-    (0 ∷ 8 ∷ 3 ∷ 3 ∷ (componentBytes 0 0 9 ++ componentBytes 0 0 9 ++ componentBytes 0 0 9 ++ bytesOf name))
+    (0 ∷ 8 ∷ 3 ∷ 3 ∷ (componentOfBits 0 0 9 ++ componentOfBits 0 0 9 ++ componentOfBits 0 0 9 ++ bytesOf name))
 
 abbrev pub close : List ℕ
 close = recordBytes 6 []
@@ -63,17 +63,17 @@ abbrev pub oneTable : List ℕ → List ℕ
 oneTable attributes = head ++ (topic "N" ++ (table "A" ++ (attributes ++ close)))
 
 -- a name of two letters, another one for each number below 676
-abbrev pub nameOf : ℕ → List ℕ
-nameOf n = (0x41 + n / 26) ∷ (0x41 + n % 26) ∷ []
+abbrev pub twoLetters : ℕ → List ℕ
+twoLetters n = (0x41 + n / 26) ∷ (0x41 + n % 26) ∷ []
 
 -- so many topics of a table of a date, and so many dates
 unfoldable pub topics : ℕ → List ℕ
 topics zero = []
-topics (suc n) = recordBytes 3 (nameOf n) ++ (table "A" ++ (date "D" ++ topics n))
+topics (suc n) = recordBytes 3 (twoLetters n) ++ (table "A" ++ (date "D" ++ topics n))
 
 unfoldable pub attributes : ℕ → List ℕ
 attributes zero = []
-attributes (suc n) = recordBytes 5 (0 ∷ 6 ∷ nameOf n) ++ attributes n
+attributes (suc n) = recordBytes 5 (0 ∷ 6 ∷ twoLetters n) ++ attributes n
 
 -- what the check says of each model
 unfoldable pub checked : List Row → List Answer
@@ -169,7 +169,7 @@ badModels =
 -- a record and a component in their bytes: length and kind (u16), then the payload; decimals, -500 and 999 (i64 each),
 -- "all little-endian"
 pub each-record :
-    (recordBytes 5 (bytesOf "AB") ∷ componentBytes 2 (2 ^ 64 - 500) 999 ∷ [])
+    (recordBytes 5 (bytesOf "AB") ∷ componentOfBits 2 (2 ^ 64 - 500) 999 ∷ [])
     ≡ ((2 ∷ 0 ∷ 5 ∷ 0 ∷ 0x41 ∷ 0x42 ∷ [])
     ∷ (2 ∷ 0x0c ∷ 0xfe ∷ 0xff ∷ 0xff ∷ 0xff ∷ 0xff ∷ 0xff ∷ 0xff ∷ 0xe7 ∷ 0x03 ∷ 0 ∷ 0 ∷ 0 ∷ 0 ∷ 0 ∷ 0 ∷ [])
     ∷ [])

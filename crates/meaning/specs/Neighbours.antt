@@ -14,7 +14,7 @@ use Rattle.meaning.specs.Width.{Written}
 use Rattle.meaning.specs.Listing.{listingRooms}
 use Rattle.meaning.specs.Compute.{computeListing, computeRead, computeWrite}
 use Rattle.meaning.specs.ModelBytes.{u16Bytes, u64Bytes, recordBytes}
-use Rattle.meaning.specs.Sample.{componentBytes, lage, sampleModel, with7}
+use Rattle.meaning.specs.Sample.{componentOfBits, lage, sampleModel, with7}
 
 -- ## A model of one table: a mandatory date D, an optional text X and a mandatory text Y of 4 bytes; its topic's name
 -- has 24 bytes
@@ -152,8 +152,8 @@ wideModel =
     ++ recordBytes 3 (bytesOf "N")
     ++ recordBytes 4 (0 ∷ bytesOf "A")
     ++ recordBytes 5 (0 ∷ 7 ∷ 3 ∷ 0 ∷ bytesOf "E")
-    ++ recordBytes 5 (1 ∷ 3 ∷ (lage ++ componentBytes 0 0 9 ++ bytesOf "P"))
-    ++ recordBytes 5 (1 ∷ 8 ∷ 3 ∷ 3 ∷ (lage ++ componentBytes 0 0 9 ++ bytesOf "L"))
+    ++ recordBytes 5 (1 ∷ 3 ∷ (lage ++ componentOfBits 0 0 9 ++ bytesOf "P"))
+    ++ recordBytes 5 (1 ∷ 8 ∷ 3 ∷ 3 ∷ (lage ++ componentOfBits 0 0 9 ++ bytesOf "L"))
     ++ recordBytes 5 (1 ∷ 1 ∷ 0 ∷ 0 ∷ bytesOf "R")
     ++ recordBytes 3 (bytesOf "O")
     ++ recordBytes 4 (1 ∷ bytesOf "B")

@@ -14,7 +14,7 @@ use Rattle.meaning.specs.Width.{goesWhole, cutIn, cutLine}
 use Rattle.meaning.specs.Listing.{listingRooms}
 use Rattle.meaning.specs.Compute.{computeRead, computeUnfold, computeWrite}
 use Rattle.meaning.specs.ModelBytes.{u16Bytes, u64Bytes, recordBytes}
-use Rattle.meaning.specs.Sample.{componentBytes}
+use Rattle.meaning.specs.Sample.{componentOfBits}
 
 -- ## A model with three tables
 -- A  an optional text X of 2 bytes, an optional coordinate P and an optional reference R to A
@@ -23,7 +23,7 @@ use Rattle.meaning.specs.Sample.{componentBytes}
 
 -- no decimals, 0 to 9
 abbrev pub digitBytes : List ℕ
-digitBytes = componentBytes 0 0 9
+digitBytes = componentOfBits 0 0 9
 
 unfoldable pub smallModel : List ℕ
 unfolding recordBytes u16Bytes u64Bytes

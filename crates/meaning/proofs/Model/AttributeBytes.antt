@@ -14,7 +14,7 @@ use borrow.Author.Tests.{ltb-true, lt-ltb, le-leb, eqb-true}
 use Rattle.meaning.specs.Bytes.{choose, allOf, byteAt}
 use Rattle.meaning.specs.Model.{Component, AttributeType, Reference, Coordinate, Number, Text, Date, Enumeration, Line, Attribute, flagOf, componentOf, componentsOf, dimensionOf, typeOf, parametersSize, attributeOf}
 use Rattle.meaning.specs.Check.{Seen, isBound, goodComponent, goodComponents, isDimension, goodType, isName, isFlag, isType, isAmong, keepsAttribute}
-use Rattle.meaning.specs.ModelBytes.{u16Bytes, bitsOf, u64Bytes, componentBytes, componentsBytes, typeBytes, flagByte}
+use Rattle.meaning.specs.ModelBytes.{u16Bytes, bitsOf, u64Bytes, componentBytes, componentsBytes, typeParameters, flagByte}
 use Rattle.meaning.proofs.Tests.Refuse.{both, holds}
 use Rattle.meaning.proofs.Model.RecordBytes.{u16-read, i64-read}
 
@@ -64,9 +64,9 @@ dimensions n h = go (eqb n 2) refl
 
 -- the type's number and the parameters with the name behind them say the type, and where the name begins
 pub record TypeRead (type : AttributeType) (name : List ℕ) : Type 0 where
-  pub is : typeOf (byteAt (typeBytes type ++ name) 0) (drop 1 (typeBytes type ++ name)) ≡ type
-  pub behind : drop (parametersSize (byteAt (typeBytes type ++ name) 0) (drop 1 (typeBytes type ++ name))) (drop 1 (typeBytes type ++ name)) ≡ name
-  pub rules : isType (byteAt (typeBytes type ++ name) 0) (drop 1 (typeBytes type ++ name)) ≡ true
+  pub is : typeOf (byteAt (typeParameters type ++ name) 0) (drop 1 (typeParameters type ++ name)) ≡ type
+  pub behind : drop (parametersSize (byteAt (typeParameters type ++ name) 0) (drop 1 (typeParameters type ++ name))) (drop 1 (typeParameters type ++ name)) ≡ name
+  pub rules : isType (byteAt (typeParameters type ++ name) 0) (drop 1 (typeParameters type ++ name)) ≡ true
 
 -- a type's rules, from the type that is read
 type-rules : (t : ℕ) (p : List ℕ) (type : AttributeType) → typeOf t p ≡ type → goodType type ≡ true → 1 ≤ t → t ≤ 8 → (not (eqb t 8) || isDimension (byteAt p 1)) ≡ true → isType t p ≡ true
@@ -97,7 +97,7 @@ unfolding u16Bytes
 number-behind n rest = refl
 
 pub type-read : (type : AttributeType) (name : List ℕ) → goodType type ≡ true → TypeRead type name
-unfolding typeOf parametersSize typeBytes choose goodType
+unfolding typeOf parametersSize typeParameters choose goodType
 type-read (Reference t) name g =
     let i = ap Reference (u16-read t name) in
     record { is = i; behind = number-behind t name; rules = type-rules 1 _ _ i g (omega arith) (omega arith) refl }
@@ -124,7 +124,7 @@ type-read (Line forms cs) name g =
 
 -- the payload of an attribute's record
 abbrev pub attributePayload : Attribute → List ℕ
-attributePayload a = flagByte (a .optional) ∷ (typeBytes (a .type) ++ a .name)
+attributePayload a = flagByte (a .optional) ∷ (typeParameters (a .type) ++ a .name)
 
 pub flag-read : (o : Bool) (p : List ℕ) → flagOf (flagByte o ∷ p) ≡ o
 unfolding flagOf flagByte
@@ -139,14 +139,14 @@ is-flag false p = rw (le-leb 1 (suc (length p)) (omega arith))
 module _ (a : Attribute) (g : goodType (a .type) ≡ true) where
   pub name-read : (at : ℕ) → attributeOf at (attributePayload a) .name ≡ a .name
   unfolding attributeOf
-  name-read at = sym (drop-drop (parametersSize (byteAt (typeBytes (a .type) ++ a .name) 0) (drop 1 (typeBytes (a .type) ++ a .name))) 2 (attributePayload a)) ∙ type-read (a .type) (a .name) g .behind
+  name-read at = sym (drop-drop (parametersSize (byteAt (typeParameters (a .type) ++ a .name) 0) (drop 1 (typeParameters (a .type) ++ a .name))) 2 (attributePayload a)) ∙ type-read (a .type) (a .name) g .behind
 
   pub attribute-read : (at : ℕ) → attributeOf at (attributePayload a) ≡ record { at = at; optional = a .optional; type = a .type; name = a .name }
   unfolding attributeOf
-  attribute-read at = rw (flag-read (a .optional) (typeBytes (a .type) ++ a .name), type-read (a .type) (a .name) g .is, name-read at)
+  attribute-read at = rw (flag-read (a .optional) (typeParameters (a .type) ++ a .name), type-read (a .type) (a .name) g .is, name-read at)
 
   pub attribute-keeps : (seen : Seen) → isName 24 (a .name) ≡ true → length (seen .attributes) < 64 → isAmong (a .name) (seen .attributes) ≡ false → keepsAttribute (attributePayload a) seen ≡ true
   unfolding keepsAttribute allOf
   attribute-keeps seen n l f =
       let e = name-read 0 in
-      rw (is-flag (a .optional) (typeBytes (a .type) ++ a .name), type-read (a .type) (a .name) g .rules, e, n, lt-ltb (length (seen .attributes)) 64 l, f)
+      rw (is-flag (a .optional) (typeParameters (a .type) ++ a .name), type-read (a .type) (a .name) g .rules, e, n, lt-ltb (length (seen .attributes)) 64 l, f)

@@ -11,7 +11,7 @@ use Rattle.meaning.specs.Bytes.{choose, refuse, byteAt}
 use Rattle.meaning.specs.Model.{Records, finish, overrun, entry, recordsFrom, Attribute, Table, Model, flagOf, attributeOf, attributesOf, tablesOf, topicsOf, nameOf, modelOf}
 use Rattle.meaning.specs.Check.{Checked, good, Seen, nothingSeen, follows, keeps, see, checkRecords, checkModel, tableNames}
 use Rattle.meaning.specs.ModelBytes.{isU16, areU16, allU16, recordBytes, attributeRecord, attributeRecords, tableRecord, tableRecords, tablesIn, topicRecords, transferRecord, recordsOf, placeAttributes, placeTables, placeTopics, placed}
-use Rattle.meaning.specs.ModelClaims.{AreBytes, Kept, Whole, RecordsSay, IsModel}
+use Rattle.meaning.specs.ModelClaims.{AreBytes, GoodRecords, Whole, RecordsSay, IsModel}
 use Rattle.meaning.proofs.Model.Marks.{bad-good, passed, is-transfer}
 use Rattle.meaning.proofs.Model.GoodModels.{checked-good, names-later}
 use Rattle.meaning.proofs.Model.Standing.{entry-passes, nothing-more, kind-two, kind-three, kind-four, kind-five, kind-any, opened}
@@ -321,7 +321,7 @@ bytes-decoded b u m h k =
     (w .0 ∙ d .0, d .1, d .2)
 
 -- records that keep the rules up to the end record pass
-kept-passes : {b : List ℕ} {seen : Seen} (m : Model) → Kept b 6 seen → checkRecords 0 nothingSeen (recordsFrom 0 0 b) (good m) ≡ good m
+kept-passes : {b : List ℕ} {seen : Seen} (m : Model) → GoodRecords b 6 seen → checkRecords 0 nothingSeen (recordsFrom 0 0 b) (good m) ≡ good m
 unfolding recordsFrom checkRecords refuse
 kept-passes {b} m k = subst (λ (l : List ℕ). checkRecords 0 nothingSeen (recordsFrom 0 0 l) (good m) ≡ good m) (append-nil b) (kept-read k [] (good m))
 

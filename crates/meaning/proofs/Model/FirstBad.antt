@@ -11,7 +11,7 @@ use Rattle.meaning.specs.Bytes.{refuse}
 use Rattle.meaning.specs.Model.{Records, finish, overrun, entry, recordsFrom, Attribute, Table, Model, targetOf, modelOf}
 use Rattle.meaning.specs.Check.{Checked, good, bad, Seen, nothingSeen, follows, keeps, see, isOutside, judgeAttributes, judgeReferences, checkRecords, checkModel}
 use Rattle.meaning.specs.ModelBytes.{recordBytes}
-use Rattle.meaning.specs.ModelClaims.{AreBytes, Kept, Whole, FirstOutside, AllInside, FirstOutsideOf, FirstBad, BadExactly}
+use Rattle.meaning.specs.ModelClaims.{AreBytes, GoodRecords, Whole, FirstOutside, AllInside, FirstOutsideOf, FirstBad, BadExactly}
 use Rattle.meaning.proofs.Model.Marks.{bad-good}
 use Rattle.meaning.proofs.Model.RecordBytes.{record-length, record-first}
 use Rattle.meaning.proofs.Model.WholeRecords.{behind-bytes, First, first, whole-rest, whole-read}
@@ -64,9 +64,9 @@ unfolding checkRecords refuse
 entry-kept last at kind seen p others u fits rules = rw (fits, rules)
 
 -- behind them the check goes on
-pub kept-read : {f : List ℕ} {last : ℕ} {seen : Seen} → Kept f last seen → (r : List ℕ) (u : Checked) → checkRecords 0 nothingSeen (recordsFrom 0 0 (f ++ r)) u ≡ checkRecords last seen (recordsFrom 0 (length f) r) u
-kept-read Kept.none r u = refl
-kept-read (Kept.more {f = f} {last = last} {seen = seen} kind p k l n fits rules) r u =
+pub kept-read : {f : List ℕ} {last : ℕ} {seen : Seen} → GoodRecords f last seen → (r : List ℕ) (u : Checked) → checkRecords 0 nothingSeen (recordsFrom 0 0 (f ++ r)) u ≡ checkRecords last seen (recordsFrom 0 (length f) r) u
+kept-read GoodRecords.none r u = refl
+kept-read (GoodRecords.more {f = f} {last = last} {seen = seen} kind p k l n fits rules) r u =
     rw (append-assoc f (recordBytes kind p) r, behind f kind p) (kept-read k (recordBytes kind p ++ r) u
     ∙ ap (λ (rs : Records). checkRecords last seen rs u) (record-first (length f) kind p r)
     ∙ entry-kept last (length f) kind seen p (recordsFrom 0 (length f + 4 + length p) r) u fits rules)
@@ -82,7 +82,7 @@ module _ (b : List ℕ) (bytes : AreBytes b) where
   unfolding checkModel refuse
   short-checked s = rw (le-ltb 65536 (length b) s)
 
-  module _ (short : length b ≤ 65536) {last : ℕ} {seen : Seen} (f r : List ℕ) (k : Kept f last seen) (e : b ≡ f ++ r) where
+  module _ (short : length b ≤ 65536) {last : ℕ} {seen : Seen} (f r : List ℕ) (k : GoodRecords f last seen) (e : b ≡ f ++ r) where
     goes-on : checkModel b ≡ checkRecords last seen (recordsFrom 0 (length f) r) last-judged
     goes-on = short-checked short ∙ ap (λ (l : List ℕ). checkRecords 0 nothingSeen (recordsFrom 0 0 l) last-judged) e ∙ kept-read k r last-judged
 
@@ -104,7 +104,7 @@ module _ (b : List ℕ) (bytes : AreBytes b) where
         go false y p q = rw p
 
   -- nothing left: the references are judged
-  end-judged : {seen : Seen} → length b ≤ 65536 → Kept b 6 seen → checkModel b ≡ last-judged
+  end-judged : {seen : Seen} → length b ≤ 65536 → GoodRecords b 6 seen → checkModel b ≡ last-judged
   unfolding checkRecords refuse recordsFrom
   end-judged short k = goes-on short b [] k (sym (append-nil b))
 
@@ -125,30 +125,30 @@ module _ (b : List ℕ) (bytes : AreBytes b) where
 
   module _ (short : length b ≤ 65536) where
     -- at the end of the bytes
-    end-found : {last : ℕ} {seen : Seen} (f : List ℕ) (at : ℕ) → Kept f last seen → b ≡ f ++ [] → checkRecords last seen (finish (length f)) last-judged ≡ bad at → FirstBad b at
+    end-found : {last : ℕ} {seen : Seen} (f : List ℕ) (at : ℕ) → GoodRecords f last seen → b ≡ f ++ [] → checkRecords last seen (finish (length f)) last-judged ≡ bad at → FirstBad b at
     unfolding checkRecords refuse
-    end-found {last} {seen} f at k e h = go (eqb last 6) refl (subst (λ (l : List ℕ). Kept l last seen) same k)
+    end-found {last} {seen} f at k e h = go (eqb last 6) refl (subst (λ (l : List ℕ). GoodRecords l last seen) same k)
       where
         same : f ≡ b
         same = sym (e ∙ append-nil f)
 
-        go : (x : Bool) → eqb last 6 ≡ x → Kept b last seen → FirstBad b at
+        go : (x : Bool) → eqb last 6 ≡ x → GoodRecords b last seen → FirstBad b at
         go true q kept =
             let six : last ≡ 6 = eqb-true last 6 q in
             let j : last-judged ≡ bad at = rw six at h in
-            FirstBad.outside short (subst (λ (n : ℕ). Kept b n seen) six kept) refl (references-bad _ _ _ at j)
+            FirstBad.outside short (subst (λ (n : ℕ). GoodRecords b n seen) six kept) refl (references-bad _ _ _ at j)
         go false q kept =
             let j : bad (length f) ≡ bad at = rw q at h in
             subst (FirstBad b) (ap length (sym same) ∙ same-bad (length f) at j) (FirstBad.missing short kept (eqb-false last 6 q))
 
-    module _ {last : ℕ} {seen : Seen} (f r : List ℕ) (at : ℕ) (k : Kept f last seen) (e : b ≡ f ++ r) (h : checkRecords last seen (recordsFrom 0 (length f) r) last-judged ≡ bad at) where
+    module _ {last : ℕ} {seen : Seen} (f r : List ℕ) (at : ℕ) (k : GoodRecords f last seen) (e : b ≡ f ++ r) (h : checkRecords last seen (recordsFrom 0 (length f) r) last-judged ≡ bad at) where
       -- a record that overruns
       over-found : 0 < length r → recordsFrom 0 (length f) r ≡ overrun (length f) → (Whole r → ⊥) → FirstBad b at
       unfolding checkRecords
       over-found l q n = let j : bad (length f) ≡ bad at = rw q at h in subst (FirstBad b) (same-bad (length f) at j) (FirstBad.overruns f r short k e l n)
 
       -- a whole one: it is bad, or keeps the rules and the check goes on behind it
-      whole-found : (w : Whole r) → (Kept (f ++ recordBytes (w .kind) (w .payload)) (w .kind) (see (w .kind) (w .payload) seen) → b ≡ f ++ recordBytes (w .kind) (w .payload) ++ w .others
+      whole-found : (w : Whole r) → (GoodRecords (f ++ recordBytes (w .kind) (w .payload)) (w .kind) (see (w .kind) (w .payload) seen) → b ≡ f ++ recordBytes (w .kind) (w .payload) ++ w .others
           → checkRecords (w .kind) (see (w .kind) (w .payload) seen) (recordsFrom 0 (length (f ++ recordBytes (w .kind) (w .payload))) (w .others)) last-judged ≡ bad at → FirstBad b at) → FirstBad b at
       unfolding checkRecords refuse
       whole-found w on = go (follows last (w .kind)) (keeps (w .kind) (w .payload) seen) refl refl
@@ -158,13 +158,13 @@ module _ (b : List ℕ) (bytes : AreBytes b) where
 
           go : (x y : Bool) → follows last (w .kind) ≡ x → keeps (w .kind) (w .payload) seen ≡ y → FirstBad b at
           go true true p q =
-              on (Kept.more (w .kind) (w .payload) k (w .size) (w .kinds) p q) (e ∙ ap (λ (l : List ℕ). f ++ l) (w .is) ∙ sym (append-assoc f _ _)) (rw (behind f (w .kind) (w .payload)) (rw (p, q) at j))
+              on (GoodRecords.more (w .kind) (w .payload) k (w .size) (w .kinds) p q) (e ∙ ap (λ (l : List ℕ). f ++ l) (w .is) ∙ sym (append-assoc f _ _)) (rw (behind f (w .kind) (w .payload)) (rw (p, q) at j))
           go true false p q = let z : bad (length f) ≡ bad at = rw (p, q) at j in subst (FirstBad b) (same-bad (length f) at z) (FirstBad.breaks f r short k e w p q)
           go false y p q = let z : bad (length f) ≡ bad at = rw p at j in subst (FirstBad b) (same-bad (length f) at z) (FirstBad.misplaced f r short k e w p)
 
     -- behind records that keep the rules, with so many bytes left at most
     abbrev Found : (n at : ℕ) → Type 0
-    Found n at = (last : ℕ) (seen : Seen) (f r : List ℕ) → length r ≤ n → Kept f last seen → b ≡ f ++ r → checkRecords last seen (recordsFrom 0 (length f) r) last-judged ≡ bad at → FirstBad b at
+    Found n at = (last : ℕ) (seen : Seen) (f r : List ℕ) → length r ≤ n → GoodRecords f last seen → b ≡ f ++ r → checkRecords last seen (recordsFrom 0 (length f) r) last-judged ≡ bad at → FirstBad b at
 
     found : (n at : ℕ) → Found n at
     unfolding recordsFrom
@@ -183,7 +183,7 @@ module _ (b : List ℕ) (bytes : AreBytes b) where
     where
       go : (x : Bool) → ltb 65536 (length b) ≡ x → FirstBad b at
       go true e = let z : bad 0 ≡ bad at = rw e at h in subst (FirstBad b) (same-bad 0 at z) (FirstBad.tooLong (ltb-true 65536 (length b) e))
-      go false e = let short = ltb-false 65536 (length b) e in found short (length b) at 0 nothingSeen [] b (omega arith) Kept.none refl (sym (short-checked short) ∙ h)
+      go false e = let short = ltb-false 65536 (length b) e in found short (length b) at 0 nothingSeen [] b (omega arith) GoodRecords.none refl (sym (short-checked short) ∙ h)
 
 pub bad-exactly : BadExactly
 bad-exactly b at bytes = (found-there b bytes at, bad-there b bytes)

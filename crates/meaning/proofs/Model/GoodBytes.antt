@@ -12,7 +12,7 @@ use borrow.Author.Tests.{ltb-true, ltb-false, lt-ltb, leb-true, le-leb, lt-leb, 
 use Rattle.meaning.specs.Bytes.{permitted, every}
 use Rattle.meaning.specs.Model.{Component, AttributeType, Reference, Coordinate, Number, Text, Date, Enumeration, Line, targetOf, Attribute, Table}
 use Rattle.meaning.specs.Check.{special, isBound, isName, goodComponent, goodComponents, isDimension, goodType, isOutside, goodNames, attributeNames, tableNames, goodTypes}
-use Rattle.meaning.specs.ModelBytes.{u16Bytes, bitsOf, u64Bytes, isU16, areU16, allU16, recordBytes, componentBytes, componentsBytes, typeBytes, flagByte, attributeRecord, attributeRecords, tableRecord, tableRecords, tablesIn, topicRecords, transferRecord, recordsOf}
+use Rattle.meaning.specs.ModelBytes.{u16Bytes, bitsOf, u64Bytes, isU16, areU16, allU16, recordBytes, componentBytes, componentsBytes, typeParameters, flagByte, attributeRecord, attributeRecords, tableRecord, tableRecords, tablesIn, topicRecords, transferRecord, recordsOf}
 use Rattle.meaning.specs.ModelClaims.{AreBytes, GoodBytes}
 use Rattle.meaning.proofs.Tests.Refuse.{both, holds, no-false}
 use Rattle.meaning.proofs.Values.Digits.{every-append, every-kind}
@@ -111,8 +111,8 @@ module _ (ts : List Table) (topic : ℕ) (few : length ts ≤ 512) where
   unfolding isOutside targetOf
   target-below t i = let l = ltb-true t (length ts) (both (ltb t (length ts)) _ (not-false _ i) .0) in omega arith
 
-  type-small : (type : AttributeType) → goodType type ≡ true → isU16 type ≡ true → isOutside ts topic (targetOf type) ≡ false → Small (typeBytes type)
-  unfolding typeBytes goodType isU16
+  type-small : (type : AttributeType) → goodType type ≡ true → isU16 type ≡ true → isOutside ts topic (targetOf type) ≡ false → Small (typeParameters type)
+  unfolding typeParameters goodType isU16
   type-small (Reference t) g u i = let l = target-below t i in number-small 1 t (omega arith) (omega arith)
   type-small (Coordinate cs) g u i =
       let n = dimension-few (length cs) (holds _ 0 g) in
@@ -148,10 +148,10 @@ module _ (all : List Table) (few : length all ≤ 512) where
   attributes-bytes topic [] n g u = none
   attributes-bytes topic (a ∷ others) n g u =
       let q = both (isU16 (a .type)) _ u in
-      let t : Small (typeBytes (a .type)) = type-small all topic few (a .type) (holds _ 0 g) (q .0) (not-true _ (holds _ 1 g)) in
+      let t : Small (typeParameters (a .type)) = type-small all topic few (a .type) (holds _ 0 g) (q .0) (not-true _ (holds _ 1 g)) in
       let name : isName 24 (a .name) ≡ true = holds _ 0 n in
-      let size : length (typeBytes (a .type) ++ a .name) ≤ 54 + 24 = omega (arith, length-append (typeBytes (a .type)) (a .name), t .few, name-length 24 (a .name) name) in
-      let payload : AreBytes (flagByte (a .optional) ∷ (typeBytes (a .type) ++ a .name)) = more _ _ (flag-small (a .optional)) (every-append _ (typeBytes (a .type)) (a .name) (t .are) (name-bytes 24 (a .name) name)) in
+      let size : length (typeParameters (a .type) ++ a .name) ≤ 54 + 24 = omega (arith, length-append (typeParameters (a .type)) (a .name), t .few, name-length 24 (a .name) name) in
+      let payload : AreBytes (flagByte (a .optional) ∷ (typeParameters (a .type) ++ a .name)) = more _ _ (flag-small (a .optional)) (every-append _ (typeParameters (a .type)) (a .name) (t .are) (name-bytes 24 (a .name) name)) in
       every-append _ (attributeRecord a) _ (record-bytes 5 _ (omega arith) (omega arith) payload) (attributes-bytes topic others (holds _ 2 n) (holds _ 2 g) (q .1))
 
   tables-bytes : (ts : List Table) → goodNames (namesOf ts) ≡ true → Each (GoodTable all) ts → Sized ts → AreBytes (tableRecords ts)

@@ -12,7 +12,7 @@ use borrow.Author.Tests.{leb-true, le-leb, eqb-true, eqb-false}
 use Rattle.meaning.specs.Bytes.{choose, byteAt, u16At, u64At, twos, i64At}
 use Rattle.meaning.specs.Model.{AttributeType, flagOf, componentOf, componentsOf, dimensionOf, typeOf, parametersSize, attributeOf}
 use Rattle.meaning.specs.Check.{Seen, isFlag, isDimension, isType, keepsTransfer, keepsTable, keepsAttribute}
-use Rattle.meaning.specs.ModelBytes.{bitsOf, u64Bytes, isU16, componentBytes, componentsBytes, typeBytes, flagByte}
+use Rattle.meaning.specs.ModelBytes.{bitsOf, u64Bytes, isU16, componentBytes, componentsBytes, typeParameters, flagByte}
 use Rattle.meaning.specs.ModelClaims.{AreBytes}
 use Rattle.meaning.proofs.Tests.Refuse.{choose-keeps, both, holds}
 use Rattle.meaning.proofs.Lists.{drop-next}
@@ -127,8 +127,8 @@ unfolding isType
 line-dimension p k = holds _ 2 k
 
 -- a type's number and its parameters
-type-written : (t : ℕ) (p : List ℕ) → AreBytes p → isType t p ≡ true → parametersSize t p ≤ length p → t ∷ p ≡ typeBytes (typeOf t p) ++ drop (parametersSize t p) p
-unfolding parametersSize typeOf typeBytes choose
+type-written : (t : ℕ) (p : List ℕ) → AreBytes p → isType t p ≡ true → parametersSize t p ≤ length p → t ∷ p ≡ typeParameters (typeOf t p) ++ drop (parametersSize t p) p
+unfolding parametersSize typeOf typeParameters choose
 type-written zero p h k l = let n = type-number 0 p k in absurd (omega arith)
 type-written (suc zero) p h k l = ap (λ (s : List ℕ). 1 ∷ s) (u16-written p 0 h l)
 type-written (suc (suc zero)) p h k l = coordinate-written 2 p h l
@@ -177,12 +177,12 @@ table-written p seen k = flag-written p (holds _ 0 k)
 
 module _ (at : ℕ) (p : List ℕ) (h : AreBytes p) where
   -- whether an attribute is optional, its type and its name
-  pub attribute-written : (seen : Seen) → keepsAttribute p seen ≡ true → p ≡ flagByte (attributeOf at p .optional) ∷ (typeBytes (attributeOf at p .type) ++ attributeOf at p .name)
+  pub attribute-written : (seen : Seen) → keepsAttribute p seen ≡ true → p ≡ flagByte (attributeOf at p .optional) ∷ (typeParameters (attributeOf at p .type) ++ attributeOf at p .name)
   unfolding keepsAttribute attributeOf
   attribute-written seen k =
       let size : ℕ = parametersSize (byteAt p 1) (drop 2 p) in
       let l : 2 + size < length p = no-letter 24 (2 + size) p (holds _ 2 k) in
-      let t : byteAt p 1 ∷ drop 2 p ≡ typeBytes (typeOf (byteAt p 1) (drop 2 p)) ++ drop size (drop 2 p) =
+      let t : byteAt p 1 ∷ drop 2 p ≡ typeParameters (typeOf (byteAt p 1) (drop 2 p)) ++ drop size (drop 2 p) =
       type-written (byteAt p 1) (drop 2 p) (every-drop _ 2 p h) (holds _ 1 k) (rw (length-drop 2 p) (omega arith)) in
       flag-written p (holds _ 0 k) ∙ ap (λ (s : List ℕ). flagByte (flagOf p) ∷ s) (drop-next p 1 0 (omega arith) ∙ t ∙ rw (drop-drop size 2 p))
 
