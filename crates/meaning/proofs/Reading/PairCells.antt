@@ -1,6 +1,6 @@
 -- The cells of a pair from its field, one rule for each thing that the field may say. Assumes nothing.
 use Prim.Native.Nat.{ℕ, _+_}
-use mathlib.Core.Path.{_≡_, refl, sym, subst, _∙_}
+use mathlib.Core.Path.{_≡_, refl, sym, ap, subst, _∙_}
 use mathlib.Core.Bool.{Bool, true, false, not, _||_, true≢false, false≢true}
 use mathlib.Core.List.{List, [], _∷_}
 use mathlib.Core.Logic.{_↔_}
@@ -80,6 +80,12 @@ covered-true : (may : Bool) (ps : List Pair) → (may ≡ true → hasMandatory 
 covered-true true ps h = h refl
 covered-true false ps h = refl
 
+-- two undefined bytes are refused by this test
+on-tested : (b : Bool) (place : ℕ) (p : Pair) (ps : List Pair) (f : Field) (fs : List Field) (others : Cells) (t : Bool) → (not (mayBeUndefined b p) || hasMandatory ps) ≡ t
+    → fieldCells nothingOn b place p ps f fs others ≡ refuse t (refused 12 place) (undefinedRest place (p ∷ ps) fs)
+unfolding fieldCells
+on-tested b place p ps f fs others t e = ap (λ (x : Bool). refuse x (refused 12 place) (undefinedRest place (p ∷ ps) fs)) e
+
 -- by cases of a test that holds exactly when something is so
 so-or-not : (t : Bool) {P C : Type 0} → (t ≡ true) ↔ P → (P → C) → ((P → ⊥) → C) → C
 so-or-not true s h k = h (s .0 refl)
@@ -92,8 +98,8 @@ module _ {u : ℕ} {b : Bool} {place : ℕ} {p : Pair} {type : AttributeType} {p
   field-is (FieldRead.mixed d never) = field-cells of u b place ps f fs ∙ rw (says-value u f d, no-true (mayBeDefined b p) (λ e. never (may-defined of b .0 e)))
   field-is (FieldRead.undefined h may) = field-cells of u b place ps f fs ∙ rw (says-nothing u f h, may-undefined of b .1 may)
   field-is (FieldRead.mandatory h never) = field-cells of u b place ps f fs ∙ rw (says-nothing u f h, no-true (mayBeUndefined b p) (λ e. never (may-undefined of b .0 e)))
-  field-is (FieldRead.twice h may none) = field-cells of u b place ps f fs ∙ rw (says-on u f h, may-undefined of b .1 may, none)
-  field-is (FieldRead.covers h some) = field-cells of u b place ps f fs ∙ rw (says-on u f h, covered-true (mayBeUndefined b p) ps (λ e. some (may-undefined of b .0 e)))
+  field-is (FieldRead.twice h may none) = field-cells of u b place ps f fs ∙ rw (says-on u f h) (on-tested b place p ps f fs (pairCells u false (place + 1) ps fs) false (rw (may-undefined of b .1 may, none)))
+  field-is (FieldRead.covers h some) = field-cells of u b place ps f fs ∙ rw (says-on u f h) (on-tested b place p ps f fs (pairCells u false (place + 1) ps fs) true (covered-true (mayBeUndefined b p) ps (λ e. some (may-undefined of b .0 e))))
 
   by-rule : {k : Cells} → FieldRead u b place p type ps f fs k → FieldRead u b place p type ps f fs (pairCells u b place (p ∷ ps) (f ∷ fs))
   by-rule r = subst (FieldRead u b place p type ps f fs) (sym (field-is r)) r
