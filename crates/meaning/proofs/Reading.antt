@@ -2,6 +2,7 @@ pub mod Rooms
 pub mod Fields
 pub mod Buffers
 pub mod Stretches
+pub mod PairCells
 pub mod FieldsRead
 pub mod PointsRead
 pub mod References

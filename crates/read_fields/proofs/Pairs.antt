@@ -10,8 +10,8 @@ use Rattle.meaning.specs.Bytes.{choose, refuse}
 use Rattle.meaning.specs.Model.{Component, AttributeType, Number}
 use Rattle.meaning.specs.Field.{Field}
 use Rattle.meaning.specs.Value.{pair, wrong, valueOf, isUndefined, isUndefinedTwice}
-use Rattle.meaning.specs.Row.{Pair, OfAttribute, OfComponent, OfLine, Cells, cells, refused, putPair, definedOr, undefinedCells, undefinedRest, pairCells}
-use Rattle.read_fields.specs.RowProgress.{zeros, prefixed, coveredCells, covered, dueCells}
+use Rattle.meaning.specs.Row.{Pair, OfAttribute, OfComponent, OfLine, Cells, cells, refused, putPair, undefinedCells, undefinedRest, saidBy, isValue, mayBeDefined, mayBeUndefined, valueOfPair, fieldCells, pairCells}
+use Rattle.read_fields.specs.RowProgress.{zeros, prefixed, coveredCells, covered, definedOr, dueCells}
 
 -- ## Cells before others
 
@@ -44,26 +44,43 @@ rest-covered place p ps (f ∷ fs) = refl
 
 -- ## The pairs of an attribute
 
-either-swapped : (o d : Bool) → (not d && not o) ≡ (not o && not d || false && d)
-either-swapped true true = refl
-either-swapped true false = refl
-either-swapped false true = refl
-either-swapped false false = refl
+needed-alone : (needed forbidden : Bool) → (needed && true || forbidden && false) ≡ needed
+needed-alone true forbidden = refl
+needed-alone false true = refl
+needed-alone false false = refl
+
+forbidden-alone : (needed forbidden : Bool) → (needed && false || forbidden && true) ≡ forbidden
+forbidden-alone true true = refl
+forbidden-alone true false = refl
+forbidden-alone false true = refl
+forbidden-alone false false = refl
+
+-- a pair's field is due as the pair may be
+field-due : (u : ℕ) (before : Bool) (place : ℕ) (p : Pair) (type : AttributeType) (ps : List Pair) (f : Field) (fs : List Field) → valueOfPair p f ≡ valueOf type f
+    → fieldCells (saidBy u f) before place p ps f fs (pairCells u (isValue (saidBy u f)) (place + 1) ps fs) ≡ dueCells u (not (mayBeUndefined before p)) (not (mayBeDefined before p)) place type ps (f ∷ fs)
+unfolding saidBy isValue fieldCells dueCells choose definedOr
+field-due u before place p type ps f fs v = by (isUndefinedTwice u f) (isUndefined u f) refl refl
+  where
+    by : (two one : Bool) → isUndefinedTwice u f ≡ two → isUndefined u f ≡ one
+        → fieldCells (saidBy u f) before place p ps f fs (pairCells u (isValue (saidBy u f)) (place + 1) ps fs) ≡ dueCells u (not (mayBeUndefined before p)) (not (mayBeDefined before p)) place type ps (f ∷ fs)
+    by true one h g = rw (h, rest-covered place p ps fs)
+    by false true h g = rw (h, g, needed-alone (not (mayBeUndefined before p)) (not (mayBeDefined before p)))
+    by false false h g = rw (h, g, v, forbidden-alone (not (mayBeUndefined before p)) (not (mayBeDefined before p)))
 
 -- an attribute's own field
 pub own : (u : ℕ) (before : Bool) (place : ℕ) (o : Bool) (type : AttributeType) (ps : List Pair) (fs : List Field)
     → pairCells u before place (OfAttribute o type ∷ ps) fs ≡ dueCells u (not o) false place type ps fs
-unfolding pairCells dueCells
+unfolding pairCells dueCells mayBeDefined mayBeUndefined valueOfPair
 own u before place o type ps [] = refl
-own u before place o type ps (f ∷ fs) =
-    rw (rest-covered place (OfAttribute o type) ps fs, either-swapped o (not (isUndefined u f)))
+own u before place o type ps (f ∷ fs) = field-due u before place (OfAttribute o type) type ps f fs refl
 
 -- a coordinate's further component
 pub further : (u : ℕ) (before : Bool) (place : ℕ) (c : Component) (ps : List Pair) (fs : List Field)
     → pairCells u before place (OfComponent c ∷ ps) fs ≡ dueCells u before (not before) place (Number c) ps fs
-unfolding pairCells dueCells valueOf
+unfolding pairCells dueCells mayBeDefined mayBeUndefined valueOfPair valueOf
 further u before place c ps [] = refl
-further u before place c ps (f ∷ fs) = rw (rest-covered place (OfComponent c) ps fs)
+further u true place c ps (f ∷ fs) = field-due u true place (OfComponent c) (Number c) ps f fs refl
+further u false place c ps (f ∷ fs) = field-due u false place (OfComponent c) (Number c) ps f fs refl
 
 -- a line attribute has no field here
 pub of-line : (u : ℕ) (before : Bool) (place : ℕ) (o : Bool) (forms : ℕ) (cs : List Component) (ps : List Pair) (fs : List Field)

@@ -13,7 +13,7 @@ use Rattle.meaning.specs.Bytes.{choose, refuse}
 use Rattle.meaning.specs.Model.{Component, AttributeType, Reference, Number, Text, Date, Enumeration, Line}
 use Rattle.meaning.specs.Field.{Field, fieldsOf}
 use Rattle.meaning.specs.Value.{Value, pair, wrong, valueOf, isUndefined, isUndefinedTwice}
-use Rattle.meaning.specs.Row.{Pair, OfAttribute, Cells, cells, refused, putPair, definedOr, hasMandatory, pairCells}
+use Rattle.meaning.specs.Row.{Pair, OfAttribute, Cells, cells, refused, putPair, undefinedPair, hasMandatory, pairCells}
 use Rattle.model_records.specs.declared.Component as declared
 use Rattle.model_records.specs.Components.{componentOf}
 use Rattle.model_records.specs.declared.Attribute.{Attribute}
@@ -50,6 +50,11 @@ typeAsked kind number c =
     (choose (eqb kind 6) Date
     (choose (eqb kind 7) (Enumeration number)
     (Line number [])))))
+
+-- a defined field's value, or the undefined pair
+unfoldable pub definedOr : Bool → Value → Value
+definedOr true v = v
+definedOr false v = undefinedPair
 
 -- a field that is due, and the pairs behind it: an attribute's own field must be defined where the attribute is
 -- mandatory, a further component must be defined where the first one is, and undefined where that one is

@@ -1,7 +1,6 @@
 pub mod Tables
 pub mod Records
 pub mod Ends
-pub mod Sizes
 pub mod Cells
 pub mod Names
 pub mod RowLaws

@@ -34,9 +34,9 @@ use Rattle.read_objects.specs.Fields.{Ends}
 use Rattle.read_objects.specs.declared.rows.RowOut.{RowOut}
 use Rattle.read_objects.specs.declared.rows.RowOut.the-variants.{Full}
 use Rattle.read_objects.specs.Rows.{RowFull, Fills, BehindRow, RowAdds}
-use Rattle.read_objects.proofs.Sizes.{row-size}
 use Rattle.read_objects.proofs.Cells.{lent, row-stored, row-front, row-first, row-length, one-listed}
 use Rattle.meaning.proofs.Lists.{first-same}
+use Rattle.meaning.proofs.Right.FieldReasons.{cells-size}
 use Rattle.meaning.proofs.Tests.Refuse.{neither}
 
 -- ## Room
@@ -73,8 +73,8 @@ pub refused-row : (meant : Cells) (most at : ℕ) (entry exit : List ℤ) (r : R
 refused-row meant most at entry exit r k f e h = subst (Fills meant most at entry exit) e h
 
 -- the fields of the text from a byte to the line's end, by the attribute records from a byte of the model on
-abbrev pub fieldCells : (b text : List ℕ) (u at from end : ℕ) → Cells
-fieldCells b text u at from end = pairCells u true 3 (pairsAt b at) (fieldsOf from (stretch text from (end - from)))
+abbrev pub lineCells : (b text : List ℕ) (u at from end : ℕ) → Cells
+lineCells b text u at from end = pairCells u true 3 (pairsAt b at) (fieldsOf from (stretch text from (end - from)))
 
 -- ## What a row means
 
@@ -167,7 +167,7 @@ module _ (b text : List ℕ) (seed : ℕ) (here : OpenTable) (s : State) (start 
       size-is = length-take-le size (drop start text) (omega (arith, length-drop start text))
 
       pairs-many : n ≡ 2 * length (pairsOf (tableAt (modelAt b .tables) (here .table) .attributes))
-      pairs-many = full .size ∙ row-size u true 3 (pairsAt b (here .at)) fs (full .values) (full .meaning) ∙ rw (holds .attributes)
+      pairs-many = full .size ∙ cells-size u (pairsAt b (here .at)) fs true 3 (full .values) (full .meaning) ∙ rw (holds .attributes)
 
       has-room : (leb (length rows) (s .rows) || ltb (length cs) (s .cells + (3 + n))) ≡ false
       has-room = rw (lt-leb (length rows) (s .rows) roomRows, le-ltb (length cs) (s .cells + (3 + n)) roomCells)

@@ -1,21 +1,24 @@
 -- What the fields of a line that was not refused say: the pairs of a row, and the values of a point. Assumes nothing.
 use Prim.Native.Nat.{ℕ, _+_}
 use mathlib.Core.Path.{_≡_, refl}
-use mathlib.Core.Bool.{Bool, true, false, not, _&&_, _||_, true≢false}
+use mathlib.Core.Bool.{Bool, true, false, not, _||_, true≢false}
 use mathlib.Core.List.{List, [], _∷_}
 use lib.IntN.{ℤ, pos}
 use lib.ListN.{length}
 use borrow.Author.Tests.{not-false}
-use Rattle.meaning.specs.Bytes.{choose, refuse, separator, every}
+use Rattle.meaning.specs.Bytes.{refuse, separator, every}
 use Rattle.meaning.specs.Model.{Component, AttributeType}
 use Rattle.meaning.specs.Field.{Field, goesOn, addToFields, fieldsOf}
 use Rattle.meaning.specs.Value.{Value, pair, wrong, unsigned, isNumber, within, numberOf, valueOf, isUndefined, isUndefinedTwice}
-use Rattle.meaning.specs.Row.{Pair, OfAttribute, OfComponent, OfLine, hasMandatory, Cells, cells, refused, putPair, putNumber, undefinedCells, undefinedRest, definedOr, pairCells, componentValues}
+use Rattle.meaning.specs.Row.{Pair, OfAttribute, OfComponent, OfLine, hasMandatory, Cells, cells, refused, putPair, putNumber, undefinedCells, undefinedRest, pairCells, componentValues}
 use Rattle.meaning.specs.Reading.{stretch}
+use Rattle.meaning.specs.Right.{Defined}
+use Rattle.meaning.specs.Reasons.{MayBeUndefined, MayBeDefined, FieldType, ofAttribute, ofComponent}
 use Rattle.meaning.proofs.Tests.Unequal.{no-cells, no-pair}
 use Rattle.meaning.proofs.Tests.Refuse.{passed}
 use Rattle.meaning.proofs.Reading.Fields.{solid, Solid}
 use Rattle.meaning.proofs.Reading.Stretches.{AllStand}
+use Rattle.meaning.proofs.Reading.PairCells.{FieldRead, field-read}
 
 -- ## Fields
 
@@ -91,46 +94,32 @@ unfolding undefinedRest
 rest-inv place ps [] xs e = cc
 rest-inv place ps (f ∷ fs) xs e = absurd (no-cells 11 (place + 1) xs e)
 
-module _ (u : ℕ) (text : List ℕ) (place : ℕ) (ps : List Pair) (f : Field) (fs : List Field) (xs : List ℤ) (sound : Solid (f .bytes)) (stands : stretch text (f .start) (length (f .bytes)) ≡ f .bytes)
-    (with-field : (ys : List ℤ) → pairCells u true (place + 1) ps fs ≡ cells ys → Given u text true ps ys)
-    (with-none : (ys : List ℤ) → pairCells u false (place + 1) ps fs ≡ cells ys → Given u text false ps ys) where
-  attribute-given : (before o : Bool) (type : AttributeType) (two one : Bool) → isUndefinedTwice u f ≡ two → isUndefined u f ≡ one
-      → choose two (refuse (not o || hasMandatory ps) (refused 12 place) (undefinedRest place (OfAttribute o type ∷ ps) fs))
-      (refuse (not (not one) && not o) (refused 12 place) (putPair place (definedOr (not one) (valueOf type f)) (pairCells u (not one) (place + 1) ps fs))) ≡ cells xs
-      → Given u text before (OfAttribute o type ∷ ps) xs
-  unfolding choose definedOr hasMandatory undefinedCells
-  attribute-given before true type true one h g e =
-      let p = passed _ _ _ _ (no-cells 12 place xs) e in
-      rw (rest-inv place (OfAttribute true type ∷ ps) fs xs (p .1)) (absent (zeros u text ps (p .0)))
-  attribute-given before false type true one h g e = absurd (true≢false (passed _ _ _ _ (no-cells 12 place xs) e .0))
-  attribute-given before true type false true h g e =
-      let p = put-inv place _ _ xs (passed _ _ _ _ (no-cells 12 place xs) e .1) in
-      let z : xs ≡ pos 0 ∷ pos 0 ∷ p .ys = cc (p .value, p .whole) in
-      rw z (absent (with-none (p .ys) (p .rest)))
-  attribute-given before false type false true h g e = absurd (true≢false (passed _ _ _ _ (no-cells 12 place xs) e .0))
-  attribute-given before o type false false h g e =
-      let p = put-inv place _ _ xs (passed _ _ _ _ (no-cells 12 place xs) e .1) in
-      rw (p .whole) (present f g h sound stands (p .value) (with-field (p .ys) (p .rest)))
+module _ {u : ℕ} {text : List ℕ} {b : Bool} {ps : List Pair} where
+  -- a pair that may be undefined, and is
+  none-given : {p : Pair} {type : AttributeType} {ys : List ℤ} → FieldType p type → MayBeUndefined b p → Given u text false ps ys → Given u text b (p ∷ ps) (pos 0 ∷ pos 0 ∷ ys)
+  none-given ofAttribute may r = rw may (absent r)
+  none-given ofComponent may r = rw may (without r)
 
-  component-given : (before : Bool) (c : Component) (two one : Bool) → isUndefinedTwice u f ≡ two → isUndefined u f ≡ one
-      → choose two (refuse (before || hasMandatory ps) (refused 12 place) (undefinedRest place (OfComponent c ∷ ps) fs))
-      (refuse (before && not (not one) || not before && not one) (refused 12 place) (putPair place (definedOr (not one) (numberOf c (f .bytes))) (pairCells u (not one) (place + 1) ps fs))) ≡ cells xs
-      → Given u text before (OfComponent c ∷ ps) xs
-  unfolding choose definedOr hasMandatory undefinedCells
-  component-given true c true one h g e = absurd (true≢false (passed _ _ _ _ (no-cells 12 place xs) e .0))
-  component-given false c true one h g e =
-      let p = passed _ _ _ _ (no-cells 12 place xs) e in
-      rw (rest-inv place (OfComponent c ∷ ps) fs xs (p .1)) (without (zeros u text ps (p .0)))
-  component-given true c false true h g e = absurd (true≢false (passed _ _ _ _ (no-cells 12 place xs) e .0))
-  component-given false c false false h g e = absurd (true≢false (passed _ _ _ _ (no-cells 12 place xs) e .0))
-  component-given false c false true h g e =
-      let p = put-inv place _ _ xs (passed _ _ _ _ (no-cells 12 place xs) e .1) in
-      let z : xs ≡ pos 0 ∷ pos 0 ∷ p .ys = cc (p .value, p .whole) in
-      rw z (without (with-none (p .ys) (p .rest)))
-  component-given true c false false h g e =
-      let p = put-inv place _ _ xs (passed _ _ _ _ (no-cells 12 place xs) e .1) in
-      let w = number-within c (f .bytes) (p .a) (p .b) (p .value) in
-      rw (p .whole, w .0) (along (w .1) (with-field (p .ys) (p .rest)))
+  module _ (f : Field) (sound : Solid (f .bytes)) (stands : stretch text (f .start) (length (f .bytes)) ≡ f .bytes) where
+    value-given : {p : Pair} {type : AttributeType} {x y : ℤ} {ys : List ℤ} → FieldType p type → Defined u f → MayBeDefined b p → valueOf type f ≡ pair x y → Given u text true ps ys
+        → Given u text b (p ∷ ps) (x ∷ y ∷ ys)
+    unfolding valueOf
+    value-given ofAttribute d may e r = present f (d .one) (d .two) sound stands e r
+    value-given {x = x} {y = y} (ofComponent {c = c}) d may e r = let w = number-within c (f .bytes) x y e in rw (may, w .0) (along (w .1) r)
+
+    field-given : {p : Pair} {type : AttributeType} (place : ℕ) (fs : List Field) (xs : List ℤ) → FieldType p type
+        → ((d : Bool) (ys : List ℤ) → pairCells u d (place + 1) ps fs ≡ cells ys → Given u text d ps ys)
+        → (k : Cells) → FieldRead u b place p type ps f fs k → k ≡ cells xs → Given u text b (p ∷ ps) xs
+    unfolding undefinedCells
+    field-given place fs xs of next _ (FieldRead.defined d may) e = let q = put-inv place _ _ xs e in rw (q .whole) (value-given of d may (q .value) (next true (q .ys) (q .rest)))
+    field-given place fs xs of next _ (FieldRead.undefined h may) e =
+        let q = put-inv place _ _ xs e in
+        let z : xs ≡ pos 0 ∷ pos 0 ∷ q .ys = cc (q .value, q .whole) in
+        rw z (none-given of may (next false (q .ys) (q .rest)))
+    field-given {p} place fs xs of next _ (FieldRead.twice h may none) e = rw (rest-inv place (p ∷ ps) fs xs e) (none-given of may (zeros u text ps none))
+    field-given place fs xs of next _ (FieldRead.mixed d never) e = absurd (no-cells 12 place xs e)
+    field-given place fs xs of next _ (FieldRead.mandatory h never) e = absurd (no-cells 12 place xs e)
+    field-given place fs xs of next _ (FieldRead.covers h some) e = absurd (no-cells 12 place xs e)
 
 pub pairs-given : (u : ℕ) (text : List ℕ) (before : Bool) (place : ℕ) (ps : List Pair) (fs : List Field) (xs : List ℤ) → AllAre fs → AllStand text fs
     → pairCells u before place ps fs ≡ cells xs → Given u text before ps xs
@@ -144,12 +133,10 @@ pairs-given u text before place (OfLine o forms ks ∷ ps) fs xs are st e =
     rw z (line q)
 pairs-given u text before place (OfAttribute o type ∷ ps) [] xs are st e = absurd (no-cells 11 place xs e)
 pairs-given u text before place (OfAttribute o type ∷ ps) (f ∷ fs) xs are st e =
-    attribute-given u text place ps f fs xs (are .0) (st .0) (λ ys. pairs-given u text true (place + 1) ps fs ys (are .1) (st .1)) (λ ys. pairs-given u text false (place + 1) ps fs ys (are .1) (st .1))
-    before o type _ _ refl refl e
+    field-given f (are .0) (st .0) place fs xs ofAttribute (λ d ys. pairs-given u text d (place + 1) ps fs ys (are .1) (st .1)) _ (field-read ofAttribute) e
 pairs-given u text before place (OfComponent c ∷ ps) [] xs are st e = absurd (no-cells 11 place xs e)
 pairs-given u text before place (OfComponent c ∷ ps) (f ∷ fs) xs are st e =
-    component-given u text place ps f fs xs (are .0) (st .0) (λ ys. pairs-given u text true (place + 1) ps fs ys (are .1) (st .1)) (λ ys. pairs-given u text false (place + 1) ps fs ys (are .1) (st .1))
-    before c _ _ refl refl e
+    field-given f (are .0) (st .0) place fs xs ofComponent (λ d ys. pairs-given u text d (place + 1) ps fs ys (are .1) (st .1)) _ (field-read ofComponent) e
 
 -- ## A point's values
 

@@ -2,23 +2,25 @@
 use Prim.Native.Nat.{ℕ, _+_, _*_}
 use native.Mathlib.Omega.{arith}
 use mathlib.Core.Path.{_≡_, refl, sym, ap, ap₂, subst, _∙_}
-use mathlib.Core.Bool.{Bool, true, false, not, _&&_, _||_, true≢false}
+use mathlib.Core.Bool.{Bool, true, false, not, true≢false, false≢true}
 use mathlib.Core.List.{List, [], _∷_, _++_, append-assoc, append-nil}
 use lib.Dec.{ltb}
 use lib.IntN.{ℤ, pos}
 use lib.ListN.{length, length-append}
 use borrow.Author.Tests.{not-false, ltb-false}
-use Rattle.meaning.specs.Bytes.{choose, refuse, every, textByte}
+use Rattle.meaning.specs.Bytes.{every, textByte}
 use Rattle.meaning.specs.Model.{Component, AttributeType, Reference, Coordinate, Number, Text, Date, Enumeration, Line, Model}
 use Rattle.meaning.specs.Field.{Field}
-use Rattle.meaning.specs.Value.{pair, isDigits, isIdentification, numberOf, dateOf, enumerationOf, textOf, referenceOf, stretchOf, valueOf, isUndefined, isUndefinedTwice}
-use Rattle.meaning.specs.Row.{Pair, OfAttribute, OfComponent, OfLine, hasMandatory, cells, refused, putPair, undefinedCells, undefinedRest, definedOr, pairCells}
+use Rattle.meaning.specs.Value.{pair, isDigits, isIdentification, dateOf, enumerationOf, textOf, referenceOf, stretchOf, valueOf, isUndefined, isUndefinedTwice}
+use Rattle.meaning.specs.Row.{Pair, OfAttribute, OfComponent, OfLine, hasMandatory, Cells, cells, undefinedCells, undefinedRest, pairCells}
 use Rattle.meaning.specs.Reading.{LineAttribute, lineAttributes, objectOf, nothing, dueLines, Content, pointCount, Rooms}
 use Rattle.meaning.specs.Lines.{go}
-use Rattle.meaning.specs.Right.{Point, Entry, Undefined, OfValue, OfText, OfReference, OfPoints, Means, number, date, enumeration, text, reference, Drawn, entryPoints, cellsOfPoints}
+use Rattle.meaning.specs.Right.{Point, Entry, Undefined, OfValue, OfText, OfReference, OfPoints, Defined, Means, number, date, enumeration, text, reference, Drawn, entryPoints, cellsOfPoints}
 use Rattle.meaning.specs.Right as right
+use Rattle.meaning.specs.Reasons.{MayBeUndefined, MayBeDefined, FieldType, ofAttribute, ofComponent}
 use Rattle.meaning.proofs.Tests.Unequal.{no-pair, no-cells}
 use Rattle.meaning.proofs.Tests.Refuse.{passed}
+use Rattle.meaning.proofs.Reading.PairCells.{FieldRead, field-read}
 use Rattle.meaning.proofs.Reading.FieldsRead.{put-inv, number-within}
 use Rattle.meaning.proofs.Writing.Attributes.{moved, moved-length, withCells}
 use Rattle.meaning.proofs.Right.Steps.{steps}
@@ -198,52 +200,62 @@ module _ (m : Model) (rooms : Rooms) (own : List ℕ) (t : ℕ) (z : Content) wh
   rest-of place ps [] xs e = (refl, cc)
   rest-of place ps (f ∷ fs) xs e = absurd (no-cells 11 (place + 1) xs e)
 
-  module _ (place : ℕ) (ps : List Pair) (f : Field) (fs : List Field) (xs : List ℤ) (with-field : (ys : List ℤ) → pairCells (m .undefined) true (place + 1) ps fs ≡ cells ys → Reads wasDefined ps fs ys)
-      (with-none : (ys : List ℤ) → pairCells (m .undefined) false (place + 1) ps fs ≡ cells ys → Reads wasUndefined ps fs ys) where
-    attribute-reads : (b : Before) (o : Bool) (type : AttributeType) (two one : Bool) → isUndefinedTwice (m .undefined) f ≡ two → isUndefined (m .undefined) f ≡ one
-        → choose two (refuse (not o || hasMandatory ps) (refused 12 place) (undefinedRest place (OfAttribute o type ∷ ps) fs))
-        (refuse (not (not one) && not o) (refused 12 place) (putPair place (definedOr (not one) (valueOf type f)) (pairCells (m .undefined) (not one) (place + 1) ps fs))) ≡ cells xs
-        → Reads b (OfAttribute o type ∷ ps) (f ∷ fs) xs
-    unfolding choose definedOr hasMandatory undefinedCells lineAttributes undefined-kept
-    attribute-reads b true type true one h g e =
-        let p = passed _ _ _ _ (no-cells 12 place xs) e in
-        let r = rest-of place (OfAttribute true type ∷ ps) fs xs (p .1) in
-        rw (r .0, r .1) (entry-on b covered (OfAttribute true type) ps (f ∷ []) [] (undefinedCells ps) Undefined undefined-kept (λ cell. refl) (λ ls es q. cover h q) (covered-reads ps (p .0)))
-    attribute-reads b false type true one h g e = absurd (true≢false (passed _ _ _ _ (no-cells 12 place xs) e .0))
-    attribute-reads b true type false true h g e =
-        let p = put-inv place _ _ xs (passed _ _ _ _ (no-cells 12 place xs) e .1) in
-        let z′ : xs ≡ pos 0 ∷ pos 0 ∷ p .ys = cc (p .value, p .whole) in
-        rw z′ (entry-on b wasUndefined (OfAttribute true type) ps (f ∷ fs) fs (p .ys) Undefined undefined-kept (λ cell. refl) (λ ls es q. undefined g q) (with-none (p .ys) (p .rest)))
-    attribute-reads b false type false true h g e = absurd (true≢false (passed _ _ _ _ (no-cells 12 place xs) e .0))
-    attribute-reads b o type false false h g e =
-        let p = put-inv place _ _ xs (passed _ _ _ _ (no-cells 12 place xs) e .1) in
-        let n = means-of type f (p .a) (p .b) (p .value) in
-        let z′ : xs ≡ n .kept .a ∷ n .kept .b ∷ p .ys = cc (p .whole, n .isA, n .isB) in
-        rw z′ (entry-on b wasDefined (OfAttribute o type) ps (f ∷ fs) fs (p .ys) (n .entry) (n .kept) (λ cell. refl) (λ ls es q. defined (record { one = g; two = h }) (n .means) q) (with-field (p .ys) (p .rest)))
+  -- what the field before was, where it did not cover this one
+  was-defined : (b : Before) → flagOf b ≡ true → b ≡ wasDefined
+  unfolding flagOf
+  was-defined wasDefined h = refl
+  was-defined wasUndefined h = absurd (false≢true h)
+  was-defined covered h = absurd (false≢true h)
 
-    component-reads : (b : Before) (c : Component) (two one : Bool) → isCovered b ≡ false → isUndefinedTwice (m .undefined) f ≡ two → isUndefined (m .undefined) f ≡ one
-        → choose two (refuse (flagOf b || hasMandatory ps) (refused 12 place) (undefinedRest place (OfComponent c ∷ ps) fs))
-        (refuse (flagOf b && not (not one) || not (flagOf b) && not one) (refused 12 place) (putPair place (definedOr (not one) (numberOf c (f .bytes))) (pairCells (m .undefined) (not one) (place + 1) ps fs))) ≡ cells xs
-        → Reads b (OfComponent c ∷ ps) (f ∷ fs) xs
-    unfolding choose definedOr hasMandatory undefinedCells lineAttributes undefined-kept value-kept flagOf isCovered
-    component-reads covered c two one cov h g e = absurd (true≢false cov)
-    component-reads wasDefined c true one cov h g e = absurd (true≢false (passed _ _ _ _ (no-cells 12 place xs) e .0))
-    component-reads wasUndefined c true one cov h g e =
-        let p = passed _ _ _ _ (no-cells 12 place xs) e in
-        let r = rest-of place (OfComponent c ∷ ps) fs xs (p .1) in
-        rw (r .0, r .1) (entry-on wasUndefined covered (OfComponent c) ps (f ∷ []) [] (undefinedCells ps) Undefined undefined-kept (λ cell. refl) (λ ls es q. alsoCover h q) (covered-reads ps (p .0)))
-    component-reads wasDefined c false true cov h g e = absurd (true≢false (passed _ _ _ _ (no-cells 12 place xs) e .0))
-    component-reads wasUndefined c false false cov h g e = absurd (true≢false (passed _ _ _ _ (no-cells 12 place xs) e .0))
-    component-reads wasUndefined c false true cov h g e =
-        let p = put-inv place _ _ xs (passed _ _ _ _ (no-cells 12 place xs) e .1) in
-        let z′ : xs ≡ pos 0 ∷ pos 0 ∷ p .ys = cc (p .value, p .whole) in
-        rw z′ (entry-on wasUndefined wasUndefined (OfComponent c) ps (f ∷ fs) fs (p .ys) Undefined undefined-kept (λ cell. refl) (λ ls es q. alsoUndefined g q) (with-none (p .ys) (p .rest)))
-    component-reads wasDefined c false false cov h g e =
-        let p = put-inv place _ _ xs (passed _ _ _ _ (no-cells 12 place xs) e .1) in
-        let w : p .a ≡ pos 1 = number-within c (f .bytes) (p .a) (p .b) (p .value) .0 in
-        let z′ : xs ≡ pos 1 ∷ p .b ∷ p .ys = cc (p .whole, w) in
-        rw z′ (entry-on wasDefined wasDefined (OfComponent c) ps (f ∷ fs) fs (p .ys) (OfValue (p .b)) (value-kept (p .b)) (λ cell. refl)
-        (λ ls es q. alsoDefined (record { one = g; two = h }) (p .value ∙ ap (λ (x : ℤ). pair x (p .b)) w) q) (with-field (p .ys) (p .rest)))
+  was-undefined : (b : Before) → isCovered b ≡ false → flagOf b ≡ false → b ≡ wasUndefined
+  unfolding flagOf isCovered
+  was-undefined wasDefined c h = absurd (true≢false h)
+  was-undefined wasUndefined c h = refl
+  was-undefined covered c h = absurd (true≢false c)
+
+  no-line : {p : Pair} {type : AttributeType} → FieldType p type → (ps : List Pair) (cell : ℕ) → lineAttributes cell (p ∷ ps) ≡ lineAttributes (cell + 2) ps
+  unfolding lineAttributes
+  no-line ofAttribute ps cell = refl
+  no-line ofComponent ps cell = refl
+
+  -- the entry of a field by what it says
+  module _ {b : Before} {ps : List Pair} {f : Field} {ls : List right.Line} {es : List Entry} where
+    value-entry : {p : Pair} {type : AttributeType} {fs : List Field} {e : Entry} → FieldType p type → MayBeDefined (flagOf b) p → Defined (m .undefined) f → Means type f e
+        → PairEntries (m .undefined) wasDefined ps fs ls es → PairEntries (m .undefined) b (p ∷ ps) (f ∷ fs) ls (e ∷ es)
+    value-entry ofAttribute may d n r = defined d n r
+    value-entry ofComponent may d (number h) r = rw (was-defined b may) (alsoDefined d h r)
+
+    module _ (cov : isCovered b ≡ false) where
+      none-entry : {p : Pair} {type : AttributeType} {fs : List Field} → FieldType p type → MayBeUndefined (flagOf b) p → isUndefined (m .undefined) f ≡ true
+          → PairEntries (m .undefined) wasUndefined ps fs ls es → PairEntries (m .undefined) b (p ∷ ps) (f ∷ fs) ls (Undefined ∷ es)
+      none-entry ofAttribute may h r = rw may (undefined h r)
+      none-entry ofComponent may h r = rw (was-undefined b cov may) (alsoUndefined h r)
+
+      rest-entry : {p : Pair} {type : AttributeType} → FieldType p type → MayBeUndefined (flagOf b) p → isUndefinedTwice (m .undefined) f ≡ true
+          → PairEntries (m .undefined) covered ps [] ls es → PairEntries (m .undefined) b (p ∷ ps) (f ∷ []) ls (Undefined ∷ es)
+      rest-entry ofAttribute may h r = rw may (cover h r)
+      rest-entry ofComponent may h r = rw (was-undefined b cov may) (alsoCover h r)
+
+  field-reads : {p : Pair} {type : AttributeType} {ps : List Pair} {f : Field} {fs : List Field} (b : Before) (place : ℕ) (xs : List ℤ) → FieldType p type → isCovered b ≡ false
+      → ((ys : List ℤ) → pairCells (m .undefined) true (place + 1) ps fs ≡ cells ys → Reads wasDefined ps fs ys)
+      → ((ys : List ℤ) → pairCells (m .undefined) false (place + 1) ps fs ≡ cells ys → Reads wasUndefined ps fs ys)
+      → (k : Cells) → FieldRead (m .undefined) (flagOf b) place p type ps f fs k → k ≡ cells xs → Reads b (p ∷ ps) (f ∷ fs) xs
+  unfolding undefinedCells undefined-kept
+  field-reads {p} {type} {ps} {f} {fs} b place xs of cov with-field with-none _ (FieldRead.defined d may) e =
+      let q = put-inv place _ _ xs e in
+      let n = means-of type f (q .a) (q .b) (q .value) in
+      let z′ : xs ≡ n .kept .a ∷ n .kept .b ∷ q .ys = cc (q .whole, n .isA, n .isB) in
+      rw z′ (entry-on b wasDefined p ps (f ∷ fs) fs (q .ys) (n .entry) (n .kept) (no-line of ps) (λ ls es r. value-entry of may d (n .means) r) (with-field (q .ys) (q .rest)))
+  field-reads {p} {type} {ps} {f} {fs} b place xs of cov with-field with-none _ (FieldRead.undefined h may) e =
+      let q = put-inv place _ _ xs e in
+      let z′ : xs ≡ pos 0 ∷ pos 0 ∷ q .ys = cc (q .value, q .whole) in
+      rw z′ (entry-on b wasUndefined p ps (f ∷ fs) fs (q .ys) Undefined undefined-kept (no-line of ps) (λ ls es r. none-entry cov of may h r) (with-none (q .ys) (q .rest)))
+  field-reads {p} {type} {ps} {f} {fs} b place xs of cov with-field with-none _ (FieldRead.twice h may none) e =
+      let q = rest-of place (p ∷ ps) fs xs e in
+      rw (q .0, q .1) (entry-on b covered p ps (f ∷ []) [] (undefinedCells ps) Undefined undefined-kept (no-line of ps) (λ ls es r. rest-entry cov of may h r) (covered-reads ps none))
+  field-reads b place xs of cov with-field with-none _ (FieldRead.mixed d never) e = absurd (no-cells 12 place xs e)
+  field-reads b place xs of cov with-field with-none _ (FieldRead.mandatory h never) e = absurd (no-cells 12 place xs e)
+  field-reads b place xs of cov with-field with-none _ (FieldRead.covers h some) e = absurd (no-cells 12 place xs e)
 
   pub row-reads : (ps : List Pair) (fs : List Field) (b : Before) → isCovered b ≡ false → (place : ℕ) (xs : List ℤ) → pairCells (m .undefined) (flagOf b) place ps fs ≡ cells xs → Reads b ps fs xs
   unfolding pairCells flagOf isCovered
@@ -255,7 +267,7 @@ module _ (m : Model) (rooms : Rooms) (own : List ℕ) (t : ℕ) (z : Content) wh
       rw z′ (line-on b o forms cs ps fs (p .ys) (row-reads ps fs b cov place (p .ys) (p .rest)))
   row-reads (OfAttribute o type ∷ ps) [] b cov place xs e = absurd (no-cells 11 place xs e)
   row-reads (OfAttribute o type ∷ ps) (f ∷ fs) b cov place xs e =
-      attribute-reads place ps f fs xs (λ ys. row-reads ps fs wasDefined refl (place + 1) ys) (λ ys. row-reads ps fs wasUndefined refl (place + 1) ys) b o type _ _ refl refl e
+      field-reads b place xs ofAttribute cov (λ ys. row-reads ps fs wasDefined refl (place + 1) ys) (λ ys. row-reads ps fs wasUndefined refl (place + 1) ys) _ (field-read ofAttribute) e
   row-reads (OfComponent c ∷ ps) [] b cov place xs e = absurd (no-cells 11 place xs e)
   row-reads (OfComponent c ∷ ps) (f ∷ fs) b cov place xs e =
-      component-reads place ps f fs xs (λ ys. row-reads ps fs wasDefined refl (place + 1) ys) (λ ys. row-reads ps fs wasUndefined refl (place + 1) ys) b c _ _ cov refl refl e
+      field-reads b place xs ofComponent cov (λ ys. row-reads ps fs wasDefined refl (place + 1) ys) (λ ys. row-reads ps fs wasUndefined refl (place + 1) ys) _ (field-read ofComponent) e

@@ -1,22 +1,22 @@
 -- What reasons say of the fields of an object and of a point, and the cells or the refusal that reading makes of them. Assumes nothing.
 use Prim.Native.Nat.{ℕ, _+_, _*_}
-use mathlib.Core.Path.{_≡_, refl, subst}
-use mathlib.Core.Bool.{Bool, true, false, not, _||_}
-use mathlib.Core.List.{List, []}
-use lib.IntN.{ℤ}
+use mathlib.Core.Path.{_≡_, refl, subst, _∙_}
+use mathlib.Core.Bool.{Bool, true, false, _||_}
+use mathlib.Core.List.{List, [], _∷_}
+use lib.IntN.{ℤ, pos}
 use lib.ListN.{length}
-use Rattle.meaning.specs.Bytes.{choose, refuse}
+use Rattle.meaning.specs.Bytes.{refuse}
 use Rattle.meaning.specs.Model.{Component, Number}
 use Rattle.meaning.specs.Field.{Field}
 use Rattle.meaning.specs.Value.{pair, wrong, numberOf, valueOf, isUndefined, isUndefinedTwice}
-use Rattle.meaning.specs.Row.{Pair, hasMandatory, Cells, cells, refused, putPair, putNumber, undefinedRest, definedOr, pairCells, componentValues}
+use Rattle.meaning.specs.Row.{Pair, hasMandatory, Cells, cells, refused, putPair, putNumber, undefinedRest, pairCells, componentValues}
 use Rattle.meaning.specs.Shapes.{WrongShape, OutsideDomain, RightValue}
 use Rattle.meaning.specs.Right.{Defined}
 use Rattle.meaning.specs.Reasons.{ofAttribute, ofComponent, IsMandatory, RightFields, FieldReason, PointReason}
 use Rattle.meaning.specs.Reasons as reasons
-use Rattle.meaning.proofs.Tests.Refuse.{no-true, no-false}
+use Rattle.meaning.proofs.Tests.Refuse.{no-true}
 use Rattle.meaning.proofs.Values.Judged.{right-pair, shape-13, domain-14}
-use Rattle.meaning.proofs.Right.Rows.{undefined-once}
+use Rattle.meaning.proofs.Reading.PairCells.{FieldRead, field-is}
 use Rattle.meaning.proofs.Right.StepFields.{is-mandatory, mandatory-is, FieldsJudged, fields-judged}
 
 -- ## Tests
@@ -34,15 +34,6 @@ not-defined u f h = by (isUndefined u f) (isUndefinedTwice u f) refl refl
 
 none-mandatory : (ps : List Pair) → (IsMandatory ps → ⊥) → hasMandatory ps ≡ false
 none-mandatory ps h = no-true (hasMandatory ps) (λ e. h (is-mandatory ps e))
-
--- two undefined bytes at a mandatory field or before one
-covers-optional : (o : Bool) (ps : List Pair) → (o ≡ true → IsMandatory ps) → (not o || hasMandatory ps) ≡ true
-covers-optional true ps h = mandatory-is (h refl)
-covers-optional false ps h = refl
-
-covers-further : (b : Bool) (ps : List Pair) → (b ≡ false → IsMandatory ps) → (b || hasMandatory ps) ≡ true
-covers-further true ps h = refl
-covers-further false ps h = mandatory-is (h refl)
 
 -- ## Numbers
 
@@ -65,15 +56,17 @@ pub record CellsOf (k : Cells) : Type 0 where
   pub is : k ≡ cells values
 
 pub right-cells : {u : ℕ} {b : Bool} {ps : List Pair} {fs : List Field} → RightFields u b ps fs → (place : ℕ) → CellsOf (pairCells u b place ps fs)
-unfolding pairCells choose refuse definedOr putPair undefinedRest
+unfolding pairCells putPair undefinedRest
 right-cells reasons.RightFields.done place = record { values = []; is = refl }
 right-cells (reasons.RightFields.line r) place = rw (right-cells r place .is) (record { values = _; is = refl })
-right-cells (reasons.RightFields.defined {f = f} d may (ofAttribute {type = type}) v r) place = rw (d .two, d .one, right-pair type f v .is, right-cells r (place + 1) .is) (record { values = _; is = refl })
-right-cells (reasons.RightFields.defined {f = f} d may (ofComponent {c = c}) v r) place = rw (d .two, d .one, may, number-pair c f v, right-cells r (place + 1) .is) (record { values = _; is = refl })
-right-cells {u} (reasons.RightFields.undefined {f = f} e may ofAttribute r) place = rw (undefined-once u f e, e, may, right-cells r (place + 1) .is) (record { values = _; is = refl })
-right-cells {u} (reasons.RightFields.undefined {f = f} e may ofComponent r) place = rw (undefined-once u f e, e, may, right-cells r (place + 1) .is) (record { values = _; is = refl })
-right-cells (reasons.RightFields.twice {ps = ps} e may ofAttribute h) place = rw (e, may, none-mandatory ps h) (record { values = _; is = refl })
-right-cells (reasons.RightFields.twice {ps = ps} e may ofComponent h) place = rw (e, may, none-mandatory ps h) (record { values = _; is = refl })
+right-cells (reasons.RightFields.defined {type = type} {f = f} d may of v r) place =
+    let w = right-pair type f v in
+    let q = right-cells r (place + 1) in
+    record { values = w .a ∷ w .b ∷ q .values; is = field-is of (FieldRead.defined d may) ∙ rw (w .is, q .is) }
+right-cells (reasons.RightFields.undefined e may of r) place =
+    let q = right-cells r (place + 1) in
+    record { values = pos 0 ∷ pos 0 ∷ q .values; is = field-is of (FieldRead.undefined e may) ∙ rw (q .is) }
+right-cells (reasons.RightFields.twice {ps = ps} e may of h) place = record { values = _; is = field-is of (FieldRead.twice e may (none-mandatory ps h)) }
 
 -- two cells for each pair
 pub cells-size : (u : ℕ) (ps : List Pair) (fs : List Field) (b : Bool) (place : ℕ) (xs : List ℤ) → pairCells u b place ps fs ≡ cells xs → length xs ≡ 2 * length ps
@@ -83,27 +76,19 @@ cells-size u ps fs b place xs e = by (subst (FieldsJudged u b place ps fs) e (fi
     by (FieldsJudged.right r h) = h
 
 pub reason-cells : {u : ℕ} {b : Bool} {place : ℕ} {ps : List Pair} {fs : List Field} {n k : ℕ} → FieldReason u b place ps fs n k → pairCells u b place ps fs ≡ refused n k
-unfolding pairCells choose refuse definedOr putPair undefinedRest
+unfolding pairCells putPair undefinedRest
 reason-cells (reasons.FieldReason.line r) = rw (reason-cells r)
 reason-cells (reasons.FieldReason.missing ofAttribute) = refl
 reason-cells (reasons.FieldReason.missing ofComponent) = refl
 reason-cells reasons.FieldReason.extra = refl
-reason-cells {u} (reasons.FieldReason.undefined {f = f} e (ofAttribute {o = o}) h) = rw (undefined-once u f e, e, no-true o h)
-reason-cells {u} {b} (reasons.FieldReason.undefined {f = f} e ofComponent h) = rw (undefined-once u f e, e, no-false b h)
-reason-cells (reasons.FieldReason.mixed d ofAttribute h) = absurd (h tt)
-reason-cells {u} {b} (reasons.FieldReason.mixed d ofComponent h) = rw (d .two, d .one, no-true b h)
-reason-cells (reasons.FieldReason.covers {ps = ps} e (ofAttribute {o = o}) h) = rw (e, covers-optional o ps h)
-reason-cells {u} {b} (reasons.FieldReason.covers {ps = ps} e ofComponent h) = rw (e, covers-further b ps h)
-reason-cells (reasons.FieldReason.behindTwice {ps = ps} e ofAttribute may h) = rw (e, may, none-mandatory ps h)
-reason-cells (reasons.FieldReason.behindTwice {ps = ps} e ofComponent may h) = rw (e, may, none-mandatory ps h)
-reason-cells (reasons.FieldReason.shape {f = f} d may (ofAttribute {type = type}) w) = rw (d .two, d .one, shape-13 type f w)
-reason-cells (reasons.FieldReason.shape {f = f} d may (ofComponent {c = c}) w) = rw (d .two, d .one, may, number-13 c f w)
-reason-cells (reasons.FieldReason.domain {f = f} d may (ofAttribute {type = type}) o) = rw (d .two, d .one, domain-14 type f o)
-reason-cells (reasons.FieldReason.domain {f = f} d may (ofComponent {c = c}) o) = rw (d .two, d .one, may, number-14 c f o)
-reason-cells (reasons.FieldReason.behindDefined {f = f} d may (ofAttribute {type = type}) v r) = rw (d .two, d .one, right-pair type f v .is, reason-cells r)
-reason-cells (reasons.FieldReason.behindDefined {f = f} d may (ofComponent {c = c}) v r) = rw (d .two, d .one, may, number-pair c f v, reason-cells r)
-reason-cells {u} (reasons.FieldReason.behindUndefined {f = f} e may ofAttribute r) = rw (undefined-once u f e, e, may, reason-cells r)
-reason-cells {u} (reasons.FieldReason.behindUndefined {f = f} e may ofComponent r) = rw (undefined-once u f e, e, may, reason-cells r)
+reason-cells (reasons.FieldReason.undefined e of h) = field-is of (FieldRead.mandatory e h)
+reason-cells (reasons.FieldReason.mixed d of h) = field-is of (FieldRead.mixed d h)
+reason-cells (reasons.FieldReason.covers e of h) = field-is of (FieldRead.covers e (λ may. mandatory-is (h may)))
+reason-cells (reasons.FieldReason.behindTwice {ps = ps} e of may h) = field-is of (FieldRead.twice e may (none-mandatory ps h))
+reason-cells (reasons.FieldReason.shape {type = type} {f = f} d may of w) = field-is of (FieldRead.defined d may) ∙ rw (shape-13 type f w)
+reason-cells (reasons.FieldReason.domain {type = type} {f = f} d may of o) = field-is of (FieldRead.defined d may) ∙ rw (domain-14 type f o)
+reason-cells (reasons.FieldReason.behindDefined {type = type} {f = f} d may of v r) = field-is of (FieldRead.defined d may) ∙ rw (right-pair type f v .is, reason-cells r)
+reason-cells (reasons.FieldReason.behindUndefined e may of r) = field-is of (FieldRead.undefined e may) ∙ rw (reason-cells r)
 
 -- ## Fields of a point
 

@@ -6,8 +6,6 @@ use mathlib.Core.Bool.{Bool, true, false, true≢false}
 use mathlib.Core.List.{List, [], _∷_, _++_}
 use lib.IntN.{ℤ}
 use lib.ListN.{length, replicate}
-use borrow.Author.Tests.{eq-eqb}
-use Rattle.meaning.specs.Bytes.{same}
 use Rattle.meaning.specs.Model.{Component, AttributeType, Reference, Coordinate, Number, Text, Date, Enumeration, Attribute}
 use Rattle.meaning.specs.Model as model
 use Rattle.meaning.specs.Field.{Field, ELIN}
@@ -15,7 +13,7 @@ use Rattle.meaning.specs.Value.{isUndefined, isUndefinedTwice}
 use Rattle.meaning.specs.Row.{Pair, OfAttribute, OfComponent, OfLine, componentPairs, pairsOfType, pairsOf}
 use Rattle.meaning.specs.Right.{Point, Entry, Undefined, OfValue, OfPoints, Line, Alone, Defined, IsNumber, Means, number, date, enumeration, text, reference, Values, none, one, Drawn, fieldCount, undefinedField, StandFor, themselves, remaining, AllUndefined, valueEntries, AttributeEntries, value, coordinate, Entries, fields}
 use Rattle.meaning.specs.Right as right
-use Rattle.meaning.proofs.Tests.Same.{same-refl, same-is}
+use Rattle.meaning.proofs.Reading.PairCells.{undefined-field, undefined-once}
 
 -- ## By pairs
 
@@ -59,15 +57,6 @@ pub data PairEntries (u : ℕ) : Before → List Pair → List Field → List Li
 
 -- ## Undefined fields
 
--- one undefined byte is not two
-pub undefined-once : (u : ℕ) (f : Field) → isUndefined u f ≡ true → isUndefinedTwice u f ≡ false
-unfolding isUndefined isUndefinedTwice same
-undefined-once u f h = rw (same-is (f .bytes) (u ∷ []) h, eq-eqb u u refl)
-
-undefined-field : (u : ℕ) → isUndefined u (undefinedField u) ≡ true
-unfolding isUndefined
-undefined-field u = same-refl (u ∷ [])
-
 -- no field is two undefined bytes
 abbrev NoneTwice : (u : ℕ) → List Field → Type 0
 NoneTwice u [] = Unit {0}
@@ -75,11 +64,11 @@ NoneTwice u (f ∷ fs) = (isUndefinedTwice u f ≡ false) × NoneTwice u fs
 
 none-twice : (u n : ℕ) → NoneTwice u (replicate n (undefinedField u))
 none-twice u zero = tt
-none-twice u (suc n) = (undefined-once u (undefinedField u) (undefined-field u), none-twice u n)
+none-twice u (suc n) = (undefined-once u (undefinedField u) (undefined-field u 0), none-twice u n)
 
 all-undefined : (u n : ℕ) → AllUndefined u (replicate n (undefinedField u))
 all-undefined u zero = tt
-all-undefined u (suc n) = (undefined-field u, all-undefined u n)
+all-undefined u (suc n) = (undefined-field u 0, all-undefined u n)
 
 one-more : (u n : ℕ) → replicate (1 + n) (undefinedField u) ≡ undefinedField u ∷ replicate n (undefinedField u)
 one-more u n = let e : 1 + n ≡ suc n = omega arith in ap (λ (k : ℕ). replicate k (undefinedField u)) e
@@ -100,8 +89,8 @@ record Uncovered (u : ℕ) (ps : List Pair) (ls : List Line) (es : List Entry) :
 
 uncovered : {u : ℕ} {ps : List Pair} {ls : List Line} {es : List Entry} → PairEntries u covered ps [] ls es → Uncovered u ps ls es
 uncovered done = record { more = 0; entries = done }
-uncovered {u} (under r) = let x = uncovered r in record { more = suc (x .more); entries = undefined (undefined-field u) (x .entries) }
-uncovered {u} (alsoUnder r) = let x = uncovered r in record { more = suc (x .more); entries = alsoUndefined (undefined-field u) (x .entries) }
+uncovered {u} (under r) = let x = uncovered r in record { more = suc (x .more); entries = undefined (undefined-field u 0) (x .entries) }
+uncovered {u} (alsoUnder r) = let x = uncovered r in record { more = suc (x .more); entries = alsoUndefined (undefined-field u 0) (x .entries) }
 uncovered (undrawn l r) = let x = uncovered r in record { more = x .more; entries = undrawn l (x .entries) }
 uncovered (along d r) = let x = uncovered r in record { more = x .more; entries = along d (x .entries) }
 
@@ -121,7 +110,7 @@ meant {u} (undefined {f = f} e r) h =
     record { gs = f ∷ x .gs; stand = stand-more f (x .stand); entries = undefined e (x .entries); once = (undefined-once u f e, x .once) }
 meant {u} (cover {f = f} e r) h =
     let x = uncovered r in
-    record { gs = replicate (suc (x .more)) (undefinedField u); stand = stand-last u f (x .more) e; entries = undefined (undefined-field u) (x .entries); once = none-twice u (suc (x .more)) }
+    record { gs = replicate (suc (x .more)) (undefinedField u); stand = stand-last u f (x .more) e; entries = undefined (undefined-field u 0) (x .entries); once = none-twice u (suc (x .more)) }
 meant (under r) h = absurd (true≢false h)
 meant (alsoDefined {f = f} d n r) h = let x = meant r refl in record { gs = f ∷ x .gs; stand = stand-more f (x .stand); entries = alsoDefined d n (x .entries); once = (d .two, x .once) }
 meant {u} (alsoUndefined {f = f} e r) h =
@@ -129,7 +118,7 @@ meant {u} (alsoUndefined {f = f} e r) h =
     record { gs = f ∷ x .gs; stand = stand-more f (x .stand); entries = alsoUndefined e (x .entries); once = (undefined-once u f e, x .once) }
 meant {u} (alsoCover {f = f} e r) h =
     let x = uncovered r in
-    record { gs = replicate (suc (x .more)) (undefinedField u); stand = stand-last u f (x .more) e; entries = alsoUndefined (undefined-field u) (x .entries); once = none-twice u (suc (x .more)) }
+    record { gs = replicate (suc (x .more)) (undefinedField u); stand = stand-last u f (x .more) e; entries = alsoUndefined (undefined-field u 0) (x .entries); once = none-twice u (suc (x .more)) }
 meant (alsoUnder r) h = absurd (true≢false h)
 meant (undrawn l r) h = let x = meant r h in record { gs = x .gs; stand = x .stand; entries = undrawn l (x .entries); once = x .once }
 meant (along d r) h = let x = meant r h in record { gs = x .gs; stand = x .stand; entries = along d (x .entries); once = x .once }
@@ -140,7 +129,7 @@ data Ends (u : ℕ) : (written meant : List Field) → Type 0 where
   there : {f : Field} {fs gs : List Field} → Ends u fs gs → Ends u (f ∷ fs) (f ∷ gs)
 
 ends : (u : ℕ) (fs : List Field) (f : Field) (n : ℕ) → isUndefinedTwice u f ≡ true → Ends u (fs ++ (f ∷ [])) (fs ++ replicate (1 + n) (undefinedField u))
-ends u [] f n h = rw (one-more u n) (here h (undefined-field u) (all-undefined u n))
+ends u [] f n h = rw (one-more u n) (here h (undefined-field u 0) (all-undefined u n))
 ends u (g ∷ fs) f n h = there (ends u fs f n h)
 
 not-both : (u : ℕ) (f : Field) → isUndefined u f ≡ true → isUndefinedTwice u f ≡ true → ⊥

@@ -7,20 +7,21 @@ use mathlib.Core.List.{List, [], _∷_, _++_, append-assoc, append-nil}
 use lib.IntN.{ℤ, pos}
 use lib.ListN.{length, length-append}
 use borrow.Author.Tests.{le-ltb}
-use Rattle.meaning.specs.Bytes.{choose, refuse}
+use Rattle.meaning.specs.Bytes.{refuse}
 use Rattle.meaning.specs.Model.{AttributeType, Model}
 use Rattle.meaning.specs.Field.{Field}
 use Rattle.meaning.specs.Value.{textOf, referenceOf, stretchOf, valueOf}
-use Rattle.meaning.specs.Row.{Pair, hasMandatory, cells, putPair, undefinedCells, undefinedRest, definedOr, pairCells}
+use Rattle.meaning.specs.Row.{Pair, hasMandatory, cells, putPair, undefinedCells, undefinedRest, pairCells}
 use Rattle.meaning.specs.Reading.{reached, unstarted, LineAttribute, lineAttributes, objectOf, lineOf, dueLines, Content, pointCount, withLine, Rooms}
 use Rattle.meaning.specs.Lines.{go}
 use Rattle.meaning.specs.Right.{Point, Entry, Undefined, OfValue, Line, Means, number, date, enumeration, text, reference, Drawn, entryPoints, cellsOfPoints}
+use Rattle.meaning.specs.Reasons.{ofAttribute, ofComponent}
+use Rattle.meaning.proofs.Reading.PairCells.{FieldRead, field-is}
 use Rattle.meaning.proofs.Writing.Attributes.{set-pair, moved, moved-length, withCells}
 use Rattle.meaning.proofs.Right.Steps.{steps, step-on, steps-on}
 use Rattle.meaning.proofs.Right.Content.{earlyCells, lateCells, points-length, points-append}
 use Rattle.meaning.proofs.Right.Points as points
 use Rattle.meaning.proofs.Right.PairEntries.{Before, wasDefined, wasUndefined, covered, isCovered, PairEntries, done, defined, undefined, cover, under, alsoDefined, alsoUndefined, alsoCover, alsoUnder, undrawn, along}
-pub use Rattle.meaning.proofs.Right.PairEntries.{undefined-once}
 
 -- ## Fields
 
@@ -52,15 +53,15 @@ flagOf covered = false
 
 pub entries-cells : {u : ℕ} {b : Before} {ps : List Pair} {fs : List Field} {ls : List Line} {es : List Entry} → PairEntries u b ps fs ls es → isCovered b ≡ false → (place : ℕ)
     → pairCells u (flagOf b) place ps fs ≡ cells (earlyCells es)
-unfolding pairCells choose refuse definedOr putPair hasMandatory undefinedRest undefinedCells earlyCells flagOf isCovered
+unfolding pairCells putPair undefinedRest undefinedCells earlyCells flagOf isCovered
 entries-cells done h place = refl
-entries-cells (defined {es = es} d n r) h place = rw (d .two, d .one, entries-cells r refl (place + 1)) (means-put n place es)
-entries-cells {u} (undefined {f = f} e r) h place = rw (undefined-once u f e, e, entries-cells r refl (place + 1))
-entries-cells (cover e r) h place = let c = covered-cells r in rw (e, c .optional, c .cells)
+entries-cells (defined {es = es} d n r) h place = field-is ofAttribute (FieldRead.defined d tt) ∙ rw (entries-cells r refl (place + 1)) (means-put n place es)
+entries-cells (undefined e r) h place = field-is ofAttribute (FieldRead.undefined e refl) ∙ rw (entries-cells r refl (place + 1))
+entries-cells (cover e r) h place = let c = covered-cells r in field-is ofAttribute (FieldRead.twice e refl (c .optional)) ∙ rw (c .cells)
 entries-cells (under r) h place = absurd (true≢false h)
-entries-cells (alsoDefined d n r) h place = rw (d .two, d .one, n, entries-cells r refl (place + 1))
-entries-cells {u} (alsoUndefined {f = f} e r) h place = rw (undefined-once u f e, e, entries-cells r refl (place + 1))
-entries-cells (alsoCover e r) h place = let c = covered-cells r in rw (e, c .optional, c .cells)
+entries-cells (alsoDefined {es = es} d n r) h place = field-is ofComponent (FieldRead.defined d refl) ∙ rw (entries-cells r refl (place + 1)) (means-put (number n) place es)
+entries-cells (alsoUndefined e r) h place = field-is ofComponent (FieldRead.undefined e refl) ∙ rw (entries-cells r refl (place + 1))
+entries-cells (alsoCover e r) h place = let c = covered-cells r in field-is ofComponent (FieldRead.twice e refl (c .optional)) ∙ rw (c .cells)
 entries-cells (alsoUnder r) h place = absurd (true≢false h)
 entries-cells (undrawn l r) h place = rw (entries-cells r h place)
 entries-cells (along d r) h place = rw (entries-cells r h place)

@@ -2,19 +2,20 @@
 use Prim.Native.Nat.{ℕ, _+_, _*_}
 use native.Mathlib.Omega.{arith}
 use mathlib.Core.Path.{_≡_, refl, sym, ap, _∙_}
-use mathlib.Core.Bool.{Bool, true, false, not, _&&_, _||_, true≢false, false≢true}
+use mathlib.Core.Bool.{Bool, true, false, not, _||_, true≢false, false≢true}
 use mathlib.Core.List.{List, [], _∷_}
 use lib.IntN.{ℤ, pos}
 use lib.ListN.{length}
-use Rattle.meaning.specs.Bytes.{choose, refuse}
+use Rattle.meaning.specs.Bytes.{refuse}
 use Rattle.meaning.specs.Model.{Component, AttributeType, Number}
 use Rattle.meaning.specs.Field.{Field}
 use Rattle.meaning.specs.Value.{Value, pair, numberOf, valueOf, isUndefined, isUndefinedTwice}
-use Rattle.meaning.specs.Row.{Pair, OfAttribute, OfComponent, OfLine, hasMandatory, Cells, cells, refused, putPair, putNumber, undefinedPair, undefinedCells, undefinedRest, definedOr, pairCells, componentValues}
+use Rattle.meaning.specs.Row.{Pair, OfAttribute, OfComponent, OfLine, hasMandatory, Cells, cells, refused, putPair, putNumber, undefinedPair, undefinedCells, undefinedRest, pairCells, componentValues}
 use Rattle.meaning.specs.Right.{Defined, Values}
 use Rattle.meaning.specs.Reasons.{MayBeUndefined, MayBeDefined, FieldType, ofAttribute, ofComponent, IsMandatory, RightFields, FieldReason, PointReason}
 use Rattle.meaning.proofs.Tests.Refuse.{neither, or-right}
 use Rattle.meaning.proofs.Values.Judged.{ValueJudged, value-judged}
+use Rattle.meaning.proofs.Reading.PairCells.{FieldRead, field-read}
 use Rattle.meaning.proofs.Reading.FieldsRead.{number-within}
 
 -- ## Mandatory pairs
@@ -56,14 +57,13 @@ undefined-length (p ∷ ps) = omega (arith, undefined-length ps)
 module _ (u : ℕ) (place : ℕ) (ps : List Pair) (f : Field) (fs : List Field) where
   module _ (b : Bool) (p : Pair) (type : AttributeType) (of : FieldType p type) where
     -- two undefined bytes that may stand here
-    twice-judged : isUndefinedTwice u f ≡ true → MayBeUndefined b p → (x : Bool) → hasMandatory ps ≡ x → FieldsJudged u b place (p ∷ ps) (f ∷ fs) (refuse x (refused 12 place) (undefinedRest place (p ∷ ps) fs))
-    unfolding refuse undefinedRest
-    twice-judged h may true e = because (FieldReason.covers h of (λ q. is-mandatory ps e))
-    twice-judged h may false e = by fs
+    twice-judged : isUndefinedTwice u f ≡ true → MayBeUndefined b p → (IsMandatory ps → ⊥) → FieldsJudged u b place (p ∷ ps) (f ∷ fs) (undefinedRest place (p ∷ ps) fs)
+    unfolding undefinedRest
+    twice-judged h may none = by fs
       where
         by : (fs : List Field) → FieldsJudged u b place (p ∷ ps) (f ∷ fs) (undefinedRest place (p ∷ ps) fs)
-        by [] = right (RightFields.twice h may of (none-mandatory ps e)) (undefined-length (p ∷ ps))
-        by (g ∷ gs) = because (FieldReason.behindTwice h of may (none-mandatory ps e))
+        by [] = right (RightFields.twice h may of none) (undefined-length (p ∷ ps))
+        by (g ∷ gs) = because (FieldReason.behindTwice h of may none)
 
     -- an undefined field that may stand here
     undefined-judged : isUndefined u f ≡ true → MayBeUndefined b p → (k : Cells) → FieldsJudged u false (place + 1) ps fs k → FieldsJudged u b place (p ∷ ps) (f ∷ fs) (putPair place undefinedPair k)
@@ -79,27 +79,13 @@ module _ (u : ℕ) (place : ℕ) (ps : List Pair) (f : Field) (fs : List Field) 
     defined-judged d may _ (ValueJudged.shape v) k r = because (FieldReason.shape d may of v)
     defined-judged d may _ (ValueJudged.domain v) k r = because (FieldReason.domain d may of v)
 
-  module _ (next : (d : Bool) → FieldsJudged u d (place + 1) ps fs (pairCells u d (place + 1) ps fs)) where
-    attribute-judged : (b o : Bool) (type : AttributeType) (two one : Bool) → isUndefinedTwice u f ≡ two → isUndefined u f ≡ one
-        → FieldsJudged u b place (OfAttribute o type ∷ ps) (f ∷ fs) (choose two (refuse (not o || hasMandatory ps) (refused 12 place) (undefinedRest place (OfAttribute o type ∷ ps) fs))
-        (refuse (not (not one) && not o) (refused 12 place) (putPair place (definedOr (not one) (valueOf type f)) (pairCells u (not one) (place + 1) ps fs))))
-    unfolding choose refuse definedOr
-    attribute-judged b true type true one h g = twice-judged b (OfAttribute true type) type ofAttribute h refl _ refl
-    attribute-judged b false type true one h g = because (FieldReason.covers h ofAttribute (λ e. absurd (false≢true e)))
-    attribute-judged b true type false true h g = undefined-judged b (OfAttribute true type) type ofAttribute g refl _ (next false)
-    attribute-judged b false type false true h g = because (FieldReason.undefined g ofAttribute (λ e. false≢true e))
-    attribute-judged b o type false false h g = defined-judged b (OfAttribute o type) type ofAttribute (record { one = g; two = h }) tt _ (value-judged type f) _ (next true)
-
-    component-judged : (b : Bool) (c : Component) (two one : Bool) → isUndefinedTwice u f ≡ two → isUndefined u f ≡ one
-        → FieldsJudged u b place (OfComponent c ∷ ps) (f ∷ fs) (choose two (refuse (b || hasMandatory ps) (refused 12 place) (undefinedRest place (OfComponent c ∷ ps) fs))
-        (refuse (b && not (not one) || not b && not one) (refused 12 place) (putPair place (definedOr (not one) (numberOf c (f .bytes))) (pairCells u (not one) (place + 1) ps fs))))
-    unfolding choose refuse definedOr valueOf
-    component-judged true c true one h g = because (FieldReason.covers h ofComponent (λ e. absurd (true≢false e)))
-    component-judged false c true one h g = twice-judged false (OfComponent c) (Number c) ofComponent h refl _ refl
-    component-judged true c false true h g = because (FieldReason.undefined g ofComponent (λ e. true≢false e))
-    component-judged false c false true h g = undefined-judged false (OfComponent c) (Number c) ofComponent g refl _ (next false)
-    component-judged true c false false h g = defined-judged true (OfComponent c) (Number c) ofComponent (record { one = g; two = h }) refl _ (value-judged (Number c) f) _ (next true)
-    component-judged false c false false h g = because (FieldReason.mixed (record { one = g; two = h }) ofComponent (λ e. false≢true e))
+    field-judged : ((d : Bool) → FieldsJudged u d (place + 1) ps fs (pairCells u d (place + 1) ps fs)) → (k : Cells) → FieldRead u b place p type ps f fs k → FieldsJudged u b place (p ∷ ps) (f ∷ fs) k
+    field-judged next _ (FieldRead.defined d may) = defined-judged d may _ (value-judged type f) _ (next true)
+    field-judged next _ (FieldRead.mixed d never) = because (FieldReason.mixed d of never)
+    field-judged next _ (FieldRead.undefined h may) = undefined-judged h may _ (next false)
+    field-judged next _ (FieldRead.mandatory h never) = because (FieldReason.undefined h of never)
+    field-judged next _ (FieldRead.twice h may none) = twice-judged h may (none-mandatory ps none)
+    field-judged next _ (FieldRead.covers h some) = because (FieldReason.covers h of (λ may. is-mandatory ps (some may)))
 
 line-judged : (u place : ℕ) (b o : Bool) (forms : ℕ) (cs : List Component) (ps : List Pair) (fs : List Field) (k : Cells) → FieldsJudged u b place ps fs k
     → FieldsJudged u b place (OfLine o forms cs ∷ ps) fs (putPair place undefinedPair k)
@@ -113,9 +99,9 @@ fields-judged u [] [] b place = right RightFields.done refl
 fields-judged u [] (f ∷ fs) b place = because FieldReason.extra
 fields-judged u (OfLine o forms cs ∷ ps) fs b place = line-judged u place b o forms cs ps fs _ (fields-judged u ps fs b place)
 fields-judged u (OfAttribute o type ∷ ps) [] b place = because (FieldReason.missing ofAttribute)
-fields-judged u (OfAttribute o type ∷ ps) (f ∷ fs) b place = attribute-judged u place ps f fs (λ d. fields-judged u ps fs d (place + 1)) b o type _ _ refl refl
+fields-judged u (OfAttribute o type ∷ ps) (f ∷ fs) b place = field-judged u place ps f fs b _ type ofAttribute (λ d. fields-judged u ps fs d (place + 1)) _ (field-read ofAttribute)
 fields-judged u (OfComponent c ∷ ps) [] b place = because (FieldReason.missing ofComponent)
-fields-judged u (OfComponent c ∷ ps) (f ∷ fs) b place = component-judged u place ps f fs (λ d. fields-judged u ps fs d (place + 1)) b c _ _ refl refl
+fields-judged u (OfComponent c ∷ ps) (f ∷ fs) b place = field-judged u place ps f fs b _ (Number c) ofComponent (λ d. fields-judged u ps fs d (place + 1)) _ (field-read ofComponent)
 
 -- ## The fields of a point
 

@@ -7,20 +7,23 @@ use mathlib.Core.List.{List, [], _∷_}
 use lib.Dec.{eqb, ltb}
 use lib.IntN.{ℤ, pos, natAbs}
 use lib.ListN.{length, getD}
-use borrow.Author.Tests.{eq-eqb, ne-eqb}
-use Rattle.meaning.specs.Bytes.{choose, refuse, textByte, every, same}
+use borrow.Author.Tests.{ne-eqb}
+use Rattle.meaning.specs.Bytes.{choose, refuse, textByte, every}
 use Rattle.meaning.specs.Model.{Component, AttributeType, Reference, Coordinate, Number, Text, Date, Enumeration, Line, found, missing, targetOf}
 use Rattle.meaning.specs.Field.{Field}
 use Rattle.meaning.specs.Value.{pair, stretchOf, textOf, isIdentification, referenceOf, valueOf, isUndefined, isUndefinedTwice}
 use Rattle.meaning.specs.Digits.{numberBytes}
-use Rattle.meaning.specs.Row.{Pair, OfAttribute, OfComponent, OfLine, Cells, cells, putPair, definedOr, pairCells}
+use Rattle.meaning.specs.Row.{Pair, OfAttribute, OfComponent, OfLine, Cells, cells, putPair, pairCells}
 use Rattle.meaning.specs.Reading.{Content, stretch}
 use Rattle.meaning.specs.Table.{findObject}
 use Rattle.meaning.specs.Writing.{stretchBytes, identificationBytes, typeBytes, fieldBytes, pairFields}
 use Rattle.meaning.specs.Readback.{shownStretch, isText}
+use Rattle.meaning.specs.Right as right
+use Rattle.meaning.specs.Reasons.{MayBeUndefined, MayBeDefined, FieldType, ofAttribute, ofComponent}
 use Rattle.meaning.proofs.Tests.Unequal.{no-found}
 use Rattle.meaning.proofs.Reading.Fields.{Solid, AllSolid, placed}
 use Rattle.meaning.proofs.Reading.Stretches.{AllStand, stretch-pos}
+use Rattle.meaning.proofs.Reading.PairCells.{undefined-field, FieldRead, field-is}
 use Rattle.meaning.proofs.Values.Numerals.{Defined, NumberOk}
 use Rattle.meaning.proofs.Judge.Shown.{shows, text-shows}
 use Rattle.meaning.proofs.Judge.Valid.{RowOk, done, absent, plain, word, name, without, along, noLine, line, lentObjects}
@@ -81,16 +84,6 @@ row-solid h (line n l q r) = row-solid h r
 
 -- ## Reading them
 
-plain-zero : (o : Bool) (type : AttributeType) → isPlain (OfAttribute o type) (pos 0) ≡ true
-unfolding isPlain
-plain-zero o (Reference t) = refl
-plain-zero o (Coordinate ks) = refl
-plain-zero o (Number x) = refl
-plain-zero o (Text longest) = refl
-plain-zero o Date = refl
-plain-zero o (Enumeration leaves) = refl
-plain-zero o (Line forms ks) = refl
-
 plain-type : (o : Bool) (type : AttributeType) (a : ℤ) → isText type ≡ false → targetOf type ≡ missing → isPlain (OfAttribute o type) a ≡ true
 unfolding isPlain isText targetOf
 plain-type o (Reference t) a h g = absurd (no-found t (sym g))
@@ -101,27 +94,22 @@ plain-type o Date a h g = refl
 plain-type o (Enumeration leaves) a h g = refl
 plain-type o (Line forms ks) a h g = refl
 
-module _ (u : ℕ) where
-  once : same (u ∷ []) (u ∷ []) ≡ true
-  unfolding same
-  once = rw (eq-eqb u u refl)
-
-  twice : same (u ∷ []) (u ∷ u ∷ []) ≡ false
-  unfolding same
-  twice = rw (eq-eqb u u refl)
-
 module _ (u : ℕ) (text : List ℕ) (c : Content) (own : List ℕ) where
   pub record RowRead (ps : List Pair) (cs : List ℤ) (k : Cells) : Type 0 where
     pub xs : List ℤ
     pub is : k ≡ cells xs
     pub like : Like text c own false ps cs xs
 
-  -- a defined field of an attribute
-  defined-reads : (before o : Bool) (type : AttributeType) (ps : List Pair) (start place : ℕ) (f : List ℕ) (x y : ℤ) (gs : List Field) (xs : List ℤ) → Defined u f
+  field-defined : (start : ℕ) (f : List ℕ) → Defined u f → right.Defined u (record { start = start; bytes = f })
+  unfolding isUndefined isUndefinedTwice
+  field-defined start f w = record { one = w .one; two = w .two }
+
+  -- a defined field
+  defined-reads : {p : Pair} {type : AttributeType} → FieldType p type → (before : Bool) → MayBeDefined before p → (ps : List Pair) (start place : ℕ) (f : List ℕ) (x y : ℤ) (gs : List Field) (xs : List ℤ) → Defined u f
       → valueOf type (record { start = start; bytes = f }) ≡ pair x y → pairCells u true (place + 1) ps gs ≡ cells xs
-      → pairCells u before place (OfAttribute o type ∷ ps) (record { start = start; bytes = f } ∷ gs) ≡ cells (x ∷ y ∷ xs)
-  unfolding pairCells choose refuse isUndefined isUndefinedTwice definedOr putPair
-  defined-reads before o type ps start place f x y gs xs w v e = rw (w .one, w .two, v, e)
+      → pairCells u before place (p ∷ ps) (record { start = start; bytes = f } ∷ gs) ≡ cells (x ∷ y ∷ xs)
+  unfolding putPair
+  defined-reads of before may ps start place f x y gs xs w v e = field-is of (FieldRead.defined (field-defined start f w) may) ∙ rw (v, e)
 
   -- the first of the fields that are written
   first-field : (o : Bool) (type : AttributeType) (ps : List Pair) (a b : ℤ) (cs : List ℤ) (start : ℕ) (f : List ℕ) → eqb (natAbs a) 0 ≡ false → typeBytes text c type a b ≡ f
@@ -138,7 +126,7 @@ module _ (u : ℕ) (text : List ℕ) (c : Content) (own : List ℕ) where
     attribute-reads d e w v like others =
         rw (first-field o type ps a b cs start f d e) (λ st.
         let q = others (st .1) in
-        record { xs = x ∷ y ∷ q .xs; is = defined-reads before o type ps start place f x y _ (q .xs) w v (q .is); like = also (like (st .0)) (q .like) })
+        record { xs = x ∷ y ∷ q .xs; is = defined-reads ofAttribute before tt ps start place f x y _ (q .xs) w v (q .is); like = also (like (st .0)) (q .like) })
 
   word-reads : (longest start : ℕ) (f : List ℕ) → every textByte f ≡ true → ltb longest (length f) ≡ false → valueOf (Text longest) (record { start = start; bytes = f }) ≡ pair (pos (1 + length f)) (pos start)
   unfolding valueOf textOf stretchOf refuse
@@ -162,38 +150,46 @@ module _ (u : ℕ) (text : List ℕ) (c : Content) (own : List ℕ) where
   unfolding pairCells placed pairFields
   none-reads before cs start place = record { xs = []; is = refl; like = nil }
 
-  -- an attribute, a further component and a line attribute that are undefined
-  absent-reads : (before : Bool) (type : AttributeType) (ps : List Pair) (cs : List ℤ) (start place : ℕ)
+  -- a pair whose field is undefined
+  zero-plain : {p : Pair} {type : AttributeType} → FieldType p type → isPlain p (pos 0) ≡ true
+  unfolding isPlain
+  zero-plain (ofAttribute {type = Reference t}) = refl
+  zero-plain (ofAttribute {type = Coordinate ks}) = refl
+  zero-plain (ofAttribute {type = Number x}) = refl
+  zero-plain (ofAttribute {type = Text longest}) = refl
+  zero-plain (ofAttribute {type = Date}) = refl
+  zero-plain (ofAttribute {type = Enumeration leaves}) = refl
+  zero-plain (ofAttribute {type = Line forms ks}) = refl
+  zero-plain ofComponent = refl
+
+  zero-field : {p : Pair} {type : AttributeType} → FieldType p type → (ps : List Pair) (cs : List ℤ) (start : ℕ)
+      → fieldsAt start (p ∷ ps) (pos 0 ∷ pos 0 ∷ cs) ≡ record { start = start; bytes = u ∷ [] } ∷ fieldsAt (start + 1 + 1) ps cs
+  unfolding placed pairFields fieldBytes choose
+  zero-field ofAttribute ps cs start = refl
+  zero-field ofComponent ps cs start = refl
+
+  absent-reads : {p : Pair} {type : AttributeType} → FieldType p type → (before : Bool) → MayBeUndefined before p → (ps : List Pair) (cs : List ℤ) (start place : ℕ)
       → (AllStand own (fieldsAt (start + 1 + 1) ps cs) → RowRead ps cs (pairCells u false (place + 1) ps (fieldsAt (start + 1 + 1) ps cs)))
-      → AllStand own (fieldsAt start (OfAttribute true type ∷ ps) (pos 0 ∷ pos 0 ∷ cs))
-      → RowRead (OfAttribute true type ∷ ps) (pos 0 ∷ pos 0 ∷ cs) (pairCells u before place (OfAttribute true type ∷ ps) (fieldsAt start (OfAttribute true type ∷ ps) (pos 0 ∷ pos 0 ∷ cs)))
-  unfolding pairCells placed pairFields fieldBytes choose refuse isUndefined isUndefinedTwice definedOr putPair
-  absent-reads before type ps cs start place others st =
+      → AllStand own (fieldsAt start (p ∷ ps) (pos 0 ∷ pos 0 ∷ cs)) → RowRead (p ∷ ps) (pos 0 ∷ pos 0 ∷ cs) (pairCells u before place (p ∷ ps) (fieldsAt start (p ∷ ps) (pos 0 ∷ pos 0 ∷ cs)))
+  unfolding putPair
+  absent-reads of before may ps cs start place others =
+      rw (zero-field of ps cs start) (λ st.
       let q = others (st .1) in
-      record { xs = pos 0 ∷ pos 0 ∷ q .xs; is = rw (once u, twice u, q .is); like = also (alike (plain-zero true type)) (q .like) }
+      record { xs = pos 0 ∷ pos 0 ∷ q .xs; is = field-is of (FieldRead.undefined (undefined-field u start) may) ∙ rw (q .is); like = also (alike (zero-plain of)) (q .like) })
 
   component-plain : (x : Component) (a : ℤ) → isPlain (OfComponent x) a ≡ true
   unfolding isPlain
   component-plain x a = refl
-
-  without-reads : (x : Component) (ps : List Pair) (cs : List ℤ) (start place : ℕ)
-      → (AllStand own (fieldsAt (start + 1 + 1) ps cs) → RowRead ps cs (pairCells u false (place + 1) ps (fieldsAt (start + 1 + 1) ps cs)))
-      → AllStand own (fieldsAt start (OfComponent x ∷ ps) (pos 0 ∷ pos 0 ∷ cs))
-      → RowRead (OfComponent x ∷ ps) (pos 0 ∷ pos 0 ∷ cs) (pairCells u false place (OfComponent x ∷ ps) (fieldsAt start (OfComponent x ∷ ps) (pos 0 ∷ pos 0 ∷ cs)))
-  unfolding pairCells placed pairFields fieldBytes choose refuse isUndefined isUndefinedTwice definedOr putPair
-  without-reads x ps cs start place others st =
-      let q = others (st .1) in
-      record { xs = pos 0 ∷ pos 0 ∷ q .xs; is = rw (once u, twice u, q .is); like = also (alike (component-plain x (pos 0))) (q .like) }
 
   along-reads : (x : Component) (ps : List Pair) (b : ℤ) (cs : List ℤ) (start place : ℕ) → NumberOk u x b
       → (AllStand own (fieldsAt (start + length (numberBytes (x .decimals) b) + 1) ps cs)
       → RowRead ps cs (pairCells u true (place + 1) ps (fieldsAt (start + length (numberBytes (x .decimals) b) + 1) ps cs)))
       → AllStand own (fieldsAt start (OfComponent x ∷ ps) (pos 1 ∷ b ∷ cs))
       → RowRead (OfComponent x ∷ ps) (pos 1 ∷ b ∷ cs) (pairCells u true place (OfComponent x ∷ ps) (fieldsAt start (OfComponent x ∷ ps) (pos 1 ∷ b ∷ cs)))
-  unfolding pairCells placed pairFields fieldBytes choose refuse isUndefined isUndefinedTwice definedOr putPair
+  unfolding placed pairFields fieldBytes choose valueOf
   along-reads x ps b cs start place w others st =
       let q = others (st .1) in
-      record { xs = pos 1 ∷ b ∷ q .xs; is = rw (w .field .one, w .field .two, w .reads, q .is); like = also (alike (component-plain x (pos 1))) (q .like) }
+      record { xs = pos 1 ∷ b ∷ q .xs; is = defined-reads ofComponent true refl ps start place _ (pos 1) b _ (q .xs) (w .field) (w .reads) (q .is); like = also (alike (component-plain x (pos 1))) (q .like) }
 
   line-reads : (before o : Bool) (forms : ℕ) (ks : List Component) (ps : List Pair) (a b : ℤ) (cs : List ℤ) (start place : ℕ)
       → RowRead ps cs (pairCells u before place ps (fieldsAt start ps cs))
@@ -210,8 +206,8 @@ module _ (u : ℕ) (text : List ℕ) (c : Content) (own : List ℕ) where
   pub row-reads : {before : Bool} {k k′ : ℕ} {ps : List Pair} {cs : List ℤ} → RowOk u text c before k ps cs k′ → (start place : ℕ)
       → AllStand own (placed start (pairFields u text c ps cs)) → RowRead ps cs (pairCells u before place ps (placed start (pairFields u text c ps cs)))
   row-reads (done {before = before} {cs = cs}) start place st = none-reads before cs start place
-  row-reads (absent {before = before} {type = type} {ps = ps} {cs = cs} r) start place st =
-      absent-reads before type ps cs start place (λ st. row-reads r (start + 1 + 1) (place + 1) st) st
+  row-reads (absent {before = before} {ps = ps} {cs = cs} r) start place st =
+      absent-reads ofAttribute before refl ps cs start place (λ st. row-reads r (start + 1 + 1) (place + 1) st) st
   row-reads (plain {before = before} {o = o} {type = type} {ps = ps} {a = a} {b = b} {cs = cs} t g d w v r) start place st =
       attribute-reads before o type ps a b cs start place (typeBytes text c type a b) a b d refl w (v start) (λ _. alike (plain-type o type a t g))
       (λ st. row-reads r (start + length (typeBytes text c type a b) + 1) (place + 1) st) st
@@ -221,7 +217,7 @@ module _ (u : ℕ) (text : List ℕ) (c : Content) (own : List ℕ) where
   row-reads (name {before = before} {o = o} {target = target} {n = n} {ps = ps} {cs = cs} f w e s g r) start place st =
       attribute-reads before o (Reference target) ps (pos 1) (pos n) cs start place f (pos (1 + length f)) (pos start) refl (name-bytes text c target n f s) w
       (name-reads target start f e) (λ there. nameAt (length f) (rw there g)) (λ st. row-reads r (start + length f + 1) (place + 1) st) st
-  row-reads (without {x = x} {ps = ps} {cs = cs} r) start place st = without-reads x ps cs start place (λ st. row-reads r (start + 1 + 1) (place + 1) st) st
+  row-reads (without {ps = ps} {cs = cs} r) start place st = absent-reads ofComponent false refl ps cs start place (λ st. row-reads r (start + 1 + 1) (place + 1) st) st
   row-reads (along {x = x} {ps = ps} {b = b} {cs = cs} w r) start place st =
       along-reads x ps b cs start place w (λ st. row-reads r (start + length (numberBytes (x .decimals) b) + 1) (place + 1) st) st
   row-reads (noLine {before = before} {forms = forms} {ks = ks} {ps = ps} {cs = cs} r) start place st =

@@ -7,8 +7,8 @@ use lib.ListN.{length}
 use Rattle.meaning.specs.Field.{fieldsOf}
 use Rattle.meaning.specs.Reading.{stretch}
 use Rattle.model_records.specs.Records.{pairsAt}
-use Rattle.read_objects.proofs.Sizes.{row-size}
-use Rattle.read_objects.proofs.RowLaws.{room-rows, room-cells, table-small, full-row, refused-row, fieldCells, fields-refused, lacks, joins}
+use Rattle.meaning.proofs.Right.FieldReasons.{cells-size}
+use Rattle.read_objects.proofs.RowLaws.{room-rows, room-cells, table-small, full-row, refused-row, lineCells, fields-refused, lacks, joins}
 use borrow.Author.Needs.{needs}
 use Rattle.read_objects.proofs.storing.store_row.Statement.{statement}
 use Rattle.read_objects.proofs.storing.store_row.Tie as tie
@@ -40,7 +40,7 @@ add-lacks-room c =
     let p = c .before .before .before .before .before .before .before .before .before .before .before .before .pre in
     let r = c .before .before .before .before .fill-row in
     let g = c .before .n .given in
-    let f = full-row (fieldCells (a .model .now) (a .text .now) (a .undefined) (a .here .at) (a .name .start + a .name .size) (a .end)) (2 * length (a .model .now)) (a .state .cells + 3) (a .cells .now) (r .last .1 .1 .1 .1 .1 .0) (r .result) (g .0 .0) (g .1) (r .ensures) in
+    let f = full-row (lineCells (a .model .now) (a .text .now) (a .undefined) (a .here .at) (a .name .start + a .name .size) (a .end)) (2 * length (a .model .now)) (a .state .cells + 3) (a .cells .now) (r .last .1 .1 .1 .1 .1 .0) (r .result) (g .0 .0) (g .1) (r .ensures) in
     record { fits = omega (arith, f .few, p .1 .1 .0) }
 
 add-lacks-room-2 : tie.Need-add-lacks-room-2
@@ -49,7 +49,7 @@ add-lacks-room-2 c =
     let p = c .before .before .before .before .before .before .before .before .before .before .before .before .before .pre in
     let r = c .before .before .before .before .before .fill-row in
     let g = c .before .before .n .given in
-    let f = full-row (fieldCells (a .model .now) (a .text .now) (a .undefined) (a .here .at) (a .name .start + a .name .size) (a .end)) (2 * length (a .model .now)) (a .state .cells + 3) (a .cells .now) (r .last .1 .1 .1 .1 .1 .0) (r .result) (g .0 .0) (g .1) (r .ensures) in
+    let f = full-row (lineCells (a .model .now) (a .text .now) (a .undefined) (a .here .at) (a .name .start + a .name .size) (a .end)) (2 * length (a .model .now)) (a .state .cells + 3) (a .cells .now) (r .last .1 .1 .1 .1 .1 .0) (r .result) (g .0 .0) (g .1) (r .ensures) in
     record { fits = omega (arith, f .few, p .1 .1 .0, p .1 .1 .1, c .before .before .before .before .before .before .before .before .before .before .before .before .before .good) }
 
 lacks-room-requires : tie.Need-lacks-room-requires
@@ -64,7 +64,7 @@ returns c =
     let p = c .before .before .before .before .before .before .before .before .before .before .before .before .before .before .before .pre in
     let r = c .before .before .before .before .before .before .before .fill-row in
     let g = c .before .before .before .before .n .given in
-    let f = full-row (fieldCells (a .model .now) (a .text .now) (a .undefined) (a .here .at) (a .name .start + a .name .size) (a .end)) (2 * length (a .model .now)) (a .state .cells + 3) (a .cells .now) (r .last .1 .1 .1 .1 .1 .0) (r .result) (g .0 .0) (g .1) (r .ensures) in
+    let f = full-row (lineCells (a .model .now) (a .text .now) (a .undefined) (a .here .at) (a .name .start + a .name .size) (a .end)) (2 * length (a .model .now)) (a .state .cells + 3) (a .cells .now) (r .last .1 .1 .1 .1 .1 .0) (r .result) (g .0 .0) (g .1) (r .ensures) in
     let q : length (r .last .1 .1 .1 .1 .1 .0) ≡ length (a .cells .now) = c .before .before .before .before .before .before .cells .given in
     λ seed new. lacks (a .model .now) (a .text .now) seed (a .here) (a .state) (a .name .start) (a .name .size) (a .undefined) (fieldsOf (a .name .start + a .name .size) (stretch (a .text .now) (a .name .start + a .name .size) (a .end - (a .name .start + a .name .size)))) (a .rows .now) (a .cells .now) (a .index .now) (new .held) _ _ _ f _ _ _ (length (r .last .1 .1 .1 .1 .1 .0)) q (sym (c .before .lacks-room .ensures) ∙ c .if1 .taken)
 
@@ -74,7 +74,7 @@ add-row-requires c κs =
     let p = c .before .before .before .before .before .before .before .before .before .before .before .before .before .before .before .before .before .before .pre in
     let r = c .before .before .before .before .before .before .before .before .before .before .fill-row in
     let g = c .before .before .before .before .before .before .before .n .given in
-    let f = full-row (fieldCells (a .model .now) (a .text .now) (a .undefined) (a .here .at) (a .name .start + a .name .size) (a .end)) (2 * length (a .model .now)) (a .state .cells + 3) (a .cells .now) (r .last .1 .1 .1 .1 .1 .0) (r .result) (g .0 .0) (g .1) (r .ensures) in
+    let f = full-row (lineCells (a .model .now) (a .text .now) (a .undefined) (a .here .at) (a .name .start + a .name .size) (a .end)) (2 * length (a .model .now)) (a .state .cells + 3) (a .cells .now) (r .last .1 .1 .1 .1 .1 .0) (r .result) (g .0 .0) (g .1) (r .ensures) in
     let e = sym (c .before .before .before .before .lacks-room .ensures) ∙ c .before .before .before .if1 .left in
     ((room-rows (length (a .rows .now)) (a .state .rows) (length (r .last .1 .1 .1 .1 .1 .0)) (a .state .cells + (3 + g .0 .0)) e, omega (arith, room-cells (length (a .rows .now)) (a .state .rows) (length (r .last .1 .1 .1 .1 .1 .0)) (a .state .cells + (3 + g .0 .0)) e)), (omega (arith, table-small _ _ _ (p .0), p .1 .1 .0), omega (arith, p .1 .0), omega (arith, p .1 .0), p .1 .1 .2))
 
@@ -84,7 +84,7 @@ add-state-behind c =
     let p = c .before .before .before .before .before .before .before .before .before .before .before .before .before .before .before .before .before .before .before .before .before .before .before .before .pre in
     let r = c .before .before .before .before .before .before .before .before .before .before .before .before .before .before .before .before .fill-row in
     let g = c .before .before .before .before .before .before .before .before .before .before .before .before .before .n .given in
-    let f = full-row (fieldCells (a .model .now) (a .text .now) (a .undefined) (a .here .at) (a .name .start + a .name .size) (a .end)) (2 * length (a .model .now)) (a .state .cells + 3) (a .cells .now) (r .last .1 .1 .1 .1 .1 .0) (r .result) (g .0 .0) (g .1) (r .ensures) in
+    let f = full-row (lineCells (a .model .now) (a .text .now) (a .undefined) (a .here .at) (a .name .start + a .name .size) (a .end)) (2 * length (a .model .now)) (a .state .cells + 3) (a .cells .now) (r .last .1 .1 .1 .1 .1 .0) (r .result) (g .0 .0) (g .1) (r .ensures) in
     record { fits = omega (arith, f .few, p .1 .1 .0) }
 
 state-behind-requires : tie.Need-state-behind-requires
@@ -93,9 +93,9 @@ state-behind-requires c κs =
     let p = c .before .before .before .before .before .before .before .before .before .before .before .before .before .before .before .before .before .before .before .before .before .before .before .before .pre in
     let r = c .before .before .before .before .before .before .before .before .before .before .before .before .before .before .before .before .fill-row in
     let g = c .before .before .before .before .before .before .before .before .before .before .before .before .before .n .given in
-    let f = full-row (fieldCells (a .model .now) (a .text .now) (a .undefined) (a .here .at) (a .name .start + a .name .size) (a .end)) (2 * length (a .model .now)) (a .state .cells + 3) (a .cells .now) (r .last .1 .1 .1 .1 .1 .0) (r .result) (g .0 .0) (g .1) (r .ensures) in
+    let f = full-row (lineCells (a .model .now) (a .text .now) (a .undefined) (a .here .at) (a .name .start + a .name .size) (a .end)) (2 * length (a .model .now)) (a .state .cells + 3) (a .cells .now) (r .last .1 .1 .1 .1 .1 .0) (r .result) (g .0 .0) (g .1) (r .ensures) in
     let e = sym (c .before .before .before .before .before .before .before .before .before .before .lacks-room .ensures) ∙ c .before .before .before .before .before .before .before .before .before .if1 .left in
-    let z = f .size ∙ row-size _ true 3 (pairsAt (a .model .now) (a .here .at)) _ (f .values) (f .meaning) in
+    let z = f .size ∙ cells-size _ (pairsAt (a .model .now) (a .here .at)) _ true 3 (f .values) (f .meaning) in
     (p .0, (omega (arith, room-rows (length (a .rows .now)) (a .state .rows) (length (r .last .1 .1 .1 .1 .1 .0)) (a .state .cells + (3 + g .0 .0)) e, c .before .before .before .before .before .before .before .before .before .before .before .before .before .before .before .before .before .before .before .before .before .before .before .before .good), omega (arith, f .few, p .1 .1 .0, p .1 .1 .1, c .before .before .before .before .before .before .before .before .before .before .before .before .before .before .before .before .before .before .before .before .before .before .before .before .good), omega (arith, z)))
 
 same-length-2 : tie.Need-same-length-2
@@ -106,7 +106,7 @@ returns-2 c =
     let a = c .before .before .before .before .before .before .before .before .before .before .before .before .args in
     let r = c .before .before .before .before .fill-row in
     let g = c .before .k .given in
-    let e = refused-row (fieldCells (a .model .now) (a .text .now) (a .undefined) (a .here .at) (a .name .start + a .name .size) (a .end)) (2 * length (a .model .now)) (a .state .cells + 3) (a .cells .now) (r .last .1 .1 .1 .1 .1 .0) (r .result) (g .0 .0) (g .0 .1 .0) (g .1) (r .ensures) in
+    let e = refused-row (lineCells (a .model .now) (a .text .now) (a .undefined) (a .here .at) (a .name .start + a .name .size) (a .end)) (2 * length (a .model .now)) (a .state .cells + 3) (a .cells .now) (r .last .1 .1 .1 .1 .1 .0) (r .result) (g .0 .0) (g .0 .1 .0) (g .1) (r .ensures) in
     λ seed new. fields-refused (a .model .now) (a .text .now) seed (a .here) (a .state) (a .name .start) (a .name .size) (a .undefined) (fieldsOf (a .name .start + a .name .size) (stretch (a .text .now) (a .name .start + a .name .size) (a .end - (a .name .start + a .name .size)))) (a .rows .now) (a .cells .now) (a .index .now) (new .held) _ _ _ _ _ e
 
 same-length-3 : tie.Need-same-length-3
@@ -124,7 +124,7 @@ returns-3 c =
     let p = c .before .before .before .before .before .before .before .before .before .before .before .before .before .before .before .before .before .before .before .before .before .before .before .before .before .pre in
     let r = c .before .before .before .before .before .before .before .before .before .before .before .before .before .before .before .before .before .fill-row in
     let g = c .before .before .before .before .before .before .before .before .before .before .before .before .before .before .n .given in
-    let f = full-row (fieldCells (a .model .now) (a .text .now) (a .undefined) (a .here .at) (a .name .start + a .name .size) (a .end)) (2 * length (a .model .now)) (a .state .cells + 3) (a .cells .now) (r .last .1 .1 .1 .1 .1 .0) (r .result) (g .0 .0) (g .1) (r .ensures) in
+    let f = full-row (lineCells (a .model .now) (a .text .now) (a .undefined) (a .here .at) (a .name .start + a .name .size) (a .end)) (2 * length (a .model .now)) (a .state .cells + 3) (a .cells .now) (r .last .1 .1 .1 .1 .1 .0) (r .result) (g .0 .0) (g .1) (r .ensures) in
     let q : length (r .last .1 .1 .1 .1 .1 .0) ≡ length (a .cells .now) = c .before .before .before .before .before .before .before .before .before .before .before .before .before .before .before .before .cells .given in
     let e = sym (c .before .before .before .before .before .before .before .before .before .before .before .lacks-room .ensures) ∙ c .before .before .before .before .before .before .before .before .before .before .if1 .left in
     let w = c .before .before .before .before .before .before .add-row .ensures in
