@@ -1,7 +1,7 @@
 -- Reading (01, "Lines and fields" and "Refusal numbers"): the step over one logical line, and the lines in order.
 -- Short names: m the model, c the table so far, s the state, l a line, fs its fields, p a topic's number, t a table's,
 -- i an identification's field.
-use Prim.Native.Nat.{ℕ, _+_, _-_}
+use Prim.Native.Nat.{ℕ, _+_}
 use mathlib.Core.Bool.{true, not, _||_}
 use mathlib.Core.List.{List, [], _∷_}
 use lib.Dec.{leb, ltb}

@@ -2,11 +2,10 @@
 -- otherwise. Proved in proofs/Right/Claims.antt.
 use Prim.Native.Nat.{ℕ, _+_, _≤_, _<_}
 use mathlib.Core.Path.{_≡_}
-use mathlib.Core.Bool.{true}
 use mathlib.Core.List.{List, [], _∷_, _++_}
 use mathlib.Core.Logic.{_↔_}
 use lib.ListN.{length}
-use Rattle.meaning.specs.Unfold.{lines, unfoldFile, unfoldedText}
+use Rattle.meaning.specs.Unfold.{unfoldedText}
 use Rattle.meaning.specs.Cut.{Cut}
 use Rattle.meaning.specs.Faults.{FirstFault}
 use Rattle.meaning.specs.Model.{found, Model, markCount, tableAt}

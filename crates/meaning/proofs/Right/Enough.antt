@@ -19,7 +19,6 @@ use Rattle.meaning.specs.Reasons.{Place, Gain, Follows, usedWith, cellsW
 use Rattle.meaning.specs.RightClaims.{Opened, lineBehind, First, tooLarge, badModel, badUnfolding, noRoom, badLine, fullLine, lineMissing, objectMissing}
 use Rattle.meaning.specs.RoomClaims.{isOneOf, NoLess, HadRoom, longestRow, roomsFor, SomeRoomIsEnough}
 use Rattle.meaning.proofs.Unfolding.Cuts as cuts
-use Rattle.meaning.proofs.Model.Marks as marks
 use Rattle.meaning.proofs.Model.GoodModels as models
 use Rattle.meaning.proofs.Right.Claims.{refusal-is-first}
 use Rattle.meaning.proofs.Right.Numbers.{each, faultNumbers, fault-fine, lineNumbers, reason-fine}

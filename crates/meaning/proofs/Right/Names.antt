@@ -12,7 +12,7 @@ use Rattle.meaning.specs.Model.{found, Table, Model, noTable}
 use Rattle.meaning.specs.Check.{isName, isAmong, goodNames, tableNames}
 use Rattle.meaning.specs.Reading.{sameName, findTopic, findTable, mandatoryBetween}
 use Rattle.meaning.specs.Right.{AllOptional}
-use Rattle.meaning.proofs.Tests.Refuse.{both, neither, holds, or-right}
+use Rattle.meaning.proofs.Tests.Refuse.{neither, holds, or-right}
 use Rattle.meaning.proofs.Tests.Same.{same-refl, same-is}
 use Rattle.meaning.proofs.Model.Names.{short-name, names-behind}
 use Rattle.meaning.proofs.Model.GoodPairs.{names-good}

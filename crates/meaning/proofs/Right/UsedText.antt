@@ -15,8 +15,6 @@ use Rattle.meaning.specs.RightClaims.{Opened, HasRoom}
 use Rattle.meaning.specs.RoomClaims.{UsedText, LinesSayWhatIsUsed}
 use Rattle.meaning.proofs.Tests.Unequal.{not-accepted}
 use Rattle.meaning.proofs.Tests.Refuse.{refuse-keeps, neither-less}
-use Rattle.meaning.proofs.Unfolding.Cuts as cuts
-use Rattle.meaning.proofs.Model.Marks as marks
 use Rattle.meaning.proofs.Reading.Claims.{cut-reads-as-lines}
 use Rattle.meaning.proofs.Reading.Buffers.{Ran, lines-fit, behind-filled}
 
