@@ -91,11 +91,12 @@ pub data FirstOutsideOf (ts : List Table) : List Table → (at : ℕ) → Type 0
 -- "The first bad record is the first that overruns the model, has a kind not allowed there, or breaks a rule; a missing
 -- record is at the model's end, bytes behind the end record are at the first of them. References are judged last, in
 -- order. A model too long is bad at 0." The bytes b, whose first bad record is at this byte: behind f, which is fine.
--- What may follow and which rules a record keeps are the check's own (`follows`, `keeps`, `see`); where the record stands
--- is said here, and Models has a row for each rule
+-- What may follow and which rules a record keeps are the check's own (`follows`, `keeps`, `see`), and Models has rows
+-- for them; where the record stands is said here
 pub data FirstBad (b : List ℕ) : (at : ℕ) → Type 0 where
   tooLong : 65536 < length b → FirstBad b 0
-  missing : {last : ℕ} {seen : Seen} → length b ≤ 65536 → GoodRecords b last seen → (last ≡ 6 → ⊥) → FirstBad b (length b)
+  missing : {last : ℕ} {seen : Seen} → length b ≤ 65536 → GoodRecords b last seen → (last ≡ 6 → ⊥)
+      → FirstBad b (length b)
   overruns : {last : ℕ} {seen : Seen} (f r : List ℕ) → length b ≤ 65536 → GoodRecords f last seen → b ≡ f ++ r
       → 0 < length r → (Whole r → ⊥) → FirstBad b (length f)
   misplaced : {last : ℕ} {seen : Seen} (f r : List ℕ) → length b ≤ 65536 → GoodRecords f last seen → b ≡ f ++ r

@@ -168,6 +168,9 @@ abbrev pub wideLines : List ℕ
 wideLines = bytesOf "TOPI N\nTABL A\nOBJE a 02 1.0 2.0 3 a\nSTPT 1.0 2.0 3\nLIPT 4.0 5.0 6\nELIN\nETAB\nETOP\n"
     ++ bytesOf "TOPI O\nTABL B\nOBJE b 20000229\nETAB\nETOP\nEMOD\nENDE\n"
 
+abbrev pub wideEnd : List ℕ
+wideEnd = bytesOf "ETOP\nEMOD\nENDE\n"
+
 abbrev pub roomsOfMarks : ℕ → Rooms
 roomsOfMarks marks = record { text = 100; marks = marks; rows = 0; cells = 0; points = 0 }
 
@@ -190,12 +193,13 @@ two-topics = refl
 pub topics-and-fields :
     (readsWide (bytesOf "TOPI O\nTABL B\nETAB\nETOP\nEMOD\nENDE\n") (roomsOfMarks 4) .marks
     ∷ readsWide (bytesOf "TOPI O\nETOP\nEMOD\nENDE\n") (roomsOfMarks 5) .marks
-    ∷ numbersOf (readsWide (bytesOf "TOPI N\nTABL A\nOBJE a 0 @ @ @ q\nELIN\nETAB\nETOP\nEMOD\nENDE\n") listingRooms .answer)
+    ∷ numbersOf (readsWide (bytesOf "TOPI N\nTABL A\nOBJE a 0 @@\nELIN\nOBJE b 0 @ @ @ q\nELIN\nETAB\n" ++ wideEnd)
+    listingRooms .answer)
     ∷ numbersOf (readsWide (bytesOf "TOPI N\nTABL A\nOBJE a 3\n") listingRooms .answer)
     ∷ [])
     ≡ ((0 ∷ 1 ∷ 0 ∷ 1 ∷ [])
     ∷ (0 ∷ 1 ∷ 0 ∷ 0 ∷ 0 ∷ [])
-    ∷ (17 ∷ 0 ∷ 7 ∷ 0 ∷ [])
+    ∷ (17 ∷ 1 ∷ 7 ∷ 0 ∷ [])
     ∷ (14 ∷ 7 ∷ 3 ∷ 0 ∷ [])
     ∷ [])
 unfolding readsWide numbersOf

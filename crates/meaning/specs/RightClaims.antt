@@ -60,8 +60,8 @@ pub record RightFile (m : Model) (file : List ℕ) (rooms : Rooms) : Type 0 wher
   pub cut : Cut (m .mark) of file
   pub within : RightWithin m of rooms
 
--- "With enough room, a file within the size limit and under a good model is accepted exactly when its structure, values,
--- identifications and references are right"
+-- "With enough room, a file within the size limit and under a good model is accepted exactly when its structure,
+-- values, identifications and references are right"
 abbrev pub AcceptedExactlyWhenRight : Type 0
 AcceptedExactlyWhenRight =
     (model file : List ℕ) (m : Model) (rooms : Rooms) → checkModel model ≡ good m → length file ≤ 16777216

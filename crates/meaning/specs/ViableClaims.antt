@@ -1,5 +1,5 @@
--- The line of a refusal by what can be continued: over `Right` alone, without a word of how lines are read. The field is
--- said by `Reason` alone. Proved in proofs/Right/ViableClaims.antt.
+-- The line of a refusal by what can be continued: over `Right` alone, without a word of how lines are read. The field
+-- is said by `Reason` alone. Proved in proofs/Right/ViableClaims.antt.
 use Prim.Native.Nat.{ℕ, _+_, _-_, _≤_}
 use mathlib.Core.Path.{_≡_}
 use mathlib.Core.Bool.{true}
