@@ -74,8 +74,8 @@ cells-filled room vs h = cells-append vs _ h (cells-zero (room - length vs))
 
 -- ## Values: a number, a date and a leaf have 18 digits at most
 
-digits-cell : (s : List ℕ) → every digit s ≡ true → length s ≤ 18 → placeValue s < 10 ^ 18
-digits-cell s h l = rw (place-value s) (below-18 s 0 0 h (omega arith) (omega arith))
+digits-small : (s : List ℕ) → every digit s ≡ true → length s ≤ 18 → placeValue s < 10 ^ 18
+digits-small s h l = rw (place-value s) (below-18 s 0 0 h (omega arith) (omega arith))
 
 signed-abs : {sign : List ℕ} {n : ℕ} {v : ℤ} → Signed sign n v → natAbs v ≡ n
 signed-abs shapes.unsigned = refl
@@ -92,12 +92,12 @@ numeral-cell : {d : ℕ} {s : List ℕ} {v : ℤ} → Numeral d s v → IsCell v
 numeral-cell {v = v} n =
     let f = fraction-digits (n .point) in
     small-cell v (rw (signed-abs (n .value))
-    (digits-cell (n .whole ++ n .fraction) (every-append digit (n .whole) (n .fraction) (n .digits .digits) (f .0)) (omega (arith, length-append (n .whole) (n .fraction), n .few, f .1))))
+    (digits-small (n .whole ++ n .fraction) (every-append digit (n .whole) (n .fraction) (n .digits .digits) (f .0)) (omega (arith, length-append (n .whole) (n .fraction), n .few, f .1))))
 
 shape-cell : {type : AttributeType} {s : List ℕ} {v : ℤ} → Shape type s v → length s ≤ 16777216 → IsCell v
 shape-cell (shapes.number n) l = numeral-cell n
-shape-cell (shapes.date {s = s} d) l = small-cell (pos (placeValue s)) (digits-cell s (d .digits) (omega (arith, d .atMost)))
-shape-cell (shapes.enumeration {s = s} d) l = small-cell (pos (placeValue s)) (digits-cell s (d .digits) (omega (arith, d .atMost)))
+shape-cell (shapes.date {s = s} d) l = small-cell (pos (placeValue s)) (digits-small s (d .digits) (omega (arith, d .atMost)))
+shape-cell (shapes.enumeration {s = s} d) l = small-cell (pos (placeValue s)) (digits-small s (d .digits) (omega (arith, d .atMost)))
 shape-cell (shapes.text {s = s} e) l = count-cell (length s) (omega arith)
 shape-cell (shapes.reference {s = s} e) l = count-cell (length s) (omega arith)
 
@@ -194,16 +194,9 @@ module _ (own : List ℕ) (short : length own ≤ 16777216) (all : List Delivere
       let es = entries-fit (r .entries) (r .fieldsStand) (r .fieldsAre) in
       let ih = rows-fit m limit os (h .1) in
       let size = length-append (entryPoints (o .entries)) (pointsOf os) in (
-        λ k l. (
-          count-cell (o .table) (omega arith),
-          (
-            count-cell (o .identification .start) (omega arith),
-            (
-              count-cell (length (o .identification .bytes)) (omega arith),
-              cells-append (entryCells (namesOf all) k (o .entries)) _ (es .0 k (omega arith)) (ih .0 (k + length (entryPoints (o .entries))) (omega arith)),
-            ),
-          ),
-        ),
+        λ k l.
+            let others = cells-append (entryCells (namesOf all) k (o .entries)) _ (es .0 k (omega arith)) (ih .0 (k + length (entryPoints (o .entries))) (omega arith)) in
+            (count-cell (o .table) (omega arith), (count-cell (o .identification .start) (omega arith), (count-cell (length (o .identification .bytes)) (omega arith), others))),
         rw (points-append (entryPoints (o .entries)) (pointsOf os)) (cells-append (cellsOfPoints (entryPoints (o .entries))) (cellsOfPoints (pointsOf os)) (es .1) (ih .1)),
       )
 
