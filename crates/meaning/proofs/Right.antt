@@ -40,5 +40,6 @@ pub mod UsedText
 pub mod Lengths
 pub mod Spends
 pub mod Enough
+pub mod CellsFit
 pub mod RoomClaims
 pub mod ViableClaims

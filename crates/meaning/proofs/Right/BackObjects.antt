@@ -22,7 +22,7 @@ use Rattle.meaning.proofs.Tests.Same.{same-refl}
 use Rattle.meaning.proofs.Right.Steps.{steps, first-of}
 use Rattle.meaning.proofs.Right.Content.{contentOf, content-more, points-length, AllNamesStand, names-stand-append, objects-names}
 use Rattle.meaning.proofs.Right.PairEntries.{wasDefined, isCovered, entries-of-pairs}
-use Rattle.meaning.proofs.Right.Objects.{LinesStand, stand-left, stand-right, name-left, name-seam, object-read}
+use Rattle.meaning.proofs.Right.Objects.{LinesStand, stand-left, stand-right, name-left, name-seam, object-stands}
 use Rattle.meaning.proofs.Right.Rows.{flagOf}
 use Rattle.meaning.proofs.Right.BackRows.{RowOf, Reads, row-reads}
 use Rattle.meaning.proofs.Right.BackLines.{ObjectStep, etab, obje, object-step}
@@ -145,9 +145,9 @@ module _ (m : Model) (rooms : Rooms) (own : List ℕ) (z : Content) where
   objects-next n ih t marks before l ls short h stand f =
       let behind : LinesStand own (f .these ++ f .others) = subst (λ (y : List Line). LinesStand own y) (f .is) (h .1) in
       let size = ap length (f .is) ∙ length-append (f .these) (f .others) in
-      let one = object-read m own t (f .lines) (h .0, stand-left own (f .these) (f .others) behind) in
+      let one = object-stands m own t (f .lines) (h .0, stand-left own (f .these) (f .others) behind) in
       objects-joined t marks before l ls f
-      (ih (f .others) (omega arith) t marks (before ++ (f .o ∷ [])) (stand-right own (f .these) (f .others) behind) (names-stand-append own before (f .o ∷ []) stand (one .stands, tt)) (f .unique) (f .goes))
+      (ih (f .others) (omega arith) t marks (before ++ (f .o ∷ [])) (stand-right own (f .these) (f .others) behind) (names-stand-append own before (f .o ∷ []) stand one) (f .unique) (f .goes))
 
   objects-end : (t : ℕ) (marks : List ℕ) (before : List Delivered) (l : Line) (ls : List Line) → Unique before → Alone ETAB l
       → Goes (tableFrom (tableAt (m .tables) t .topic) (t + 1)) (contentOf marks before) ls → ObjectsOf t marks before (l ∷ ls)

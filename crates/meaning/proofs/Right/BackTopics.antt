@@ -94,7 +94,7 @@ module _ (m : Model) (rooms : Rooms) (own : List ℕ) (z : Content) where
       let o = objects-of m rooms own z (length ls) ls (omega arith) t marks′ before (h .1) stand unique g in
       let behind : LinesStand own (o .these ++ (o .e ∷ o .others)) = subst (λ (y : List Line). LinesStand own y) (o .is) (h .1) in
       let size′ = ap length (o .is) ∙ length-append (o .these) (o .e ∷ o .others) in
-      let stand′ = names-stand-append own before (o .os) stand (read-names m own (o .os) (objects-read m own t (o .objects) (stand-left own (o .these) (o .e ∷ o .others) behind))) in
+      let stand′ = names-stand-append own before (o .os) stand (read-names m own (o .os) (objects-read m own t (omega arith) (o .objects) (stand-left own (o .these) (o .e ∷ o .others) behind))) in
       let g′ : Reaches (tableFrom p (t + 1)) (contentOf marks′ (before ++ o .os)) (o .others) = subst (λ (y : ℕ). Reaches (tableFrom y (t + 1)) (contentOf marks′ (before ++ o .os)) (o .others)) topic (o .goes) in
       table-joined p from t marks before l ls f after (omega arith) topic optional coded name o
       (ih (o .others) (omega arith) p (t + 1) marks′ (before ++ o .os) (stand-right own (o .these) (o .e ∷ o .others) behind .1) stand′ (o .unique) g′)

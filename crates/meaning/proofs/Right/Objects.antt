@@ -18,6 +18,8 @@ use Rattle.meaning.specs.Reading.{lineAttributes, objectOf, dueLines, Co
 use Rattle.meaning.specs.Lines.{go, storeRow, objectFields, objectLine, lineDue}
 use Rattle.meaning.specs.Right.{Entry, Delivered, Line, withStarts, Coded, Identification, StandFor, Entries, ObjectLines, object, Objects, none, more, noObject, identificationAt, Unique, namesOf, entryPoints, pointsOf, cellsOfPoints}
 use Rattle.meaning.proofs.Tests.Same.{same-not}
+use Rattle.meaning.proofs.Reading.Fields.{Solid}
+use Rattle.meaning.proofs.Reading.FieldsRead.{AllAre, fields-are}
 use Rattle.meaning.proofs.Reading.Stretches.{AllStand, text-behind, line-stands}
 use Rattle.meaning.proofs.Reading.References.{flatRows, rowStarts, flat-append}
 use Rattle.meaning.proofs.Right.Steps.{stepAt, steps, step-on, steps-on}
@@ -111,6 +113,9 @@ pub record ReadObject (m : Model) (own : List ℕ) (o : Delivered) : Type 0 wher
   pub lines : List Line
   pub stands : stretch own (o .identification .start) (length (o .identification .bytes)) ≡ o .identification .bytes
   pub fieldsStand : AllStand own fields
+  pub solid : Solid (o .identification .bytes)
+  pub fieldsAre : AllAre fields
+  pub within : o .table < length (m .tables)
   pub entries : PairEntries (m .undefined) wasDefined (pairsOf (tableAt (m .tables) (o .table) .attributes)) fields lines (o .entries)
 
 abbrev pub AllRead : Model → List ℕ → List Delivered → Type 0
@@ -130,14 +135,19 @@ object-pairs : (m : Model) (t : ℕ) {fs gs : List Field} {ls : List Line} {es :
     → PairEntries (m .undefined) wasDefined (pairsOf (tableAt (m .tables) t .attributes)) fs ls es
 object-pairs m t {fs} {gs} {ls} {es} stand r = pairs-of-entries (m .undefined) (tableAt (m .tables) t .attributes) fs gs ls es stand r wasDefined
 
-pub object-read : (m : Model) (own : List ℕ) (t : ℕ) {ls : List Line} {o : Delivered} → ObjectLines m t ls o → LinesStand own ls → ReadObject m own o
-object-read m own t (object {l = l} {ls = ls} {i = i} {fs = fs} c d st r) h =
-    let at = rw (c .fields) at (h .0) in
-    record { fields = fs; lines = ls; stands = at .1 .0; fieldsStand = at .1 .1; entries = object-pairs m t st r }
+-- its identification stands in the text
+pub object-stands : (m : Model) (own : List ℕ) (t : ℕ) {ls : List Line} {o : Delivered} → ObjectLines m t ls o → LinesStand own ls → AllNamesStand own (o ∷ [])
+object-stands m own t (object c d st r) h = let at = rw (c .fields) at (h .0) in (at .1 .0, tt)
 
-pub objects-read : (m : Model) (own : List ℕ) (t : ℕ) {ls : List Line} {os : List Delivered} → Objects m t ls os → LinesStand own ls → AllRead m own os
-objects-read m own t none h = tt
-objects-read m own t (more {ls = ls} {others = others} o r) h = (object-read m own t o (stand-left own ls others h), objects-read m own t r (stand-right own ls others h))
+object-read : (m : Model) (own : List ℕ) (t : ℕ) {ls : List Line} {o : Delivered} → t < length (m .tables) → ObjectLines m t ls o → LinesStand own ls → ReadObject m own o
+object-read m own t within (object {l = l} {ls = ls} {i = i} {fs = fs} c d st r) h =
+    let at = rw (c .fields) at (h .0) in
+    let are = rw (c .fields) at (fields-are (l .start) (l .bytes)) in
+    record { fields = fs; lines = ls; stands = at .1 .0; fieldsStand = at .1 .1; solid = are .1 .0; fieldsAre = are .1 .1; within = within; entries = object-pairs m t st r }
+
+pub objects-read : (m : Model) (own : List ℕ) (t : ℕ) {ls : List Line} {os : List Delivered} → t < length (m .tables) → Objects m t ls os → LinesStand own ls → AllRead m own os
+objects-read m own t l none h = tt
+objects-read m own t l (more {ls = ls} {others = others} o r) h = (object-read m own t l o (stand-left own ls others h), objects-read m own t l r (stand-right own ls others h))
 
 module _ (m : Model) (rooms : Rooms) (own : List ℕ) (t : ℕ) where
   abbrev pairs : List Pair
@@ -190,8 +200,8 @@ module _ (m : Model) (rooms : Rooms) (own : List ℕ) (t : ℕ) where
       let e : (before ++ (o ∷ [])) ++ os ≡ before ++ (o ∷ os) = append-assoc before (o ∷ []) os in
       let unique′ : Unique ((before ++ (o ∷ [])) ++ os) = rw e unique in
       let room′ : RoomFor rooms ((before ++ (o ∷ [])) ++ os) = rw e room in
-      let one = object-read m own t x (stand-left own ls others h) in
+      let one = object-stands m own t x (stand-left own ls others h) in
       steps-on m rooms own ls _ (objectOf t) _ (contentOf marks (before ++ (o ∷ []))) others _
       (object-run x marks before stand (unique-left (before ++ (o ∷ [])) os unique′) (room-left rooms (before ++ (o ∷ [])) os room′))
-      ((objects-run r (stand-right own ls others h) marks (before ++ (o ∷ [])) (names-stand-append own before (o ∷ []) stand (one .stands, tt)) unique′ room′)
+      ((objects-run r (stand-right own ls others h) marks (before ++ (o ∷ [])) (names-stand-append own before (o ∷ []) stand one) unique′ room′)
       ∙ ap (λ (x : List Delivered). go (objectOf t) (contentOf marks x)) e)

@@ -56,7 +56,7 @@ missing-names target n b (o ∷ os) e (suc j) l t i = by (eqb (o .table) target 
     by false e ih = ih e
 
 -- the object that is found is the one of this identification
-found-at : (target n k : ℕ) (b : List ℕ) (os : List Delivered) → findObject target n b (namesOf os) ≡ found k → (j : ℕ) × (j < length os) × (n + j ≡ k) × (identificationAt os j ≡ b)
+pub found-at : (target n k : ℕ) (b : List ℕ) (os : List Delivered) → findObject target n b (namesOf os) ≡ found k → (j : ℕ) × (j < length os) × (n + j ≡ k) × (identificationAt os j ≡ b)
 unfolding findObject namesOf choose sameIdentification
 found-at target n k b [] e = absurd (no-found k e)
 found-at target n k b (o ∷ os) e = by (eqb (o .table) target && same (o .identification .bytes) b) refl e (found-at target (n + 1) k b os)

@@ -28,7 +28,7 @@ module _ (m : Model) (own : List ℕ) where
   tables-read p (right.Tables.none o) h = tt
   tables-read p (right.Tables.more {t = t} {e = e} {ls = ls} {others = others} {os = os} {ds = ds} a b c d f s objects g r) h =
       let behind = stand-right own ls (e ∷ others) (h .1) in
-      read-append m own os (objectsOfTables ds) (objects-read m own t objects (stand-left own ls (e ∷ others) (h .1))) (tables-read p r (behind .1))
+      read-append m own os (objectsOfTables ds) (objects-read m own t b objects (stand-left own ls (e ∷ others) (h .1))) (tables-read p r (behind .1))
 
   pub topics-read : {from : ℕ} {ls : List Line} {ds : List DeliveredTopic} → Topics m from ls ds → LinesStand own ls → AllRead m own (objectsOfTopics ds)
   unfolding objectsOfTopics
@@ -108,7 +108,7 @@ module _ (m : Model) (rooms : Rooms) (own : List ℕ) where
         let whole : (before ++ os) ++ objectsOfTables ds ≡ before ++ (os ++ objectsOfTables ds) = append-assoc before os (objectsOfTables ds) in
         let unique′ : Unique ((before ++ os) ++ objectsOfTables ds) = rw whole unique in
         let room′ : RoomFor rooms ((before ++ os) ++ objectsOfTables ds) = rw whole room in
-        let stand′ : AllNamesStand own (before ++ os) = names-stand-append own before os stand (read-names m own os (objects-read m own t objects here)) in
+        let stand′ : AllNamesStand own (before ++ os) = names-stand-append own before os stand (read-names m own os (objects-read m own t b objects here)) in
         let next′ : steps m rooms own (topicFrom (p + 1)) (contentOf (markTables n ds marks′) ((before ++ os) ++ objectsOfTables ds)) ks ≡ r = rw whole next in
         let found-t : findTable p from 0 (f .bytes) (m .tables) ≡ found t = find-table p from 0 t t (f .bytes) (m .tables) (good .namesInTopic p) b (omega arith) a topic name in
         let tail : steps m rooms own (tableFrom p (t + 1)) (contentOf marks′ (before ++ os)) (others ++ (e ∷ ks)) ≡ r =
