@@ -1,8 +1,8 @@
 -- Why a line is refused (01, "Lines and fields" and "Refusal numbers"): where a file has come to, which lines may
 -- follow there, and for a line that may not its number and field, one rule for each row of 01's table. In the words of
 -- `Right` and of the grammar of values (`Shapes`); it names no step of reading, and of its states only how far the
--- lines of a line attribute have come. A point that may follow is said by `PointLine` of `Right`, a wrong one by `Shapes`:
--- `NumberExactly` (ValueClaims) says that both mean the same numbers.
+-- lines of a line attribute have come. A point that may follow is said by `PointLine` of `Right`, a wrong one by
+-- `Shapes`: `NumberExactly` (ValueClaims) says that both mean the same numbers.
 -- Short names: m the model, u the undefined byte, p a topic's number, t a table's, l a line, f a field, i an
 -- identification's field, fs fields, ps the pairs that are left, cs components.
 use Prim.Native.Nat.{ℕ, _+_, _*_, _≤_, _<_}
