@@ -81,7 +81,7 @@ writing-numbers model t width room = numbered writingNumbers (write model t widt
     by : (c : Checked) → FineWritten (writeChecked t width room c)
     by (bad at) = (refl, refl)
     by (good m) =
-        refuse-keeps FineWritten (ltb width 16 || ltb 65535 width) _ _ (refl, refl) (λ _.
+        refuse-keeps FineWritten _ _ _ (refl, refl) (λ _.
         refuse-keeps FineWritten (not (isTable m t)) _ _ (refl, refl) (λ _.
         refuse-keeps FineWritten _ _ _ (refl, refl) (λ _. tt)))
 
