@@ -9,11 +9,12 @@ use lib.ListN.{length, getD, length-append, length-map, List·getD-map}
 use lib.Seq.{append-snoc}
 use borrow.Author.Tests.{leb-true, lt-ltb, le-ltb, eqb-true, eqb-false, ne-eqb, not-true}
 use Rattle.meaning.specs.Bytes.{choose, refuse, allOf, same}
-use Rattle.meaning.specs.Model.{Records, entry, Found, found, missing, Attribute, Table, Model, noTable, tableAt, targetOf}
+use Rattle.meaning.specs.Model.{Records, Found, found, missing, Attribute, Table, Model, noTable, tableAt, targetOf}
 use Rattle.meaning.specs.Check.{Checked, good, Seen, nothingSeen, goodType, isName, isAmong, follows, followsTransfer, keeps, keepsTransfer, keepsTopic, keepsTable, see, isOutside, judgeAttributes, judgeReferences, checkRecords, checkModel, goodNames, attributeNames, tableNames, goodTypes, inTopicOrder, GoodModel}
 use Rattle.meaning.specs.ModelBytes.{recordBytes, attributeRecord, attributeRecords, tableRecord, tableRecords, tablesIn, transferRecord, recordsOf, placeAttributes, placeTables, placeTopics, placed}
 use Rattle.meaning.specs.ModelClaims.{IsModel}
 use Rattle.meaning.proofs.Tests.Refuse.{both, neither, holds}
+use Rattle.meaning.proofs.Model.Models.{entry-kept}
 use Rattle.meaning.proofs.Model.GoodModels.{same-swap, order-later}
 use Rattle.meaning.proofs.Model.AttributeBytes.{attributePayload, is-flag, name-read, attribute-keeps}
 use Rattle.meaning.proofs.Model.Entries.{tablePayload, attributeEntries, tableEntries, topicEntries, modelEntries, model-read, Each, GoodTable, each-good, each-below, each-in, model-said}
@@ -33,13 +34,6 @@ name-at (o ∷ seen) n ns g =
     let r = name-at seen n ns (holds _ 2 g) in
     (r .0, rw (same-swap n o (among-later n o seen ns (not-true _ (holds _ 1 g)))) (r .1))
 
--- ## A record that passes
-
-entry-step : (before at kind : ℕ) (seen : Seen) (p : List ℕ) (others : Records) (rest : Checked) → follows before kind ≡ true → keeps kind p seen ≡ true
-    → checkRecords before seen (entry at kind p others) rest ≡ checkRecords kind (see kind p seen) others rest
-unfolding checkRecords refuse
-entry-step before at kind seen p others rest f k = rw (f, k)
-
 -- ## Attributes
 
 -- what is seen behind an attribute that is written
@@ -58,7 +52,7 @@ attributes-pass ts topic before at seen [] rs rest f o n l g k = rw (o refl) (k 
 attributes-pass ts topic before at seen (a ∷ others) rs rest f o n l g k =
     let q = name-at (seen .attributes) (a .name) (attributeNames others) n in
     let keep = attribute-keeps a (holds _ 0 g) seen (q .0) (omega arith) (q .1) in
-    entry-step before at 5 seen (attributePayload a) _ rest f keep ∙ rw (see-attribute a seen (holds _ 0 g))
+    entry-kept before at 5 seen (attributePayload a) _ rest f keep ∙ rw (see-attribute a seen (holds _ 0 g))
     (attributes-pass ts topic 5 (at + length (attributeRecord a)) _ others rs rest refl (λ e. refl) (rw (append-snoc (seen .attributes) (a .name) (attributeNames others)) n) (omega (arith, length-append (seen .attributes) (a .name ∷ []))) (holds _ 2 g) k)
 
 -- ## Tables
@@ -79,7 +73,7 @@ tables-pass all before at seen (t ∷ others) rs rest f o n l g k =
     let first : ℕ = at + length (tableRecord t) in
     let some = g .0 .some in
     let few = g .0 .few in
-    entry-step before at 4 seen (tablePayload t) _ rest f keep ∙ attributes-pass all (t .topic) 4 first _ (t .attributes) _ rest refl (λ e. absurd (omega arith)) (g .0 .names) (omega arith) (g .0 .types)
+    entry-kept before at 4 seen (tablePayload t) _ rest f keep ∙ attributes-pass all (t .topic) 4 first _ (t .attributes) _ rest refl (λ e. absurd (omega arith)) (g .0 .names) (omega arith) (g .0 .types)
     (λ s p r c. tables-pass all 5 (first + length (attributeRecords (t .attributes))) s others rs rest refl (λ e. refl) (rw (r, append-snoc (seen .tables) (t .name) (namesOf others)) n) (omega arith) (g .1)
     (λ s′ p′ c′. k s′ (p′ ∙ p) (omega arith)))
 
@@ -114,7 +108,7 @@ topics-pass all before at topic seen (name ∷ names) ts rs rest f o n l c g u v
     let size : length own ≡ length (tableNames topic ts) = sym (length-map own (λ (t : Table). t .name)) ∙ ap length (names-in topic ts) in
     let some = v topic (omega arith) in
     let count = length-append (tablesIn topic ts) (tablesFrom (topic + 1) names ts) in
-    entry-step before at 3 seen name _ rest f keep ∙ tables-pass all 3 first _ own _ rest refl (λ e. absurd (omega arith)) (rw (names-in topic ts) (u topic)) (omega arith) (each-in (GoodTable all) topic ts g)
+    entry-kept before at 3 seen name _ rest f keep ∙ tables-pass all 3 first _ own _ rest refl (λ e. absurd (omega arith)) (rw (names-in topic ts) (u topic)) (omega arith) (each-in (GoodTable all) topic ts g)
     (λ s p d. topics-pass all 5 (first + length (tableRecords own)) (topic + 1) s names ts rs rest refl (λ e. refl) (rw (p, append-snoc (seen .topics) name names) n) (omega (arith, ap length p, length-append (seen .topics) (name ∷ []))) (omega arith) g u (λ j h. v j (omega arith)) k)
 
 -- ## The tables, topic by topic, are all tables

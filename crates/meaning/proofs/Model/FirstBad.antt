@@ -12,6 +12,7 @@ use Rattle.meaning.specs.Model.{Records, finish, overrun, entry, records
 use Rattle.meaning.specs.Check.{Checked, good, bad, Seen, nothingSeen, follows, keeps, see, isOutside, judgeAttributes, judgeReferences, checkRecords, checkModel}
 use Rattle.meaning.specs.ModelBytes.{recordBytes}
 use Rattle.meaning.specs.ModelClaims.{AreBytes, GoodRecords, Whole, FirstOutside, AllInside, FirstOutsideOf, FirstBad, BadExactly}
+use Rattle.meaning.proofs.Model.Models.{entry-kept}
 use Rattle.meaning.proofs.Model.Marks.{bad-good}
 use Rattle.meaning.proofs.Model.RecordBytes.{record-length, record-first}
 use Rattle.meaning.proofs.Model.WholeRecords.{behind-bytes, First, first, whole-rest, whole-read}
@@ -58,10 +59,6 @@ references-outside {ts} (FirstOutsideOf.later {t = t} i o) u = attributes-inside
 -- the byte behind a record
 behind : (f : List ℕ) (kind : ℕ) (p : List ℕ) → length (f ++ recordBytes kind p) ≡ length f + 4 + length p
 behind f kind p = omega (arith, length-append f (recordBytes kind p), record-length kind p)
-
-entry-kept : (last at kind : ℕ) (seen : Seen) (p : List ℕ) (others : Records) (u : Checked) → follows last kind ≡ true → keeps kind p seen ≡ true → checkRecords last seen (entry at kind p others) u ≡ checkRecords kind (see kind p seen) others u
-unfolding checkRecords refuse
-entry-kept last at kind seen p others u fits rules = rw (fits, rules)
 
 -- behind them the check goes on
 pub kept-read : {f : List ℕ} {last : ℕ} {seen : Seen} → GoodRecords f last seen → (r : List ℕ) (u : Checked) → checkRecords 0 nothingSeen (recordsFrom 0 0 (f ++ r)) u ≡ checkRecords last seen (recordsFrom 0 (length f) r) u

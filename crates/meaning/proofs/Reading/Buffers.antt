@@ -22,6 +22,11 @@ use Rattle.meaning.specs.Table.{Resolved, resolved, unresolved, afterRes
 use Rattle.meaning.specs.Claims.{Zeroed, Kept, UsedBy}
 use Rattle.meaning.proofs.Tests.Refuse.{refuse-keeps, choose-keeps, neither}
 
+-- "A point is four cells"
+pub point-length : (kind : ℕ) (vs : List ℤ) → length (pointCells kind vs) ≡ 4
+unfolding pointCells
+point-length kind vs = simp (length-take, length-append) (omega arith)
+
 -- ## The table fits its rooms, line by line
 
 -- a table so far that fits the rooms, with a mark per topic and table and four cells per point
@@ -90,10 +95,6 @@ module _ (m : Model) (rooms : Rooms) where
   unfolding withLine
   fits-line w c h = record { marks = h .marks; rows = h .rows; cells = simp length-set (h .cells); points = h .points; fours = h .fours }
 
-  four-cells : (kind : ℕ) (values : List ℤ) → length (pointCells kind values) ≡ 4
-  unfolding pointCells
-  four-cells kind values = simp (length-take, length-append) (omega arith)
-
   module _ (text : List ℕ) where
     -- ### Each line
 
@@ -109,7 +110,7 @@ module _ (m : Model) (rooms : Rooms) where
     unfolding storePoint
     point-fits kind w c h (refused number field) = goes-no _ _
     point-fits kind w c h (cells values) =
-        goes-refuse _ _ _ _ (λ e. goes-on _ _ (fits-point _ c h (four-cells kind values) (ltb-false (rooms .points) (length (c .points) + 4) e)))
+        goes-refuse _ _ _ _ (λ e. goes-on _ _ (fits-point _ c h (point-length kind values) (ltb-false (rooms .points) (length (c .points) + 4) e)))
 
     opening-fits : (fs : List Field) (c : Content) → Fits m rooms c → Goes (openingLine m rooms text fs c)
     unfolding openingLine

@@ -4,10 +4,11 @@ use native.Mathlib.Omega.{arith}
 use mathlib.Core.Path.{_≡_, refl, sym, ap, _∙_}
 use mathlib.Core.List.{List, [], _∷_, _++_, append-assoc, append-nil}
 use lib.IntN.{ℤ, pos}
-use lib.ListN.{length, replicate, length-append, length-take}
+use lib.ListN.{length, length-append}
 use Rattle.meaning.specs.Row.{pointCells}
 use Rattle.meaning.specs.Reading.{Content, Object, stretch, objectsOf}
 use Rattle.meaning.specs.Right.{Point, Entry, Undefined, OfValue, OfText, OfReference, OfPoints, Delivered, namesOf, entryCells, entryPoints, pointsOf, cellsOfPoints, rowsCells, rowList}
+use Rattle.meaning.proofs.Reading.Buffers.{point-length}
 use Rattle.meaning.proofs.Reading.References.{Row, rowCells, flatRows, rowStarts, objectsOfRows, flat-append, starts-append, objects-flat}
 
 -- ## Cells of entries
@@ -57,13 +58,6 @@ entry-length os k (OfReference target f ∷ es) = omega (arith, entry-length os 
 entry-length os k (OfPoints ps ∷ es) = omega (arith, entry-length os (k + length ps) es)
 
 -- ## Points
-
-pub point-length : (kind : ℕ) (vs : List ℤ) → length (pointCells kind vs) ≡ 4
-unfolding pointCells
-point-length kind vs =
-    let a = length-take 3 (vs ++ replicate 3 (pos 0)) in
-    let b = length-append vs (replicate 3 (pos 0)) in
-    omega arith
 
 pub points-length : (ps : List Point) → length (cellsOfPoints ps) ≡ 4 * length ps
 unfolding cellsOfPoints

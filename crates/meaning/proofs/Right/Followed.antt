@@ -21,7 +21,7 @@ use Rattle.meaning.specs.Reasons as reasons
 use Rattle.meaning.proofs.Tests.Refuse.{no-true}
 use Rattle.meaning.proofs.Right.Steps.{stepAt}
 use Rattle.meaning.proofs.Right.Places.{At, atStart, atDescription, atTransfer, atModel, atTopics, atTables, atObjects, atClosing, atNothing, UsedIn, marked, drawn, stored, pointed, Full, Goes, on, stops}
-use Rattle.meaning.proofs.Right.Content.{point-length}
+use Rattle.meaning.proofs.Reading.Buffers.{point-length}
 use Rattle.meaning.proofs.Right.Points.{values-cells, end-step, undrawn-step}
 use Rattle.meaning.proofs.Right.Names.{optional-passes}
 use Rattle.meaning.proofs.Right.Topics.{etab-step, etop-step, tabl-step, topi-step, emod-step, ende-step, scnt-step, slashes-step, described-step, mtid-step, modl-step}

@@ -22,7 +22,7 @@ use Rattle.meaning.proofs.Tests.Unequal.{no-go}
 use Rattle.meaning.proofs.Reading.PointsRead.{told-of}
 use Rattle.meaning.proofs.Right.Steps.{stepAt}
 use Rattle.meaning.proofs.Right.Places.{At, UsedIn, Effect, Full, Went, Refused}
-use Rattle.meaning.proofs.Right.Content.{point-length}
+use Rattle.meaning.proofs.Reading.Buffers.{point-length}
 use Rattle.meaning.proofs.Right.Names.{optional-passes, passes-optional}
 use Rattle.meaning.proofs.Right.BackLines.{coded-by, alone-of, second-of, identified, third-of}
 use Rattle.meaning.proofs.Right.BackPoints.{CodeOf, isStpt, isLipt, isArcp, isElin, isOther, code-of}
