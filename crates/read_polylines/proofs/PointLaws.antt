@@ -32,7 +32,7 @@ use Rattle.read_state.specs.Holds.{LineHolds}
 use Rattle.read_polylines.specs.Ways.{wayOf, LineDoes}
 use Rattle.read_polylines.specs.Points.{movedTo, pointAdded, Stores, Joins}
 use Rattle.read_polylines.proofs.Ways.{due-way, refused-here}
-use Rattle.meaning.proofs.Right.Content.{point-length}
+use Rattle.meaning.proofs.Reading.Buffers.{point-length}
 
 -- ## The four cells
 
