@@ -19,8 +19,8 @@ goesWhole mark room rest = leb (length rest) room && not (ends mark rest)
 -- "the rest goes out whole if it fits the width .. and does not end in the mark. Else as many bytes as fit before a
 -- mark, then the mark", and CONT and a space before the next rest: the rest of a line, for which the physical line has
 -- room for so many bytes; behind CONT and a space there is room for 5 less than the width. `cuts` counts the cuts, and
--- is never used up: each takes a byte at least, and one more may follow the last byte. At width 16 the 18 bytes
--- `OBJE a bcdefghijk` and a mark are cut to
+-- at a permitted width it is never used up: each cut takes a byte at least, and one more may follow the last byte. At
+-- width 16 the 18 bytes `OBJE a bcdefghijk` and a mark are cut to
 --   `OBJE a bcdefghi\`   15 bytes and the mark
 --   `CONT jk\\`          the rest, which ends in the mark, and the mark
 --   `CONT `              no byte is left
