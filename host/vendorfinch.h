@@ -6,21 +6,9 @@
  * given, refuses what is wrong, and returns. Every byte of a lent buffer is settled when a call returns.
  *
  * A call answers one number: the answer's first number plus 256 times its second. The first is 0, or a refusal; the
- * second is then its place:
- *   1 file above 16,777,216 bytes (0)            10 mandatory table skipped (line)
- *   2 model bad (the record's byte)              11 field missing or extra (line)
- *   3 last line has no LF, or ends in the        12 undefined where not allowed, mixed coordinate (line)
- *     mark (line)                                13 field has wrong shape (line)
- *   4 byte not permitted (line)                  14 outside its domain, text too long (line)
- *   5 mark not followed by CONT and a            15 identification used twice (line)
- *     space (line)                               16 no room for a row, its cells or a point (line)
- *   6 too little room for unfolded text or       17 reference names no object of its table (object, from 0)
- *     marks (0)                                  18 straight or arc not in the forms (line)
- *   7 another line code expected, or no line     19 writing: no lines read as the table (0)
- *     left (line, one past the last)             20 writing: width not 16 to 65,535 (0)
- *   8 MOTR in place of MTID (line)               21 writing: output room or 16,777,216 bytes too small (0)
- *   9 name wrong or not in order (line)
- * A line is a logical line, counted from 1.
+ * second is then its place, which stands beside each number below. A line is a logical line, counted from 1.
+ *
+ * Most hosts call the layer in table.h, which owns the buffers, and model.h, which names what a model has.
  */
 #ifndef VENDORFINCH_H
 #define VENDORFINCH_H
@@ -28,9 +16,39 @@
 #include <stddef.h>
 #include <stdint.h>
 
+#define VENDORFINCH_VERSION "1.0.0"
+
 /* The first and the second number of an answer. */
 #define VENDORFINCH_NUMBER(answer) ((answer) % 256)
 #define VENDORFINCH_SECOND(answer) ((answer) / 256)
+
+/* The refusals. */
+enum vendorfinch_refusal {
+    VENDORFINCH_FILE_TOO_LONG = 1,      /* file above 16,777,216 bytes (0) */
+    VENDORFINCH_MODEL_BAD = 2,          /* model bad (the record's byte) */
+    VENDORFINCH_END_MISSING = 3,        /* last line has no LF, or ends in the mark (line) */
+    VENDORFINCH_BYTE_NOT_PERMITTED = 4, /* byte not permitted (line) */
+    VENDORFINCH_CONT_MISSING = 5,       /* mark not followed by CONT and space (line) */
+    VENDORFINCH_TEXT_ROOM = 6,          /* too little room for unfolded text or marks (0) */
+    VENDORFINCH_CODE_EXPECTED = 7,      /* another line code expected, or no line left (line, one past the last) */
+    VENDORFINCH_MOTR = 8,               /* MOTR in place of MTID (line) */
+    VENDORFINCH_NAME_WRONG = 9,         /* name wrong or not in order (line) */
+    VENDORFINCH_TABLE_SKIPPED = 10,     /* mandatory table skipped (line) */
+    VENDORFINCH_FIELD_COUNT = 11,       /* field missing or extra (line) */
+    VENDORFINCH_UNDEFINED = 12,         /* undefined where not allowed, mixed coordinate (line) */
+    VENDORFINCH_SHAPE_WRONG = 13,       /* field has wrong shape (line) */
+    VENDORFINCH_OUTSIDE_DOMAIN = 14,    /* outside its domain, text too long (line) */
+    VENDORFINCH_USED_TWICE = 15,        /* identification used twice (line) */
+    VENDORFINCH_TABLE_ROOM = 16,        /* no room for a row, its cells or a point (line) */
+    VENDORFINCH_NO_OBJECT = 17,         /* reference names no object of its table (object, from 0) */
+    VENDORFINCH_FORM_WRONG = 18,        /* straight or arc not in the forms (line) */
+    VENDORFINCH_UNWRITABLE = 19,        /* writing: no lines read as this table (0) */
+    VENDORFINCH_WIDTH_WRONG = 20,       /* writing: width not 16 to 65,535 (0) */
+    VENDORFINCH_OUTPUT_ROOM = 21        /* writing: output room or 16,777,216 bytes too small (0) */
+};
+
+/* What a refusal means, or an error of the layer in table.h: words that stay where they are, never NULL. */
+const char *vendorfinch_words(int number);
 
 /* Checks a compiled model. 0 and the number of topics, or 2 and the byte of the first bad record. */
 uint64_t vendorfinch_check_model(const uint8_t *model, size_t model_length);
