@@ -245,39 +245,38 @@ static void put_types(struct text *text, struct exported *exported, unsigned num
     put(text, "\n");
 }
 
-/* DIR/TOPIC.TABLE and its ending. */
-static void put_path(struct text *path, const struct exported *exported, unsigned number, const char *ending)
+/* DIR/TOPIC.TABLE and its ending, as a string. */
+static void put_file_name(struct text *name, const struct exported *exported, unsigned number, const char *ending)
 {
     const struct vendorfinch_model_table *table = &exported->model.table[number];
-    put(path, exported->directory);
-    put(path, "/");
-    put_name(path, exported->model.topic[table->topic]);
-    put(path, ".");
-    put_name(path, table->name);
-    put_bytes(path, ending, strlen(ending) + 1);
+    put(name, exported->directory);
+    put(name, "/");
+    put_name(name, exported->model.topic[table->topic]);
+    put(name, ".");
+    put_name(name, table->name);
+    put_bytes(name, ending, strlen(ending) + 1);
 }
 
-/* Writes a file of a table and ends it; it has no name yet. */
+/* Writes a file of a table and ends it; it has not got its name yet. */
 static enum status write_file(struct exported *exported, unsigned number, const char *ending, content *put_content)
 {
     struct output *file = &exported->files[exported->count];
-    struct text path = TEXT_KEPT;
-    put_path(&path, exported, number, ending);
-    if (path.error != 0) {
-        text_free(&path);
-        return no_memory();
-    }
-    int error = output_open(file, path.bytes);
-    if (error == 0) {
-        struct text text = TEXT_TO(file->to);
+    struct text name = TEXT_KEPT;
+    put_file_name(&name, exported, number, ending);
+    int error = name.error;
+    if (!error) {
         exported->count++;
+        error = output_open(file, name.bytes);
+    }
+    if (!error) {
+        struct text text = TEXT_TO(file->to);
         put_content(&text, exported, number);
         error = text_end(&text);
-        if (error == 0)
-            error = output_end(file);
     }
-    const enum status status = error == 0 ? DONE : could_not(path.bytes, error);
-    text_free(&path);
+    if (!error)
+        error = output_end(file);
+    const enum status status = error ? could_not(name.error ? exported->directory : name.bytes, error) : DONE;
+    text_free(&name);
     return status;
 }
 
@@ -286,25 +285,21 @@ static enum status keep_files(const struct exported *exported)
 {
     for (size_t i = 0; i < exported->count; i++) {
         const int error = output_keep(&exported->files[i]);
-        if (error != 0)
+        if (error)
             return could_not(exported->files[i].name, error);
     }
     return DONE;
 }
 
-/* Makes the directory if it is not there. */
-static enum status make_directory(const char *name)
-{
-    return mkdir(name, 0777) == 0 || errno == EEXIST ? DONE : could_not(name, errno);
-}
-
-/* Opens the model and makes room for its files. */
+/* Lays the model open, makes room for its files, and the directory if it is not there. */
 static enum status begin(struct exported *exported, const struct bytes *model)
 {
-    if (vendorfinch_model_open(&exported->model, model->bytes, model->length) != 0)
-        return no_memory();
-    exported->files = calloc(2 * exported->model.tables, sizeof *exported->files);
-    return exported->files ? make_directory(exported->directory) : no_memory();
+    int error = ENOMEM;
+    if (vendorfinch_model_open(&exported->model, model->bytes, model->length) == 0)
+        exported->files = calloc(2 * exported->model.tables, sizeof *exported->files);
+    if (exported->files)
+        error = mkdir(exported->directory, 0777) == 0 || errno == EEXIST ? 0 : errno;
+    return error ? could_not(exported->directory, error) : DONE;
 }
 
 /* Gives all back; a file that was not kept is gone. */
@@ -320,11 +315,10 @@ static void end(struct exported *exported)
 enum status export(const struct options *options)
 {
     struct reading reading;
-    enum status status = reading_open(&reading, options);
-    if (status != DONE)
-        return status;
     struct exported exported = {.directory = options->csv, .table = &reading.table};
-    status = begin(&exported, &reading.model);
+    enum status status = reading_open(&reading, options);
+    if (status == DONE)
+        status = begin(&exported, &reading.model);
     for (unsigned i = 0; i < exported.model.tables && status == DONE; i++) {
         status = write_file(&exported, i, ".csv", put_rows);
         if (status == DONE)
