@@ -77,6 +77,15 @@ EMOD
 ENDE
 """.encode("latin-1")
 
+# Components and their columns' types: as wide as the widest of the two bounds, and no wider than GDAL keeps each digit.
+NUMBERS = [
+    ((0, -999999999, 999999999), "Integer"), ((0, 1 - 10 ** 9, 10 ** 9), "Integer64"), ((0, -10 ** 9, 0), "Integer64"),
+    ((0, -WIDEST, WIDEST), "Integer64"), ((2, -500, 999), "Real(5.2)"), ((2, 1, 5), "Real(4.2)"),
+    ((2, -5, -1), "Real(5.2)"), ((1, -9, 1000), "Real(5.1)"), ((9, 0, 0), "Real(11.9)"),
+    ((1, 1 - 10 ** 15, 10 ** 15 - 1), "Real(17.1)"), ((9, 1 - 10 ** 15, 10 ** 15 - 1), "Real(17.9)"),
+    ((1, 0, 10 ** 15), "String"), ((9, -10 ** 15, 0), "String"), ((3, -WIDEST, WIDEST), "String"),
+]
+
 EXPECTED = {
     "Netz.Knoten.csv":
         '_tid,Nr,Lage,Hoch,Tiefe,Anzahl,Gross,Genau,Fein,Datum,Art,Nachbar,Verlauf,Raum\n'
@@ -142,6 +151,17 @@ class Export(unittest.TestCase):
         self.assertEqual(self.export(*words, **more), (0, b""))
         return contents(self.plans)
 
+    def numbers(self):
+        """A model with each of the components, and a file with each one's least and greatest value."""
+        self.model.write_bytes(
+            oracle.transfer() + oracle.model_record() + oracle.topic(b"N") + oracle.table(b"T")
+            + b"".join(oracle.number(b"a%d" % i, one) for i, (one, _) in enumerate(NUMBERS)) + oracle.end())
+        least, greatest = [[oracle.number_digits(one[0], one[bound]) for one, _ in NUMBERS] for bound in (1, 2)]
+        self.file.write_bytes(transfer_of(
+            b"TOPI N", b"TABL T", b" ".join([b"OBJE", b"1", *least]), b" ".join([b"OBJE", b"2", *greatest]), b"ETAB",
+            b"ETOP"))
+        return least, greatest
+
     def yesterday(self):
         """Files of another day, two of them with the names of today's."""
         self.plans.mkdir()
@@ -170,17 +190,9 @@ class Files(Export):
                 self.assertEqual(found, exports.rows(model, file))
                 shutil.rmtree(self.plans)
 
-    def test_widths_are_those_of_the_widest_values(self):
-        """GDAL warns of a value that is wider than its column: the bounds themselves are the widest."""
-        bounds = [(2, -500, 999), (2, 1, 5), (2, -5, -1), (1, -9, 1000), (9, 0, 0), (1, -10 ** 15 + 1, 10 ** 15 - 1)]
-        widths = ["5.2", "4.2", "5.2", "5.1", "11.9", "17.1"]
-        names = [b"a", b"b", b"c", b"d", b"e", b"f"]
-        self.model.write_bytes(
-            oracle.transfer() + oracle.model_record() + oracle.topic(b"N") + oracle.table(b"T", 1)
-            + b"".join(oracle.number(name, one) for name, one in zip(names, bounds)) + oracle.end())
-        self.file.write_bytes(transfer_of())
-        types = ",".join(['"String"'] + ['"Real(%s)"' % width for width in widths]) + "\n"
-        self.assertEqual(self.done(), {"N.T.csv": b"_tid,a,b,c,d,e,f\n", "N.T.csvt": types.encode()})
+    def test_types_of_numbers(self):
+        self.numbers()
+        self.assertEqual(self.done()["N.T.csvt"].decode(), '"String",%s\n' % ",".join('"%s"' % t for _, t in NUMBERS))
 
     def test_quotation_mark_as_blank_byte(self):
         """It is a space in a text, and doubled in an identification, where blank bytes stay."""
@@ -236,6 +248,11 @@ class Directory(Export):
         self.assertEqual(status, 2)
         self.assertIn(bytes(self.plans), error)
         self.assertEqual(self.plans.read_text(), "a file")
+
+    def test_is_not_named(self):
+        status, output, error = support.vendorfinch("export", self.model, self.file)
+        self.assertEqual((status, output), (2, b""))
+        self.assertIn(b"--csv", error)
 
     def test_stands_nowhere(self):
         self.assertEqual(self.export(directory=self.plans / "of" / "today")[0], 2)
@@ -351,6 +368,13 @@ class Gdal(Export):
             "Verlauf": "COMPOUNDCURVE ((0 0,1 0,2 -0.01),CIRCULARSTRING (2 -0.01,3 1,4 0,5 -1,6 0),(6 0,7 0),"
                        "CIRCULARSTRING (7 0,8 1,9 0))",
             "Raum": "COMPOUNDCURVE Z (CIRCULARSTRING Z (1 2 3,2 3 3,3 2 3),(3 2 3,4 2 3.5))"})
+
+    def test_numbers(self):
+        """Each digit is kept, those behind the point too."""
+        bounds = self.numbers()
+        self.done()
+        for feature, bound in zip(self.values(self.layer("N.T.csv")), bounds):
+            self.assertEqual([feature["a%d" % i] for i in range(len(NUMBERS))], [digits.decode() for digits in bound])
 
     def test_table_without_rows(self):
         self.done()
