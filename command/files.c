@@ -1,6 +1,7 @@
 /* The work of a command on each of its files: several at a time, answered in the order of their names. */
 #include "command.h"
 
+#include <errno.h>
 #include <pthread.h>
 #include <stdlib.h>
 #include <unistd.h>
@@ -165,9 +166,7 @@ enum status each_file(const struct options *options, work *work, const char *goo
         return could_not(options->model, error);
     struct shift shift = {options, &model, work, good, calloc(options->count, sizeof *shift.results), 0,
                           PTHREAD_MUTEX_INITIALIZER, PTHREAD_COND_INITIALIZER};
-    enum status status = COULD_NOT;
-    if (shift.results)
-        status = work_shift(&shift);
+    enum status status = shift.results ? work_shift(&shift) : could_not(options->model, ENOMEM);
     for (size_t i = 0; shift.results && i < options->count; i++)
         text_free(&shift.results[i].report);
     free(shift.results);
