@@ -6,9 +6,9 @@
 #include <string.h>
 #include <sys/stat.h>
 
-/* What is exported, and the files that it goes to. */
-struct exported {
-    const char *directory;
+/* A folder, its files, and what goes into them. */
+struct folder {
+    const char *name;
     struct vendorfinch_model model;
     const struct vendorfinch_table *table;
     size_t object;        /* the first that is in no file yet */
@@ -17,7 +17,7 @@ struct exported {
 };
 
 /* A file's content: of the table with this number. */
-typedef void content(struct text *text, struct exported *exported, unsigned number);
+typedef void content(struct text *text, struct folder *folder, unsigned number);
 
 enum { ARCP = 2, POINT = 4 /* numbers of a point */, NO_BLANK = -1 };
 
@@ -125,10 +125,10 @@ static void put_line(struct text *text, const struct vendorfinch_attribute *attr
 }
 
 /* An attribute of an object from its cells; nothing where it is undefined. */
-static void put_value(struct text *text, const struct exported *exported, const struct vendorfinch_attribute *attribute,
+static void put_value(struct text *text, const struct folder *folder, const struct vendorfinch_attribute *attribute,
                       const int64_t *cells)
 {
-    const struct vendorfinch_table *table = exported->table;
+    const struct vendorfinch_table *table = folder->table;
     if (cells[0] == 0)
         return;
     switch (attribute->type) {
@@ -143,7 +143,7 @@ static void put_value(struct text *text, const struct exported *exported, const 
         put_scaled(text, cells[1], attribute->component[0].decimals);
         break;
     case VENDORFINCH_TEXT:
-        put_quoted(text, table->text + cells[1], cells[0] - 1, exported->model.blank);
+        put_quoted(text, table->text + cells[1], cells[0] - 1, folder->model.blank);
         break;
     case VENDORFINCH_DATE:
         put_date(text, cells[1]);
@@ -157,24 +157,24 @@ static void put_value(struct text *text, const struct exported *exported, const 
 }
 
 /* The CSV: the names of the columns, and the objects of the table, which stand together in the table's order. */
-static void put_rows(struct text *text, struct exported *exported, unsigned number)
+static void put_rows(struct text *text, struct folder *folder, unsigned number)
 {
-    const struct vendorfinch_model_table *table = &exported->model.table[number];
-    const struct vendorfinch_attribute *attribute = exported->model.attribute + table->first;
+    const struct vendorfinch_model_table *table = &folder->model.table[number];
+    const struct vendorfinch_attribute *attribute = folder->model.attribute + table->first;
     put(text, "_tid");
     for (unsigned i = 0; i < table->attributes; i++) {
         put(text, ",");
         put_name(text, attribute[i].name);
     }
     put(text, "\n");
-    for (; exported->object < exported->table->objects; exported->object++) {
-        const int64_t *row = exported->table->cells + exported->table->rows[exported->object];
+    for (; folder->object < folder->table->objects; folder->object++) {
+        const int64_t *row = folder->table->cells + folder->table->rows[folder->object];
         if (row[0] != number)
             return;
-        put_identification(text, exported->table, (int64_t)exported->object);
+        put_identification(text, folder->table, (int64_t)folder->object);
         for (unsigned i = 0; i < table->attributes; i++) {
             put(text, ",");
-            put_value(text, exported, &attribute[i], row + attribute[i].cell);
+            put_value(text, folder, &attribute[i], row + attribute[i].cell);
         }
         put(text, "\n");
     }
@@ -233,100 +233,100 @@ static void put_type(struct text *text, const struct vendorfinch_attribute *attr
 }
 
 /* The types of the columns. */
-static void put_types(struct text *text, struct exported *exported, unsigned number)
+static void put_types(struct text *text, struct folder *folder, unsigned number)
 {
-    const struct vendorfinch_model_table *table = &exported->model.table[number];
+    const struct vendorfinch_model_table *table = &folder->model.table[number];
     put(text, "\"String\"");
     for (unsigned i = 0; i < table->attributes; i++) {
         put(text, ",\"");
-        put_type(text, &exported->model.attribute[table->first + i]);
+        put_type(text, &folder->model.attribute[table->first + i]);
         put(text, "\"");
     }
     put(text, "\n");
 }
 
 /* DIR/TOPIC.TABLE and its ending, as a string. */
-static void put_file_name(struct text *name, const struct exported *exported, unsigned number, const char *ending)
+static void put_file_name(struct text *name, const struct folder *folder, unsigned number, const char *ending)
 {
-    const struct vendorfinch_model_table *table = &exported->model.table[number];
-    put(name, exported->directory);
+    const struct vendorfinch_model_table *table = &folder->model.table[number];
+    put(name, folder->name);
     put(name, "/");
-    put_name(name, exported->model.topic[table->topic]);
+    put_name(name, folder->model.topic[table->topic]);
     put(name, ".");
     put_name(name, table->name);
     put_bytes(name, ending, strlen(ending) + 1);
 }
 
 /* Writes a file of a table and ends it; it has not got its name yet. */
-static enum status write_file(struct exported *exported, unsigned number, const char *ending, content *put_content)
+static enum status write_file(struct folder *folder, unsigned number, const char *ending, content *put_content)
 {
-    struct output *file = &exported->files[exported->count];
+    struct output *file = &folder->files[folder->count];
     struct text name = TEXT_KEPT;
-    put_file_name(&name, exported, number, ending);
+    put_file_name(&name, folder, number, ending);
     int error = name.error;
     if (!error) {
-        exported->count++;
+        folder->count++;
         error = output_open(file, name.bytes);
     }
     if (!error) {
         struct text text = TEXT_TO(file->to);
-        put_content(&text, exported, number);
+        put_content(&text, folder, number);
         error = text_end(&text);
     }
     if (!error)
         error = output_end(file);
-    const enum status status = error ? could_not(name.error ? exported->directory : name.bytes, error) : DONE;
+    const enum status status = error ? could_not(name.error ? folder->name : name.bytes, error) : DONE;
     text_free(&name);
     return status;
 }
 
 /* Gives all files their names. */
-static enum status keep_files(const struct exported *exported)
+static enum status keep_files(const struct folder *folder)
 {
-    for (size_t i = 0; i < exported->count; i++) {
-        const int error = output_keep(&exported->files[i]);
+    for (size_t i = 0; i < folder->count; i++) {
+        const int error = output_keep(&folder->files[i]);
         if (error)
-            return could_not(exported->files[i].name, error);
+            return could_not(folder->files[i].name, error);
     }
     return DONE;
 }
 
 /* Lays the model open, makes room for its files, and the directory if it is not there. */
-static enum status begin(struct exported *exported, const struct bytes *model)
+static enum status begin(struct folder *folder, const struct bytes *model)
 {
     int error = ENOMEM;
-    if (vendorfinch_model_open(&exported->model, model->bytes, model->length) == 0)
-        exported->files = calloc(2 * exported->model.tables, sizeof *exported->files);
-    if (exported->files)
-        error = mkdir(exported->directory, 0777) == 0 || errno == EEXIST ? 0 : errno;
-    return error ? could_not(exported->directory, error) : DONE;
+    if (vendorfinch_model_open(&folder->model, model->bytes, model->length) == 0)
+        folder->files = calloc(2 * folder->model.tables, sizeof *folder->files);
+    if (folder->files)
+        error = mkdir(folder->name, 0777) == 0 || errno == EEXIST ? 0 : errno;
+    return error ? could_not(folder->name, error) : DONE;
 }
 
 /* Gives all back; a file that was not kept is gone. */
-static void end(struct exported *exported)
+static void end(struct folder *folder)
 {
-    for (size_t i = 0; i < exported->count; i++)
-        output_drop(&exported->files[i]);
-    free(exported->files);
-    vendorfinch_model_free(&exported->model);
+    for (size_t i = 0; i < folder->count; i++)
+        output_drop(&folder->files[i]);
+    free(folder->files);
+    vendorfinch_model_free(&folder->model);
 }
 
 /* All files are on the disk before the first of them gets its name. */
 enum status export(const struct options *options)
 {
     struct reading reading;
-    struct exported exported = {.directory = options->csv, .table = &reading.table};
+    struct folder folder = {.name = options->csv, .table = &reading.table};
     enum status status = reading_open(&reading, options);
     if (status == DONE)
-        status = begin(&exported, &reading.model);
-    for (unsigned i = 0; i < exported.model.tables && status == DONE; i++) {
-        status = write_file(&exported, i, ".csv", put_rows);
+        status = begin(&folder, &reading.model);
+    for (unsigned i = 0; i < folder.model.tables && status == DONE; i++) {
+        status = write_file(&folder, i, ".csv", put_rows);
         if (status == DONE)
-            status = write_file(&exported, i, ".csvt", put_types);
+            status = write_file(&folder, i, ".csvt", put_types);
     }
     if (status == DONE)
-        status = keep_files(&exported);
-    end(&exported);
+        status = keep_files(&folder);
+    end(&folder);
     reading_close(&reading);
     return status;
 }
