@@ -33,13 +33,11 @@ static size_t least(size_t a, size_t b)
     return a < b ? a : b;
 }
 
-/* Nobody who writes a file can guess it. It changes no answer, so that one is better than none. */
+/* A number that nobody who writes a file can guess. It changes no answer: where there is none, 0 does as well. */
 static uint64_t seed(void)
 {
     uint64_t number = 0;
-    if (getrandom(&number, sizeof number, 0) != sizeof number)
-        number = (uint64_t)(uintptr_t)&number;
-    return number;
+    return getrandom(&number, sizeof number, 0) == sizeof number ? number : 0;
 }
 
 /* The rooms that are enough for every file of this length: `roomsFor` in crates/meaning/specs/RoomClaims.antt. */
