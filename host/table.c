@@ -52,15 +52,6 @@ static struct rooms rooms_enough(const struct vendorfinch_model *open, size_t le
     return rooms;
 }
 
-/* How many of these bytes are spaces or tabs. */
-static size_t blanks_in(const uint8_t *bytes, size_t length)
-{
-    size_t blanks = 0;
-    for (size_t i = 0; i < length; i++)
-        blanks += bytes[i] == ' ' || bytes[i] == '\t';
-    return blanks;
-}
-
 /* Behind the next LF, or the end. */
 static const uint8_t *next_line(const uint8_t *at, const uint8_t *end)
 {
@@ -68,32 +59,49 @@ static const uint8_t *next_line(const uint8_t *at, const uint8_t *end)
     return found ? found + 1 : end;
 }
 
-/* The rooms of a first try, counted by how physical lines begin: exact where no code is cut, no blank is doubled and no
- * field stands for all remaining ones. A wrong count costs a second try. */
-static struct rooms rooms_counted(const uint8_t *file, size_t length, struct rooms enough)
+/* The cells of a row of the table that a TABL line names, at or behind the last one; of the longest row where it names
+ * none. */
+static size_t cells_named(const struct vendorfinch_model *open, unsigned *table, const uint8_t *name, size_t length,
+                          size_t longest)
 {
-    size_t objects = 0, points = 0, lines = 0, parts = 0;
-    const uint8_t *end = file + length;
-    for (const uint8_t *at = file; end - at > 4; at = next_line(at, end)) {
-        objects += memcmp(at, "OBJE", 4) == 0;
-        points += memcmp(at, "STPT", 4) == 0 || memcmp(at, "LIPT", 4) == 0 || memcmp(at, "ARCP", 4) == 0;
-        lines += memcmp(at, "ELIN", 4) == 0;
-        parts += memcmp(at, "CONT", 4) == 0;
+    for (unsigned i = *table; i < open->tables; i++) {
+        struct vendorfinch_name known = open->table[i].name;
+        if (known.length < length && memcmp(known.bytes, name, known.length) == 0 && name[known.length] < ' ') {
+            *table = i;
+            return open->table[i].cells;
+        }
     }
-    size_t blanks = blanks_in(file, length), others = objects + 2 * points + parts;
-    size_t fields = blanks > others ? blanks - others : 0;
-    struct rooms rooms = {enough.text, enough.marks, least(objects + 16, enough.rows),
-                          least(3 * objects + 2 * fields + 2 * lines + 256, enough.cells),
-                          least(4 * points + 64, enough.points)};
+    return longest;
+}
+
+/* The rooms of a first try, counted by how physical lines begin: exact where no code and no table's name is cut. A
+ * wrong count costs a second try. */
+static struct rooms rooms_counted(const struct vendorfinch_model *open, const uint8_t *file, size_t length,
+                                  struct rooms enough)
+{
+    size_t rows = 0, cells = 0, points = 0, longest = enough.rows ? enough.cells / enough.rows : 0, row = longest;
+    const uint8_t *end = file + length;
+    unsigned table = 0;
+    for (const uint8_t *at = file; end - at > 5; at = next_line(at, end)) {
+        if (memcmp(at, "OBJE", 4) == 0) {
+            rows++;
+            cells += row;
+        } else if (memcmp(at, "TABL ", 5) == 0)
+            row = cells_named(open, &table, at + 5, (size_t)(end - at) - 5, longest);
+        else
+            points += memcmp(at, "STPT", 4) == 0 || memcmp(at, "LIPT", 4) == 0 || memcmp(at, "ARCP", 4) == 0;
+    }
+    struct rooms rooms = {enough.text, enough.marks, least(rows, enough.rows), least(cells, enough.cells),
+                          least(4 * points, enough.points)};
     return rooms;
 }
 
-/* Four times the rooms, up to what is enough. */
+/* Four times the rooms and some more, up to what is enough. */
 static struct rooms rooms_more(struct rooms rooms, struct rooms enough)
 {
-    rooms.rows = least(4 * rooms.rows, enough.rows);
-    rooms.cells = least(4 * rooms.cells, enough.cells);
-    rooms.points = least(4 * rooms.points, enough.points);
+    rooms.rows = least(4 * rooms.rows + enough.rows / 64 + 1, enough.rows);
+    rooms.cells = least(4 * rooms.cells + enough.cells / 64 + 1, enough.cells);
+    rooms.points = least(4 * rooms.points + enough.points / 64 + 4, enough.points);
     return rooms;
 }
 
@@ -162,7 +170,7 @@ int vendorfinch_table_read(struct vendorfinch_table *table, const uint8_t *model
     /* a bad model and a file above the limit are refused in no room */
     if (got == 0 && file_length <= LIMIT) {
         enough = rooms_enough(&open, file_length);
-        rooms = rooms_counted(file, file_length, enough);
+        rooms = rooms_counted(&open, file, file_length, enough);
     }
     vendorfinch_model_free(&open);
     if (got == VENDORFINCH_NO_MEMORY) {
