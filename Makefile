@@ -54,22 +54,25 @@ $(hosts): %: %.o $(build)/libvendorfinch.a
 	$(CC) $(flags) $(LDFLAGS) -o $@ $^
 
 to = $(DESTDIR)$(PREFIX)
+folders := bin lib/pkgconfig include/vendorfinch share/man/man1 share/doc/vendorfinch
 install: all
-	install -d "$(to)/bin" "$(to)/lib/pkgconfig" "$(to)/include/vendorfinch" "$(to)/share/man/man1" \
-	    "$(to)/share/doc/vendorfinch"
+	install -d $(patsubst %,"$(to)/%",$(folders))
 	install -m 755 $(build)/vendorfinch "$(to)/bin"
 	install -m 644 $(build)/libvendorfinch.a "$(to)/lib"
 	install -m 644 host/vendorfinch.h host/model.h host/table.h "$(to)/include/vendorfinch"
-	install -m 644 command/vendorfinch.1 "$(to)/share/man/man1"
 	install -m 644 docs/STATION.md "$(to)/share/doc/vendorfinch"
+	sed '1s/"vendorfinch"/"vendorfinch $(VERSION)"/' command/vendorfinch.1 | \
+	    install -m 644 /dev/stdin "$(to)/share/man/man1/vendorfinch.1"
 	printf '%s\n' 'prefix=$(PREFIX)' 'libdir=$${prefix}/lib' 'includedir=$${prefix}/include' '' 'Name: vendorfinch' \
 	    'Description: Proved reader and writer of INTERLIS 1 transfer files' 'Version: $(VERSION)' \
-	    'Cflags: -I$${includedir}/vendorfinch' 'Libs: -L$${libdir} -lvendorfinch' >"$(to)/lib/pkgconfig/vendorfinch.pc"
+	    'Cflags: -I$${includedir}/vendorfinch' 'Libs: -L$${libdir} -lvendorfinch' | \
+	    install -m 644 /dev/stdin "$(to)/lib/pkgconfig/vendorfinch.pc"
 
 uninstall:
-	rm -f "$(to)/bin/vendorfinch" "$(to)/lib/libvendorfinch.a" "$(to)/lib/pkgconfig/vendorfinch.pc" \
-	    "$(to)/share/man/man1/vendorfinch.1"
-	rm -rf "$(to)/include/vendorfinch" "$(to)/share/doc/vendorfinch"
+	cd "$(to)" && rm -f bin/vendorfinch lib/libvendorfinch.a lib/pkgconfig/vendorfinch.pc \
+	    include/vendorfinch/vendorfinch.h include/vendorfinch/model.h include/vendorfinch/table.h \
+	    share/man/man1/vendorfinch.1 share/doc/vendorfinch/STATION.md
+	-rmdir "$(to)/include/vendorfinch" "$(to)/share/doc/vendorfinch"
 
 # all that a machine without the kit needs
 dist: target/libproved.a
