@@ -5,6 +5,7 @@
 
 #include <stdlib.h>
 #include <string.h>
+#include <sys/mman.h>
 #include <sys/random.h>
 
 enum { LIMIT = 16777216 };
@@ -32,13 +33,11 @@ static size_t least(size_t a, size_t b)
     return a < b ? a : b;
 }
 
-/* Nobody who writes a file can guess it. It changes no answer, so that one is better than none. */
+/* A number that nobody who writes a file can guess. It changes no answer: where there is none, 0 does as well. */
 static uint64_t seed(void)
 {
     uint64_t number = 0;
-    if (getrandom(&number, sizeof number, 0) != sizeof number)
-        number = (uint64_t)(uintptr_t)&number;
-    return number;
+    return getrandom(&number, sizeof number, 0) == sizeof number ? number : 0;
 }
 
 /* The rooms that are enough for every file of this length: `roomsFor` in crates/meaning/specs/RoomClaims.antt. */
@@ -59,8 +58,8 @@ static const uint8_t *next_line(const uint8_t *at, const uint8_t *end)
     return found ? found + 1 : end;
 }
 
-/* The cells of a row of the table that a TABL line names, at or behind the last one; of the longest row where it names
- * none. */
+/* The cells of a row of the table that a TABL line names, at or behind the last one. Where it names none, those of the
+ * longest row, and no name is looked for any more. */
 static size_t cells_named(const struct vendorfinch_model *open, unsigned *table, const uint8_t *name, size_t length,
                           size_t longest)
 {
@@ -71,6 +70,7 @@ static size_t cells_named(const struct vendorfinch_model *open, unsigned *table,
             return open->table[i].cells;
         }
     }
+    *table = open->tables;
     return longest;
 }
 
@@ -110,6 +110,18 @@ static int same_rooms(struct rooms a, struct rooms b)
     return a.rows == b.rows && a.cells == b.cells && a.points == b.points;
 }
 
+/* Memory; much of it in large pages, where the system has them, which spares a tenth of reading's time. */
+static void *get_memory(size_t length)
+{
+    const size_t page = 2097152, pages = (length + page - 1) / page;
+    if (pages < 2)
+        return malloc(length);
+    void *memory = aligned_alloc(page, pages * page);
+    if (memory)
+        madvise(memory, pages * page, MADV_HUGEPAGE);
+    return memory;
+}
+
 /* Cuts the table's memory into these rooms and an index behind them, and gets more where it is too little. */
 static uint64_t *lend(struct vendorfinch_table *table, struct rooms rooms)
 {
@@ -117,7 +129,7 @@ static uint64_t *lend(struct vendorfinch_table *table, struct rooms rooms)
     size_t length = 8 * words + rooms.text + rooms.marks + 8;
     if (length > table->memory_length) {
         vendorfinch_table_free(table);
-        table->memory = malloc(length);
+        table->memory = get_memory(length);
         if (!table->memory)
             return NULL;
         table->memory_length = length;
