@@ -1,5 +1,6 @@
 /* For a build with the kit's clang alone, which has no C headers. */
 #pragma once
+#define F_GETFD 1
 #define O_RDONLY 0
 #define O_WRONLY 1
 #define O_RDWR 2
@@ -9,3 +10,4 @@
 #define O_DIRECTORY 0200000
 #define O_CLOEXEC 02000000
 int open(const char *, int, ...);
+int fcntl(int, int, ...);

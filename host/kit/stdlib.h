@@ -2,6 +2,7 @@
 #pragma once
 #include <stddef.h>
 void *malloc(size_t);
+void *aligned_alloc(size_t, size_t);
 void *calloc(size_t, size_t);
 void *realloc(void *, size_t);
 void free(void *);
