@@ -14,7 +14,7 @@ build := target/c/kit
 run := host/run
 AR = $(shell host/cc -print-prog-name=llvm-ar)
 else
-build := target/c/$(notdir $(CC))
+build := target/c/$(notdir $(firstword $(CC)))
 flags += -pthread
 endif
 ifdef SANITIZE
@@ -78,7 +78,7 @@ uninstall:
 dist: target/libproved.a
 	tar -czf target/vendorfinch-$(VERSION).tar.gz --transform 's,^,vendorfinch-$(VERSION)/,' --exclude __pycache__ \
 	    Makefile $(wildcard host/*.h) host/words.c host/model.c host/table.c command target/libproved.a sample \
-	    docs/STATION.md tests/command
+	    docs/STATION.md tests/command tests/oracle
 
 # the proofs stay
 clean:
