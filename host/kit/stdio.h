@@ -3,7 +3,7 @@
 #include <stdarg.h>
 #include <stddef.h>
 typedef struct _IO_FILE FILE;
-extern FILE *stdout, *stderr;
+extern FILE *stdin, *stdout, *stderr;
 FILE *fopen(const char *, const char *);
 size_t fread(void *, size_t, size_t, FILE *);
 size_t fwrite(const void *, size_t, size_t, FILE *);
