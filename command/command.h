@@ -19,6 +19,11 @@ struct options {
     int json;
     const char *output, *csv; /* NULL where not given */
 };
+enum { OPTION_JOBS = 1, OPTION_JSON = 2, OPTION_WIDTH = 4, OPTION_OUTPUT = 8, OPTION_CSV = 16 };
+/* Takes the words of a command that has these options; DONE, or COULD_NOT once it is told on standard error. */
+enum status options_of(struct options *options, unsigned flags, char **words, int count);
+/* Whether it has a model and so many files, and standard input at most once; the same answers. */
+enum status options_fit(const struct options *options, size_t least, size_t most, const char *needs);
 
 /* text.c: bytes put behind one another, kept, or written to a descriptor once they are many. */
 struct text {
@@ -39,6 +44,8 @@ void put_scaled(struct text *text, int64_t value, unsigned decimals);
 void put_latin(struct text *text, uint8_t byte);
 /* Writes what is still kept to the descriptor and gives the memory back. 0, or the errno of the first failure. */
 int text_end(struct text *text);
+/* The same, and goes on. */
+int text_flush(struct text *text);
 /* Gives the memory back and writes nothing. */
 void text_free(struct text *text);
 
@@ -64,36 +71,75 @@ int output_keep(struct output *output);
 /* Gives all back; what was not kept is gone, and what stood there before still stands. */
 void output_drop(struct output *output);
 
-/* refusal.c: a refusal in words, as man page and STATION say it. */
-void put_refusal(struct text *text, const char *name, int number, const uint64_t place[2],
-                 const struct bytes *model, const struct bytes *file);
-/* The same as the inside of a JSON object, from "status" on. */
-void put_refusal_json(struct text *text, int number, const uint64_t place[2],
-                      const struct bytes *model, const struct bytes *file);
-/* A string of JSON: bytes that are UTF-8, any other byte as \udc80 to \udcff. */
-void put_json_name(struct text *text, const char *name);
+/* place.c: where a refusal is, for people: nothing here decides about a file. */
+struct refusal {
+    int number;
+    uint64_t place[2];
+};
+struct place {
+    uint64_t line;              /* the logical line, 0 where there is none */
+    uint64_t first, last, lines; /* its physical lines, 0 0 where no line is left; how many the file has */
+    uint8_t *shown;             /* the line to show, or NULL; the caller's to free */
+    size_t length;
+    size_t from, count;         /* its part to mark, from 0; a missing field has none */
+};
+struct place place_of(const struct refusal *refusal, const struct bytes *model, const struct bytes *file);
+
+/* refusal.c: a refusal in words, as the man page says it. */
+void put_refusal(struct text *text, const char *name, const struct refusal *refusal, const struct bytes *model,
+                 const struct bytes *file);
+/* The members of its JSON object behind "status". */
+void put_refusal_json(struct text *text, const struct refusal *refusal, const struct bytes *model,
+                      const struct bytes *file);
+
+/* names.c: a file's name, its control bytes as \x and two digits. */
+void put_path(struct text *text, const char *name);
+/* A string of JSON: what is UTF-8 as it is, any other byte as \udc80 to \udcff. */
+void put_json_path(struct text *text, const char *name);
+void put_json_latin(struct text *text, const uint8_t *bytes, size_t length);
 
 /* reading.c: a model and the one file of a command, read into a table. */
 struct reading {
     struct bytes model, file;
     struct vendorfinch_table table;
+    int number; /* the refusal, or 0 */
 };
-/* DONE; or the status, once it is told on standard error. */
+/* The bytes alone, nothing read. */
+enum status reading_load(struct reading *reading, const struct options *options);
+/* DONE; or the status, once it is told on standard error. To be closed in either case. */
 enum status reading_open(struct reading *reading, const struct options *options);
 void reading_close(struct reading *reading);
+/* Tells on standard error that the file is refused; REFUSED. */
+enum status refused(const struct reading *reading, const char *name);
 /* Tells on standard error why a name could not be read or written; COULD_NOT. */
 enum status could_not(const char *name, int error);
-/* The same for an answer of the layer that is neither 0 nor a refusal. */
-enum status no_memory(void);
 
 /* files.c: the work of a command on each of its files, several at a time, answered in order. */
-enum outcome { GOOD, WRONG, UNREAD }; /* read or same; refused or differing; not read */
-enum outcome read_file(const struct options *options, const struct bytes *model, const char *name,
-                       struct vendorfinch_table *table, struct text *report);
-enum status each_file(const struct options *options);
+struct job {
+    const struct options *options;
+    const struct bytes *model;
+    const char *name;
+    struct bytes file;
+    struct vendorfinch_table table; /* kept from file to file */
+    struct text report;
+};
+/* What became of a file, once it is in the report. */
+typedef enum status work(struct job *job);
+enum status each_file(const struct options *options, work *work, const char *good);
+
+/* read.c: reads the job's file into its table; what is wrong is in the report then. */
+enum status read_file(struct job *job);
+/* The parts of a report: name and status, counts of a table, its end; or all of one. */
+void report_begin(struct job *job, const char *status);
+void put_counts(struct text *text, const struct vendorfinch_table *table, int json);
+void report_end(struct job *job);
+enum status report_error(struct job *job, int error);
+enum status report_refusal(struct job *job, int number);
 
 /* The commands, each in the file of its name. */
 enum status check(const struct options *options);
+enum status read_files(const struct options *options);
+enum status verify(const struct options *options);
 enum status list(const struct options *options);
 enum status unfold(const struct options *options);
 enum status write_out(const struct options *options);

@@ -1,0 +1,103 @@
+/* A file that appears whole or not at all: written beside its name, synced, renamed. */
+#include "command.h"
+
+#include <errno.h>
+#include <fcntl.h>
+#include <stdio.h>
+#include <stdlib.h>
+#include <string.h>
+#include <sys/stat.h>
+#include <unistd.h>
+
+/* Opens a new file beside the name, with the mode of the file that it will replace. */
+static int open_beside(struct output *output, const struct stat *before)
+{
+    size_t room = strlen(output->name) + 32;
+    output->temporary = malloc(room);
+    if (!output->temporary)
+        return ENOMEM;
+    snprintf(output->temporary, room, "%s.%ld.part", output->name, (long)getpid());
+    output->to = open(output->temporary, O_WRONLY | O_CREAT | O_EXCL | O_CLOEXEC, 0666);
+    if (output->to < 0) {
+        int error = errno;
+        free(output->temporary);
+        output->temporary = NULL;
+        return error;
+    }
+    if (before && fchmod(output->to, before->st_mode & 0777) != 0)
+        return errno;
+    return 0;
+}
+
+int output_open(struct output *output, const char *name)
+{
+    struct stat before;
+    output->temporary = NULL;
+    output->to = -1;
+    int there = stat(name, &before) == 0;
+    if (!there && errno != ENOENT) {
+        output->name = NULL;
+        return errno;
+    }
+    /* the file behind a symbolic link is replaced, not the link */
+    output->name = there ? realpath(name, NULL) : strdup(name);
+    if (!output->name)
+        return errno;
+    if (!there)
+        return open_beside(output, NULL);
+    if (S_ISDIR(before.st_mode))
+        return EISDIR;
+    if (S_ISREG(before.st_mode))
+        return open_beside(output, &before);
+    output->to = open(name, O_WRONLY | O_CLOEXEC);
+    return output->to < 0 ? errno : 0;
+}
+
+int output_end(struct output *output)
+{
+    int error = 0;
+    if (output->temporary && fsync(output->to) != 0)
+        error = errno;
+    if (close(output->to) != 0 && !error)
+        error = errno;
+    output->to = -1;
+    return error;
+}
+
+/* Syncs the folder, so that the name is on the disk too; not every file system can. */
+static void sync_folder(const char *name)
+{
+    char *folder = strdup(name), *slash = folder ? strrchr(folder, '/') : NULL;
+    if (slash)
+        slash[slash == folder] = 0;
+    int opened = folder ? open(slash ? folder : ".", O_RDONLY | O_DIRECTORY | O_CLOEXEC) : -1;
+    if (opened >= 0) {
+        fsync(opened);
+        close(opened);
+    }
+    free(folder);
+}
+
+int output_keep(struct output *output)
+{
+    if (!output->temporary)
+        return 0;
+    if (rename(output->temporary, output->name) != 0)
+        return errno;
+    free(output->temporary);
+    output->temporary = NULL;
+    sync_folder(output->name);
+    return 0;
+}
+
+void output_drop(struct output *output)
+{
+    if (output->to >= 0)
+        close(output->to);
+    if (output->temporary)
+        unlink(output->temporary);
+    free(output->temporary);
+    free(output->name);
+    output->to = -1;
+    output->name = output->temporary = NULL;
+}
