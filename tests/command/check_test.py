@@ -5,7 +5,6 @@ import expected
 from expected import cases, count, oracle
 from oracle import (coordinate, date, end, enumeration, line, model_record, number, reference, table, text, topic,
                     transfer)
-from support import vendorfinch
 
 SAMPLE = b"""\
 transfer T, model M: 1 topic, 2 tables, 5 attributes
@@ -107,8 +106,7 @@ topic N
 """)
 
     def test_one_byte_and_one_leaf(self):
-        self.told(transfer() + model_record() + topic(b"N") + table(b"A") + text(b"X", 1) + enumeration(b"E", 1) + end(),
-                  b"""\
+        self.told(cases.one(text(b"X", 1), enumeration(b"E", 1)), b"""\
 transfer T, model M: 1 topic, 1 table, 2 attributes
 blank _, undefined @, continuation \\
 topic N
@@ -199,8 +197,3 @@ class Bad(expected.Folder):
     def test_a_directory(self):
         (self.folder / "d").mkdir()
         self.assertIn(b"directory", self.fails(["check", "d"]))
-
-    def test_prints_to_standard_output_only(self):
-        status, out, err = vendorfinch("check", "model.bin", cwd=self.folder)
-        self.assertEqual((status, err), (0, b""))
-        self.assertEqual(out, SAMPLE)

@@ -111,7 +111,7 @@ def shown(line):
         elif 0x20 <= byte <= 0x7E or byte >= 0xA0:
             out += chr(byte)
         else:
-            out += "\\x%02x" % byte
+            out += "\\x%02X" % byte
     return out, columns + [len(out)]
 
 
@@ -122,12 +122,13 @@ def is_permitted(byte):
 # ---- A refusal ------------------------------------------------------------------------------------------------
 
 class Refused:
-    """What is said of a refused file: its four numbers, the place in words, what JSON has of it, and the shown line
-    with the columns of its marks, None where no line is shown."""
+    """What is said of a refused file: its four numbers, the place in words, what JSON has of it, and the line that is
+    shown, None where none is. `begin` and `length` are the marked bytes of the line, `start` and `end` the columns of
+    the marks under its text. JSON has the line's own characters, and length 0 where there is nothing to mark."""
 
     def __init__(self, model, file, answer):
         self.number, self.place, self.field, _ = answer
-        self.where, self.text, self.start, self.end = "", None, None, None
+        self.where, self.line, self.text = "", None, None
         self.parts = {"number": self.number, "words": WORDS[self.number]}
         if self.number == 2:
             self.where = ": record at byte %d" % self.place
@@ -146,15 +147,19 @@ class Refused:
             at = next(n for n, line in enumerate(lines) if not all(map(is_permitted, line)))
         else:
             at = next(n for n, line in enumerate(lines) if n and marked[n - 1] and not line.startswith(b"CONT "))
-        self.text, columns = shown(lines[at])
         if self.number == 3:
-            self.start, self.end = len(self.text), len(self.text) + 1
+            self.show(lines[at], len(lines[at]), 0)
         elif self.number == 4:
-            wrong = next(n for n, byte in enumerate(lines[at]) if not is_permitted(byte))
-            self.start, self.end = columns[wrong], columns[wrong + 1]
+            self.show(lines[at], next(n for n, byte in enumerate(lines[at]) if not is_permitted(byte)), 1)
         else:
-            self.start, self.end = 0, max(1, columns[min(5, len(lines[at]))])
-        self.tell("line %d" % self.place, self.place, at + 1, at + 1)
+            self.show(lines[at], 0, min(5, len(lines[at])))
+        # the lines that the logical line stands on: each but the last ends in the mark; for 5 up to the wrong one
+        first, last = at, at
+        while first and marked[first - 1]:
+            first -= 1
+        while self.number != 5 and marked[last] and last + 1 < len(lines):
+            last += 1
+        self.tell("line %d" % self.place, self.place, first + 1, last + 1)
 
     def logical_fault(self, mark, file):
         lines = logical_lines(mark, file)
@@ -171,16 +176,21 @@ class Refused:
             self.parts["line"] = number
             return
         line, first, last = lines[number - 1]
-        self.text, columns = shown(line)
         places = fields(line)
         if self.field <= len(places):
             begin, end = places[self.field - 1]
-            self.start, self.end = columns[begin], columns[end]
-        elif not line:
-            self.start, self.end = 0, 1
+            self.show(line, begin, end - begin)
         else:
-            self.start, self.end = len(self.text) + 1, len(self.text) + 2
+            # where the next field would begin: behind a blank, or at the beginning
+            self.show(line, len(line) + (fields(line[-1:]) != []), 0)
         self.tell(what, number, first, last)
+
+    def show(self, line, begin, length):
+        self.line, self.begin, self.length = line, begin, length
+        self.text, columns = shown(line)
+        columns.append(columns[-1] + 1)
+        self.start = columns[begin]
+        self.end = max(self.start + 1, columns[begin + length])
 
     def object_line(self, lines):
         """The number of the object's line: OBJE lines count behind the description."""
@@ -210,8 +220,8 @@ class Refused:
     def as_json(self, name):
         """The JSON object about a file of this name."""
         out = {"file": name, "status": "refused", **self.parts}
-        if self.text is not None:
-            out.update({"text": self.text, "column": self.start + 1, "length": self.end - self.start})
+        if self.line is not None:
+            out.update({"text": self.line.decode("latin-1"), "column": self.begin + 1, "length": self.length})
         return out
 
 

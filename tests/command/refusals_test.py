@@ -7,45 +7,53 @@ from expected import LIMIT, cases, cut_line, oracle, sample_file
 from support import vendorfinch
 
 SAMPLE = cases.SAMPLE_MODEL
-# what is refused, the file, what is said behind "NAME: refused, ", the shown line, its marks, and the numbers that JSON
-# its marks, and the numbers that JSON has beside these
+# what is refused, the file, what is said behind "NAME: refused, ", the shown line, its marks, and what JSON has beside
+# these; its text, column and length are those of the shown line where it does not say others
 SAID = [
     ("3 no LF", sample_file()[:-1],
      "3 last line has no LF, or ends in the mark: line 18 (physical line 18)",
      "ENDE",
-     "    ^", {"line": 18, "physical": [18, 18]}),
+     "    ^", {"line": 18, "physical": [18, 18], "length": 0}),
     ("3 one CR", sample_file() + b"\r",
      "3 last line has no LF, or ends in the mark: line 19 (physical line 19)",
-     "\\x0d",
-     "    ^", {"line": 19, "physical": [19, 19]}),
+     "\\x0D",
+     "    ^", {"line": 19, "physical": [19, 19], "text": "\r", "column": 2, "length": 0}),
     ("3 no LF behind a cut", sample_file(7, b"OBJE k1 A_1 10.0 20.5", (9, 10))[:-1],
      "3 last line has no LF, or ends in the mark: line 18 (physical line 20)",
      "ENDE",
-     "    ^", {"line": 18, "physical": [20, 20]}),
+     "    ^", {"line": 18, "physical": [20, 20], "length": 0}),
+    ("3 ends in the mark", sample_file(18, b"ENDE\\"),
+     "3 last line has no LF, or ends in the mark: line 18 (physical line 18)",
+     "ENDE\\",
+     "     ^", {"line": 18, "physical": [18, 18], "length": 0}),
+    ("3 ends in the mark and CR LF, behind a cut", sample_file(18, b"EN\\\r\nCONT DE\\\r"),
+     "3 last line has no LF, or ends in the mark: line 18 (physical lines 18 to 19)",
+     "CONT DE\\",
+     "        ^", {"line": 18, "physical": [18, 19], "length": 0}),
     ("4 in a field", sample_file(7, b"OBJE k1 A\x01B 10.0 20.5"),
      "4 byte not permitted: line 7 (physical line 7)",
      "OBJE k1 A\\x01B 10.0 20.5",
-     "         ^^^^", {"line": 7, "physical": [7, 7]}),
+     "         ^^^^", {"line": 7, "physical": [7, 7], "text": "OBJE k1 A\x01B 10.0 20.5", "length": 1}),
     ("4 a CR within", sample_file(1, b"SC\rNT"),
      "4 byte not permitted: line 1 (physical line 1)",
-     "SC\\x0dNT",
-     "  ^^^^", {"line": 1, "physical": [1, 1]}),
+     "SC\\x0DNT",
+     "  ^^^^", {"line": 1, "physical": [1, 1], "text": "SC\rNT", "length": 1}),
     ("4 two CR before LF", sample_file(1, b"SCNT\r\r"),
      "4 byte not permitted: line 1 (physical line 1)",
-     "SCNT\\x0d",
-     "    ^^^^", {"line": 1, "physical": [1, 1]}),
+     "SCNT\\x0D",
+     "    ^^^^", {"line": 1, "physical": [1, 1], "text": "SCNT\r", "length": 1}),
     ("4 the first of two", sample_file(3, b"MTID T\x80\x81"),
      "4 byte not permitted: line 3 (physical line 3)",
      "MTID T\\x80\\x81",
-     "      ^^^^", {"line": 3, "physical": [3, 3]}),
+     "      ^^^^", {"line": 3, "physical": [3, 3], "text": "MTID T\x80\x81", "length": 1}),
     ("4 behind a Latin letter", sample_file(3, b"MTID \xe9\x7f"),
      "4 byte not permitted: line 3 (physical line 3)",
-     "MTID \u00e9\\x7f",
-     "      ^^^^", {"line": 3, "physical": [3, 3]}),
+     "MTID \u00e9\\x7F",
+     "      ^^^^", {"line": 3, "physical": [3, 3], "text": "MTID \u00e9\x7f", "length": 1}),
     ("4 in the description", sample_file(2, b"tabs\tand\x9fbytes\n////"),
      "4 byte not permitted: line 2 (physical line 2)",
-     "tabs and\\x9fbytes",
-     "        ^^^^", {"line": 2, "physical": [2, 2]}),
+     "tabs and\\x9Fbytes",
+     "        ^^^^", {"line": 2, "physical": [2, 2], "text": "tabs\tand\x9fbytes", "length": 1}),
     ("7 another code", sample_file(1, b"SCNTX"),
      "7 another line code expected, or no line left: line 1, field 1 (physical line 1)",
      "SCNTX",
@@ -53,11 +61,15 @@ SAID = [
     ("7 behind blanks", sample_file(8, b" \t ETOB x"),
      "7 another line code expected, or no line left: line 8, field 1 (physical line 8)",
      "   ETOB x",
-     "   ^^^^", {"line": 8, "field": 1, "physical": [8, 8]}),
+     "   ^^^^", {"line": 8, "field": 1, "physical": [8, 8], "text": " \t ETOB x"}),
     ("7 an empty line", sample_file(7, b""),
      "7 another line code expected, or no line left: line 7, field 1 (physical line 7)",
      "",
-     "^", {"line": 7, "field": 1, "physical": [7, 7]}),
+     "^", {"line": 7, "field": 1, "physical": [7, 7], "length": 0}),
+    ("7 blanks alone", sample_file(7, b"   "),
+     "7 another line code expected, or no line left: line 7, field 1 (physical line 7)",
+     "   ",
+     "   ^", {"line": 7, "field": 1, "physical": [7, 7], "length": 0}),
     ("7 no line left", b"SCNT\n////\nMTID T\n",
      "7 another line code expected, or no line left: line 4, field 1 (behind physical line 3, the last)",
      None, None, {"line": 4, "field": 1}),
@@ -101,11 +113,15 @@ SAID = [
     ("11 a field missing", sample_file(10, b"OBJE p1 k1"),
      "11 field missing or extra: line 10, field 4 (physical line 10)",
      "OBJE p1 k1",
-     "           ^", {"line": 10, "field": 4, "physical": [10, 10]}),
+     "           ^", {"line": 10, "field": 4, "physical": [10, 10], "length": 0}),
+    ("11 a field missing behind a blank", sample_file(10, b"OBJE p1 k1\t "),
+     "11 field missing or extra: line 10, field 4 (physical line 10)",
+     "OBJE p1 k1  ",
+     "            ^", {"line": 10, "field": 4, "physical": [10, 10], "text": "OBJE p1 k1\t ", "length": 0}),
     ("11 a name missing", sample_file(4, b"MODL"),
      "11 field missing or extra: line 4, field 2 (physical line 4)",
      "MODL",
-     "     ^", {"line": 4, "field": 2, "physical": [4, 4]}),
+     "     ^", {"line": 4, "field": 2, "physical": [4, 4], "length": 0}),
     ("11 a field too many", sample_file(10, b"OBJE p1 k1 @ more"),
      "11 field missing or extra: line 10, field 5 (physical line 10)",
      "OBJE p1 k1 @ more",
@@ -129,7 +145,7 @@ SAID = [
     ("13 behind tabs", sample_file(7, b"OBJE\tk1\t\tA_1 \t1O.0\t20.5"),
      "13 field has wrong shape: line 7, field 4 (physical line 7)",
      "OBJE k1  A_1  1O.0 20.5",
-     "              ^^^^", {"line": 7, "field": 4, "physical": [7, 7]}),
+     "              ^^^^", {"line": 7, "field": 4, "physical": [7, 7], "text": "OBJE\tk1\t\tA_1 \t1O.0\t20.5"}),
     ("13 behind Latin letters", sample_file(7, b"OBJE \xe9\xc4 \xfc\xd8 1O.0 20.5"),
      "13 field has wrong shape: line 7, field 4 (physical line 7)",
      "OBJE \u00e9\u00c4 \u00fc\u00d8 1O.0 20.5",
@@ -197,44 +213,44 @@ SAID = [
     ("7 a cut of nothing", sample_file(7, b"", (0, 0, 0)),
      "7 another line code expected, or no line left: line 7, field 1 (physical lines 7 to 10)",
      "",
-     "^", {"line": 7, "field": 1, "physical": [7, 10]}),
+     "^", {"line": 7, "field": 1, "physical": [7, 10], "length": 0}),
     ("11 missing behind cuts", sample_file(10, b"OBJE p1 k1", (4, 5)),
      "11 field missing or extra: line 10, field 4 (physical lines 10 to 12)",
      "OBJE p1 k1",
-     "           ^", {"line": 10, "field": 4, "physical": [10, 12]}),
+     "           ^", {"line": 10, "field": 4, "physical": [10, 12], "length": 0}),
     ("14 behind a description with CONT", sample_file(2, b"CONT a\nCONT b \\\nCONT c\nCONT\n////")
      .replace(b"A_1", b"ABCDE"),
      "14 outside its domain, text too long: line 10, field 3 (physical line 11)",
      "OBJE k1 ABCDE 10.0 20.5",
      "        ^^^^^", {"line": 10, "field": 3, "physical": [11, 11]}),
     ("5 CONT without its space", sample_file(7, b"OBJE k1 A_1 10.0 20.5").replace(b"A_1", b"A_\\\nCONT1"),
-     "5 mark not followed by CONT and space: line 7 (physical line 8)",
+     "5 mark not followed by CONT and space: line 7 (physical lines 7 to 8)",
      "CONT1 10.0 20.5",
-     "^^^^^", {"line": 7, "physical": [8, 8]}),
+     "^^^^^", {"line": 7, "physical": [7, 8]}),
     ("5 CONT alone", sample_file(1, b"SCNT\\\nCONT"),
-     "5 mark not followed by CONT and space: line 1 (physical line 2)",
+     "5 mark not followed by CONT and space: line 1 (physical lines 1 to 2)",
      "CONT",
-     "^^^^", {"line": 1, "physical": [2, 2]}),
+     "^^^^", {"line": 1, "physical": [1, 2]}),
     ("5 CONT and a tab", sample_file(1, b"SCNT\\\nCONT\tx"),
-     "5 mark not followed by CONT and space: line 1 (physical line 2)",
+     "5 mark not followed by CONT and space: line 1 (physical lines 1 to 2)",
      "CONT x",
-     "^^^^^", {"line": 1, "physical": [2, 2]}),
+     "^^^^^", {"line": 1, "physical": [1, 2], "text": "CONT\tx"}),
     ("5 an empty line", sample_file(1, b"SCNT\\\n"),
-     "5 mark not followed by CONT and space: line 1 (physical line 2)",
+     "5 mark not followed by CONT and space: line 1 (physical lines 1 to 2)",
      "",
-     "^", {"line": 1, "physical": [2, 2]}),
+     "^", {"line": 1, "physical": [1, 2], "length": 0}),
     ("5 the third line of a cut", sample_file(7, b"OBJE k1\\\nCONT  A_1\\\nCNT 10.0 20.5"),
-     "5 mark not followed by CONT and space: line 7 (physical line 9)",
+     "5 mark not followed by CONT and space: line 7 (physical lines 7 to 9)",
      "CNT 10.0 20.5",
-     "^^^^^", {"line": 7, "physical": [9, 9]}),
+     "^^^^^", {"line": 7, "physical": [7, 9]}),
     ("5 a byte not permitted within its first five", sample_file(1, b"SC\\\n\x01NT"),
-     "5 mark not followed by CONT and space: line 1 (physical line 2)",
+     "5 mark not followed by CONT and space: line 1 (physical lines 1 to 2)",
      "\\x01NT",
-     "^^^^^^", {"line": 1, "physical": [2, 2]}),
+     "^^^^^^", {"line": 1, "physical": [1, 2], "text": "\x01NT", "length": 3}),
     ("4 in the second line of a cut", sample_file(7, b"OBJE k1 A\\\r\nCONT _\x021 10.0\\\nCONT  20.5"),
-     "4 byte not permitted: line 7 (physical line 8)",
+     "4 byte not permitted: line 7 (physical lines 7 to 9)",
      "CONT _\\x021 10.0\\",
-     "      ^^^^", {"line": 7, "physical": [8, 8]}),
+     "      ^^^^", {"line": 7, "physical": [7, 9], "text": "CONT _\x021 10.0\\", "length": 1}),
 ]
 # refusals under other models
 FORMS = [
@@ -286,10 +302,10 @@ def as_told(said, line, marks):
 
 def as_json(said, line, marks, numbers):
     number = int(said.split()[0])
-    out = {"file": "a.itf", "status": "refused", "number": number, "words": expected.WORDS[number], **numbers}
+    out = {"file": "a.itf", "status": "refused", "number": number, "words": expected.WORDS[number]}
     if line is not None:
         out.update({"text": line, "column": 1 + marks.index("^"), "length": marks.count("^")})
-    return out
+    return {**out, **numbers}
 
 
 class Said(expected.Folder):
@@ -358,7 +374,8 @@ FILE: refused, 14 outside its domain, text too long: line 7, field 3 (physical l
 
 
 class OtherCommands(expected.Folder):
-    """The refusals as the other commands say them: `list`, `unfold` and `write` on standard error, `verify` as `read`."""
+    """The refusals as the other commands say them: `list`, `unfold` and `write` on standard error, `verify` as `read`
+    does."""
 
     def test_every_refusal(self):
         for what, model, file, said, line, marks, numbers in EVERY:
@@ -398,15 +415,15 @@ class OtherCommands(expected.Folder):
         self.answers(["verify", "--width", "15", "model.bin", "a.itf"], 1, told)
 
     def test_a_table_too_long_to_be_written(self):
-        """60 fields of one byte each for two bytes: 60,000 objects are read, and above 16 MiB when written."""
+        """60 undefined fields for two bytes: what was read is above 16 MiB when it is written."""
         model = cases.one(*[oracle.date(b"D%d" % n, 1) for n in range(60)])
         self.made("m.bin", model)
-        file = cases.frame(*[b"OBJE %07d @@" % n for n in range(75000)])
+        file = cases.frame(*[b"OBJE %07d @@" % n for n in range(80000)])
         self.made("a.itf", file)
         line = len(oracle.cut_line(0x5C, 16, b"OBJE 0000000" + b" @" * 60))
-        self.assertGreater(75000 * line, LIMIT)
+        self.assertGreater(80000 * line, LIMIT)
         self.made("out.itf", b"before")
-        self.answers(["read", "m.bin", "a.itf"], 0, b"a.itf: read, 75000 objects, %d cells, 0 points\n" % (75000 * 123))
+        self.answers(["read", "m.bin", "a.itf"], 0, b"a.itf: read, 80000 objects, %d cells, 0 points\n" % (80000 * 123))
         told = b"a.itf: refused, 21 writing: output room or 16,777,216 bytes too small\n"
         self.answers(["write", "--width", "16", "-o", "out.itf", "m.bin", "a.itf"], 1, b"", told)
         self.assertEqual((self.folder / "out.itf").read_bytes(), b"before")
@@ -418,11 +435,16 @@ class OtherCommands(expected.Folder):
                                            "words": "writing: output room or 16,777,216 bytes too small"})
 
 
+def texts(number):
+    """A model of one table of so many texts."""
+    return cases.one(*[oracle.text(b"X%d" % n, 1000) for n in range(number)])
+
+
 class LongLines(expected.Folder):
     """A line of 60,000 bytes is shown around its fault."""
 
     def shown(self, model, file):
-        """The refusal as told and the shown line; text and JSON show the same."""
+        """The shown line, and column and length of its marks; JSON has the whole line."""
         self.made("m.bin", model)
         self.made("a.itf", file)
         refused = expected.refused(model, file)
@@ -436,13 +458,8 @@ class LongLines(expected.Folder):
         expected.marked_rightly(self, text, column, length, refused)
         status, out, err = vendorfinch("read", "--json", "m.bin", "a.itf", cwd=self.folder)
         self.assertEqual((status, err), (1, b""))
-        as_object = refused.as_json("a.itf")
-        as_object.update({"text": text, "column": column + 1, "length": length})
-        self.assertEqual(json.loads(out), as_object)
+        self.assertEqual(json.loads(out), refused.as_json("a.itf"))
         return text, column, length
-
-    def model(self, texts):
-        return cases.one(*[oracle.text(b"X%d" % n, 1000) for n in range(texts)])
 
     def test_in_the_middle(self):
         """The field can be told by its own bytes, and stands where the marks are."""
@@ -450,7 +467,7 @@ class LongLines(expected.Folder):
         values[31] = b"%06d" % 217 + b"v" * 500 + b"\xd7" + b"v" * 432
         line = b"OBJE a " + b" ".join(values)
         self.assertGreater(len(line), 60000)
-        text, column, length = self.shown(self.model(64), cases.frame(line))
+        text, column, length = self.shown(texts(64), cases.frame(line))
         self.assertTrue(text.startswith("...") and text.endswith("..."), text)
         self.assertIn("000217vvv", text)
         self.assertEqual(text[column:column + 9], "000217vvv")
@@ -461,7 +478,7 @@ class LongLines(expected.Folder):
         text, column, length = self.shown(model, cases.frame(line.replace(b"n0000", b"20260101")))
         self.assertEqual(text[column:column + length], "n0001")
         self.assertTrue(text.endswith("...") and not text.startswith("..."), text)
-        model = cases.one(*[oracle.text(b"X%d" % n, 1000) for n in range(30)])
+        model = texts(30)
         values = [b"%04d" % n + b"v" * 900 for n in range(30)]
         values[14] = b"a\xf7b"
         text, column, length = self.shown(model, cases.frame(b"OBJE a " + b" ".join(values)))
@@ -472,13 +489,13 @@ class LongLines(expected.Folder):
         values = [b"%06d" % n + b"v" * 990 for n in range(63)]
         line = b"OBJE a " + b" ".join(values) + b" a\xd7"
         self.assertGreater(len(line), 60000)
-        text, column, length = self.shown(self.model(64), cases.frame(line))
+        text, column, length = self.shown(texts(64), cases.frame(line))
         self.assertEqual(text[column:], "a\u00d7")
         self.assertTrue(text.startswith("..."), text)
 
     def test_missing_at_the_end(self):
         values = [b"%06d" % n + b"v" * 990 for n in range(63)]
-        text, column, length = self.shown(self.model(64), cases.frame(b"OBJE a " + b" ".join(values)))
+        text, column, length = self.shown(texts(64), cases.frame(b"OBJE a " + b" ".join(values)))
         self.assertEqual((column, length), (len(text) + 1, 1))
         self.assertTrue(text.startswith("...") and text.endswith("vvvvv"), text)
 
@@ -491,9 +508,9 @@ class LongLines(expected.Folder):
         values = [b"%06d" % n + b"v" * 990 for n in range(63)]
         line = b"OBJE a " + b" ".join(values) + b" a\xd7"
         file = cases.frame().replace(b"ETAB\n", cut_line(line, range(80, len(line), 75)) + b"ETAB\n", 1)
-        refused = expected.refused(self.model(64), file)
+        refused = expected.refused(texts(64), file)
         self.assertGreater(refused.parts["physical"][1], 800)
-        text, column, length = self.shown(self.model(64), file)
+        text, column, length = self.shown(texts(64), file)
         self.assertEqual(text[column:], "a\u00d7")
 
     def test_of_latin_letters(self):
@@ -577,27 +594,15 @@ class Property(expected.Folder):
         lines = out.decode().split("\n")
         self.assertEqual(len(lines), len(files) + 1)
         for answer, line, file in zip(answers, lines, files):
-            self.same(answer, json.loads(line), model, file)
+            self.assertEqual(json.loads(line), answer, "%r" % file)
         status, out, err = vendorfinch("read", "m.bin", *names, cwd=self.folder)
         self.assertEqual((status, err), (int(worst), b""))
         told = [expected.told(model, file, name) for name, file in zip(names, files)]
         refused = sum(answer["status"] == "refused" for answer in answers)
         told.append(b"%d files: %d read, %d refused, 0 not read\n" % (len(files), len(files) - refused, refused))
-        long = [answer for answer in answers if len(answer.get("text", "")) > expected.SHOWN_WHOLE - 2]
-        if not long:
+        if all(len(line) <= expected.SHOWN_WHOLE for text in told for line in text.decode().split("\n")[1:]):
             self.assertEqual(out, b"".join(told))
         return refused
-
-    def same(self, answer, got, model, file):
-        what = "%r" % file
-        if len(answer.get("text", "")) <= expected.SHOWN_WHOLE - 2:
-            self.assertEqual(got, answer, what)
-            return
-        place = ("text", "column", "length")
-        self.assertEqual({k: v for k, v in got.items() if k not in place},
-                         {k: v for k, v in answer.items() if k not in place}, what)
-        refused = expected.refused(model, file)
-        expected.marked_rightly(self, got["text"], got["column"] - 1, got["length"], refused)
 
     def test_random_models(self):
         rng = random.Random(1848)
