@@ -1,8 +1,10 @@
 """What the command has to say, from the man page and the independent implementation of the rules (tests/oracle) alone.
 
 A line is shown as text; a column here counts from 0, in the man page and in JSON from 1."""
+import os
 import pathlib
 import re
+import subprocess
 import sys
 import tempfile
 import unittest
@@ -61,6 +63,25 @@ class Folder(unittest.TestCase):
         more.setdefault("cwd", self.folder)
         got = vendorfinch(*words, **more)
         self.assertEqual(got, (status, out, err), "vendorfinch %s" % " ".join(str(w) for w in words))
+
+    def unprivileged(self):
+        """More for `vendorfinch`, so that another user runs it if we are root: one who may not change /dev, and may not
+        read everything. The folder is open to that user. Skips the test where that user may not start the command."""
+        self.folder.chmod(0o777)
+        if os.geteuid() != 0:
+            return {}
+
+        def other():
+            os.setgroups([])
+            os.setgid(65534)
+            os.setuid(65534)
+        try:
+            able = vendorfinch("--version", preexec_fn=other)[0] == 0
+        except (PermissionError, subprocess.SubprocessError):
+            able = False
+        if not able:
+            self.skipTest("another user may not start the command")
+        return {"preexec_fn": other}
 
     def fails(self, words, **more):
         """Runs the command in the folder: status 2, a message and nothing else. Gives the message."""
