@@ -124,8 +124,8 @@ struct job {
     struct text report;
 };
 /* What became of a file, once it is in the report. */
-typedef enum status work(struct job *job);
-enum status each_file(const struct options *options, work *work, const char *good);
+typedef enum status task(struct job *job);
+enum status each_file(const struct options *options, task *each, const char *good);
 
 /* read.c: reads the job's file into its table; what is wrong is in the report then. */
 enum status read_file(struct job *job);

@@ -1,6 +1,7 @@
 /* The work of a command on each of its files: several at a time, answered in the order of their names. */
 #include "command.h"
 
+#include <errno.h>
 #include <pthread.h>
 #include <stdlib.h>
 #include <unistd.h>
@@ -16,7 +17,7 @@ struct result {
 struct shift {
     const struct options *options;
     const struct bytes *model;
-    work *work;
+    task *each;
     const char *good;
     struct result *results;
     size_t next; /* the first file that nobody has taken */
@@ -31,7 +32,7 @@ static void do_file(struct shift *shift, struct job *job, size_t number)
     struct text report = TEXT_KEPT;
     job->name = shift->options->files[number];
     job->report = report;
-    enum status status = shift->work(job);
+    enum status status = shift->each(job);
     free(job->file.bytes);
     job->file.bytes = NULL;
     pthread_mutex_lock(&shift->lock);
@@ -157,17 +158,15 @@ static enum status work_shift(struct shift *shift)
     return status;
 }
 
-enum status each_file(const struct options *options, work *work, const char *good)
+enum status each_file(const struct options *options, task *each, const char *good)
 {
     struct bytes model;
     int error = load(options->model, MOST_OF_MODEL, &model);
     if (error)
         return could_not(options->model, error);
-    struct shift shift = {options, &model, work, good, calloc(options->count, sizeof *shift.results), 0,
+    struct shift shift = {options, &model, each, good, calloc(options->count, sizeof *shift.results), 0,
                           PTHREAD_MUTEX_INITIALIZER, PTHREAD_COND_INITIALIZER};
-    enum status status = COULD_NOT;
-    if (shift.results)
-        status = work_shift(&shift);
+    enum status status = shift.results ? work_shift(&shift) : could_not(options->model, ENOMEM);
     for (size_t i = 0; shift.results && i < options->count; i++)
         text_free(&shift.results[i].report);
     free(shift.results);

@@ -1,8 +1,10 @@
 /* vendorfinch: the command's ways and its help. */
 #include "command.h"
 
+#include <fcntl.h>
 #include <stddef.h>
 #include <string.h>
+#include <unistd.h>
 
 static const struct way {
     const char *name;
@@ -95,8 +97,20 @@ static enum status run(const struct way *way, char **words, int count)
     return status == DONE ? way->run(&options) : status;
 }
 
+/* A standard descriptor that is closed is opened the wrong way round: no file gets its number, and using it fails. */
+static void hold_descriptors(void)
+{
+    int opened;
+    do
+        opened = open("/dev/null", fcntl(0, F_GETFD) == -1 ? O_WRONLY : O_RDONLY);
+    while (opened >= 0 && opened <= 2);
+    if (opened > 2)
+        close(opened);
+}
+
 int main(int count, char **words)
 {
+    hold_descriptors();
     if (count < 2)
         return no_such("vendorfinch: no command", "");
     if (asks_help(words + 1, 1) || strcmp(words[1], "help") == 0)

@@ -6,17 +6,31 @@
 #include <stdio.h>
 #include <stdlib.h>
 #include <string.h>
+#include <sys/random.h>
 #include <sys/stat.h>
 #include <unistd.h>
+
+/* A name that nobody has, in the folder of the output's own. */
+static char *name_beside(const char *name)
+{
+    const char *slash = strrchr(name, '/');
+    size_t folder = slash ? (size_t)(slash - name) + 1 : 0, room = folder + 64;
+    uint64_t number = (uint64_t)getpid();
+    char *beside = malloc(room);
+    if (!beside)
+        return NULL;
+    (void)!getrandom(&number, sizeof number, 0);
+    memcpy(beside, name, folder);
+    snprintf(beside + folder, room - folder, ".vendorfinch-%016llx.part", (unsigned long long)number);
+    return beside;
+}
 
 /* Opens a new file beside the name, with the mode of the file that it will replace. */
 static int open_beside(struct output *output, const struct stat *before)
 {
-    size_t room = strlen(output->name) + 32;
-    output->temporary = malloc(room);
+    output->temporary = name_beside(output->name);
     if (!output->temporary)
         return ENOMEM;
-    snprintf(output->temporary, room, "%s.%ld.part", output->name, (long)getpid());
     output->to = open(output->temporary, O_WRONLY | O_CREAT | O_EXCL | O_CLOEXEC, 0666);
     if (output->to < 0) {
         int error = errno;

@@ -52,8 +52,13 @@ static void make_room(struct text *text, size_t more)
 
 void put_bytes(struct text *text, const void *bytes, size_t length)
 {
+    if (text->to >= 0 && length >= MANY) {
+        if (text_flush(text) == 0)
+            text->error = write_all(text->to, bytes, length);
+        return;
+    }
     make_room(text, length);
-    if (text->error)
+    if (text->error || length == 0)
         return;
     memcpy(text->bytes + text->length, bytes, length);
     text->length += length;

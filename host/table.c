@@ -5,6 +5,7 @@
 
 #include <stdlib.h>
 #include <string.h>
+#include <sys/mman.h>
 #include <sys/random.h>
 
 enum { LIMIT = 16777216 };
@@ -32,13 +33,11 @@ static size_t least(size_t a, size_t b)
     return a < b ? a : b;
 }
 
-/* Nobody who writes a file can guess it. It changes no answer, so that one is better than none. */
+/* A number that nobody who writes a file can guess. It changes no answer: where there is none, 0 does as well. */
 static uint64_t seed(void)
 {
     uint64_t number = 0;
-    if (getrandom(&number, sizeof number, 0) != sizeof number)
-        number = (uint64_t)(uintptr_t)&number;
-    return number;
+    return getrandom(&number, sizeof number, 0) == sizeof number ? number : 0;
 }
 
 /* The rooms that are enough for every file of this length: `roomsFor` in crates/meaning/specs/RoomClaims.antt. */
@@ -52,15 +51,6 @@ static struct rooms rooms_enough(const struct vendorfinch_model *open, size_t le
     return rooms;
 }
 
-/* How many of these bytes are spaces or tabs. */
-static size_t blanks_in(const uint8_t *bytes, size_t length)
-{
-    size_t blanks = 0;
-    for (size_t i = 0; i < length; i++)
-        blanks += bytes[i] == ' ' || bytes[i] == '\t';
-    return blanks;
-}
-
 /* Behind the next LF, or the end. */
 static const uint8_t *next_line(const uint8_t *at, const uint8_t *end)
 {
@@ -68,38 +58,68 @@ static const uint8_t *next_line(const uint8_t *at, const uint8_t *end)
     return found ? found + 1 : end;
 }
 
-/* The rooms of a first try, counted by how physical lines begin: exact where no code is cut, no blank is doubled and no
- * field stands for all remaining ones. A wrong count costs a second try. */
-static struct rooms rooms_counted(const uint8_t *file, size_t length, struct rooms enough)
+/* The cells of a row of the table that a TABL line names, at or behind the last one. Where it names none, those of the
+ * longest row, and no name is looked for any more. */
+static size_t cells_named(const struct vendorfinch_model *open, unsigned *table, const uint8_t *name, size_t length,
+                          size_t longest)
 {
-    size_t objects = 0, points = 0, lines = 0, parts = 0;
-    const uint8_t *end = file + length;
-    for (const uint8_t *at = file; end - at > 4; at = next_line(at, end)) {
-        objects += memcmp(at, "OBJE", 4) == 0;
-        points += memcmp(at, "STPT", 4) == 0 || memcmp(at, "LIPT", 4) == 0 || memcmp(at, "ARCP", 4) == 0;
-        lines += memcmp(at, "ELIN", 4) == 0;
-        parts += memcmp(at, "CONT", 4) == 0;
+    for (unsigned i = *table; i < open->tables; i++) {
+        struct vendorfinch_name known = open->table[i].name;
+        if (known.length < length && memcmp(known.bytes, name, known.length) == 0 && name[known.length] < ' ') {
+            *table = i;
+            return open->table[i].cells;
+        }
     }
-    size_t blanks = blanks_in(file, length), others = objects + 2 * points + parts;
-    size_t fields = blanks > others ? blanks - others : 0;
-    struct rooms rooms = {enough.text, enough.marks, least(objects + 16, enough.rows),
-                          least(3 * objects + 2 * fields + 2 * lines + 256, enough.cells),
-                          least(4 * points + 64, enough.points)};
+    *table = open->tables;
+    return longest;
+}
+
+/* The rooms of a first try, counted by how physical lines begin: exact where no code and no table's name is cut. A
+ * wrong count costs a second try. */
+static struct rooms rooms_counted(const struct vendorfinch_model *open, const uint8_t *file, size_t length,
+                                  struct rooms enough)
+{
+    size_t rows = 0, cells = 0, points = 0, longest = enough.rows ? enough.cells / enough.rows : 0, row = longest;
+    const uint8_t *end = file + length;
+    unsigned table = 0;
+    for (const uint8_t *at = file; end - at > 5; at = next_line(at, end)) {
+        if (memcmp(at, "OBJE", 4) == 0) {
+            rows++;
+            cells += row;
+        } else if (memcmp(at, "TABL ", 5) == 0)
+            row = cells_named(open, &table, at + 5, (size_t)(end - at) - 5, longest);
+        else
+            points += memcmp(at, "STPT", 4) == 0 || memcmp(at, "LIPT", 4) == 0 || memcmp(at, "ARCP", 4) == 0;
+    }
+    struct rooms rooms = {enough.text, enough.marks, least(rows, enough.rows), least(cells, enough.cells),
+                          least(4 * points, enough.points)};
     return rooms;
 }
 
-/* Four times the rooms, up to what is enough. */
+/* Four times the rooms and some more, up to what is enough. */
 static struct rooms rooms_more(struct rooms rooms, struct rooms enough)
 {
-    rooms.rows = least(4 * rooms.rows, enough.rows);
-    rooms.cells = least(4 * rooms.cells, enough.cells);
-    rooms.points = least(4 * rooms.points, enough.points);
+    rooms.rows = least(4 * rooms.rows + enough.rows / 64 + 1, enough.rows);
+    rooms.cells = least(4 * rooms.cells + enough.cells / 64 + 1, enough.cells);
+    rooms.points = least(4 * rooms.points + enough.points / 64 + 4, enough.points);
     return rooms;
 }
 
 static int same_rooms(struct rooms a, struct rooms b)
 {
     return a.rows == b.rows && a.cells == b.cells && a.points == b.points;
+}
+
+/* Memory; much of it in large pages, where the system has them, which spares a tenth of reading's time. */
+static void *get_memory(size_t length)
+{
+    const size_t page = 2097152, pages = (length + page - 1) / page;
+    if (pages < 2)
+        return malloc(length);
+    void *memory = aligned_alloc(page, pages * page);
+    if (memory)
+        madvise(memory, pages * page, MADV_HUGEPAGE);
+    return memory;
 }
 
 /* Cuts the table's memory into these rooms and an index behind them, and gets more where it is too little. */
@@ -109,7 +129,7 @@ static uint64_t *lend(struct vendorfinch_table *table, struct rooms rooms)
     size_t length = 8 * words + rooms.text + rooms.marks + 8;
     if (length > table->memory_length) {
         vendorfinch_table_free(table);
-        table->memory = malloc(length);
+        table->memory = get_memory(length);
         if (!table->memory)
             return NULL;
         table->memory_length = length;
@@ -162,7 +182,7 @@ int vendorfinch_table_read(struct vendorfinch_table *table, const uint8_t *model
     /* a bad model and a file above the limit are refused in no room */
     if (got == 0 && file_length <= LIMIT) {
         enough = rooms_enough(&open, file_length);
-        rooms = rooms_counted(file, file_length, enough);
+        rooms = rooms_counted(&open, file, file_length, enough);
     }
     vendorfinch_model_free(&open);
     if (got == VENDORFINCH_NO_MEMORY) {
