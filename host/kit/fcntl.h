@@ -8,6 +8,7 @@
 #define O_EXCL 0200
 #define O_TRUNC 01000
 #define O_DIRECTORY 0200000
+#define O_PATH 010000000
 #define O_CLOEXEC 02000000
 int open(const char *, int, ...);
 int fcntl(int, int, ...);

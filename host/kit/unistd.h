@@ -10,4 +10,5 @@ int close(int);
 int fsync(int);
 int unlink(const char *);
 int isatty(int);
+ssize_t readlink(const char *, char *, size_t);
 pid_t getpid(void);
