@@ -97,8 +97,8 @@ static enum status run(const struct way *way, char **words, int count)
     return status == DONE ? way->run(&options) : status;
 }
 
-/* A standard descriptor that is closed gets the root folder: no file gets its number, and to read, write or open it once
- * more fails. */
+/* A standard descriptor that is closed gets the root folder: no file gets its number, and to read, write or open it
+ * again fails. */
 static void hold_descriptors(void)
 {
     int opened;
