@@ -111,7 +111,7 @@ fn many(command: &str) {
 }
 
 fn main() {
-    let command = std::env::args().nth(1).unwrap_or("target/cc/vendorfinch".into());
+    let command = std::env::args().nth(1).unwrap_or("target/c/kit/vendorfinch".into());
     fs::create_dir_all(FOLDER).unwrap();
     large(&command);
     many(&command);

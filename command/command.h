@@ -61,7 +61,7 @@ int load(const char *name, size_t most, struct bytes *into);
 
 /* output.c: a file that appears whole or not at all; a device or a pipe is written to as it is. */
 struct output {
-    char *name, *temporary; /* temporary is NULL for a device or a pipe */
+    char *name, *temporary; /* NULL for a device or a pipe */
     int to;
 };
 /* Each 0 or an errno. Opened, it is written to through `to`; ended, it is on the disk; kept, it has its name. */

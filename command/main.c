@@ -97,14 +97,15 @@ static enum status run(const struct way *way, char **words, int count)
     return status == DONE ? way->run(&options) : status;
 }
 
-/* A standard descriptor that is closed is opened the wrong way round: no file gets its number, and using it fails. */
+/* A standard descriptor that is closed gets the root folder: no file gets its number, and to read, write or open it once
+ * more fails. */
 static void hold_descriptors(void)
 {
     int opened;
     do
-        opened = open("/dev/null", fcntl(0, F_GETFD) == -1 ? O_WRONLY : O_RDONLY);
-    while (opened >= 0 && opened <= 2);
-    if (opened > 2)
+        opened = open("/", O_PATH);
+    while (opened >= 0 && opened <= STDERR_FILENO);
+    if (opened >= 0)
         close(opened);
 }
 

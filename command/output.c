@@ -43,28 +43,43 @@ static int open_beside(struct output *output, const struct stat *before)
     return 0;
 }
 
+/* The name itself, or what a symbolic link that leads to nothing names, so that the file is made and the link stays. */
+static char *name_behind(const char *name)
+{
+    char target[4096];
+    ssize_t length = readlink(name, target, sizeof target - 1);
+    if (length < 0)
+        return strdup(name);
+    target[length] = 0;
+    const char *slash = target[0] == '/' ? NULL : strrchr(name, '/');
+    size_t folder = slash ? (size_t)(slash - name) + 1 : 0;
+    char *joined = malloc(folder + (size_t)length + 1);
+    if (!joined)
+        return NULL;
+    memcpy(joined, name, folder);
+    memcpy(joined + folder, target, (size_t)length + 1);
+    char *behind = name_behind(joined);
+    free(joined);
+    return behind;
+}
+
 int output_open(struct output *output, const char *name)
 {
     struct stat before;
-    output->temporary = NULL;
+    output->name = output->temporary = NULL;
     output->to = -1;
     int there = stat(name, &before) == 0;
-    if (!there && errno != ENOENT) {
-        output->name = NULL;
+    if (!there && errno != ENOENT)
         return errno;
+    if (there && S_ISDIR(before.st_mode))
+        return EISDIR;
+    if (there && !S_ISREG(before.st_mode)) {
+        output->to = open(name, O_WRONLY | O_CLOEXEC);
+        return output->to < 0 ? errno : 0;
     }
     /* the file behind a symbolic link is replaced, not the link */
-    output->name = there ? realpath(name, NULL) : strdup(name);
-    if (!output->name)
-        return errno;
-    if (!there)
-        return open_beside(output, NULL);
-    if (S_ISDIR(before.st_mode))
-        return EISDIR;
-    if (S_ISREG(before.st_mode))
-        return open_beside(output, &before);
-    output->to = open(name, O_WRONLY | O_CLOEXEC);
-    return output->to < 0 ? errno : 0;
+    output->name = there ? realpath(name, NULL) : name_behind(name);
+    return output->name ? open_beside(output, there ? &before : NULL) : errno;
 }
 
 int output_end(struct output *output)

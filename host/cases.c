@@ -2,7 +2,10 @@
  * each answer and the whole content of each room with what the independent implementation answers. Its exit status is 0
  * only where all agree. */
 #include "vendorfinch.h"
-#include "kit/calls.h"
+
+#include <stdio.h>
+#include <stdlib.h>
+#include <string.h>
 
 enum { TEXT, MARKS, ROWS, CELLS, POINTS, INDEX, ANSWER, OUT, COUNT };
 static const size_t size_of[COUNT] = {1, 1, 8, 8, 8, 8, 8, 1};

@@ -1,7 +1,10 @@
 /* Calls the proved library as the station does, and compares every answer and buffer with what 01 says. Its exit status
  * is 0 only where all agree. argv[1] and argv[2]: the sample's compiled model and file. */
 #include "vendorfinch.h"
-#include "kit/calls.h"
+
+#include <stdio.h>
+#include <stdlib.h>
+#include <string.h>
 
 static uint8_t model[65536], file[65536], text[65536], zeros[65536];
 static size_t model_length, file_length;
