@@ -473,3 +473,74 @@ class StandardOutput(expected.Folder):
         self.assertEqual(lines[0], b"0 %d %d 0" % (self.number, 5 * self.number))
         self.assertEqual(len(lines), 1 + self.number)
         self.assertTrue(all(re.fullmatch(rb"0 \d+ \d+ \d+ \d+", line) for line in lines[1:]))
+
+
+class Memory(expected.Folder):
+    """There is little of it: a file is answered, or it is told that there is no memory; never anything else."""
+
+    def limited(self, size):
+        """More for `vendorfinch`, so that it has so many bytes; skips where it does not start with them."""
+        def limit():
+            resource.setrlimit(resource.RLIMIT_AS, (size, size))
+        if vendorfinch("--version", preexec_fn=limit)[0] != 0:
+            self.skipTest("the command does not start with so little memory")
+        return {"cwd": self.folder, "preexec_fn": limit}
+
+    def test_too_little(self):
+        model, file, number = many_objects(12000000)
+        self.made("m.bin", model)
+        self.made("a.itf", file)
+        more = self.limited(40000000)
+        for words in (["read", "m.bin", "a.itf"], ["list", "m.bin", "a.itf"], ["unfold", "m.bin", "a.itf"],
+                      ["write", "m.bin", "a.itf"], ["verify", "m.bin", "a.itf"]):
+            with self.subTest(words):
+                status, out, err = vendorfinch(*words, **more)
+                if status == 0:
+                    # unfolding needs less than the others
+                    self.assertTrue(words[0] == "unfold" and out == file)
+                else:
+                    self.assertEqual((status, out), (2, b""))
+                    self.assertRegex(err, rb"(?i)no memory|cannot allocate memory")
+        status, out, _ = vendorfinch("read", "--json", "m.bin", "a.itf", **more)
+        self.assertEqual(status, 2)
+        answer = json.loads(out)
+        self.assertEqual((answer["file"], answer["status"]), ("a.itf", "error"))
+        self.assertRegex(answer["words"], "(?i)no memory|cannot allocate memory")
+        self.made("out.itf", b"before")
+        self.fails(["write", "-o", "out.itf", "m.bin", "a.itf"], preexec_fn=more["preexec_fn"])
+        self.assertEqual((self.folder / "out.itf").read_bytes(), b"before")
+        # a small file among large ones has room enough
+        self.made("small.itf", cases.frame(b"OBJE a @"))
+        status, out, err = vendorfinch("read", "m.bin", "a.itf", "small.itf", "a.itf", **more)
+        self.assertEqual((status, out), (2, b"small.itf: read, 1 object, 5 cells, 0 points\n"
+                                            b"3 files: 1 read, 0 refused, 2 not read\n"))
+        self.assertEqual(len(err.splitlines()), 2)
+
+    def test_every_amount(self):
+        """From too little up to enough, in small steps."""
+        model, file, number = many_objects(2000000)
+        self.made("m.bin", model)
+        self.made("a.itf", file)
+        read = b"a.itf: read, %d objects, %d cells, 0 points\n" % (number, 5 * number)
+        same = read.replace(b": read", b": same").replace(b"\n", b", %d bytes written\n" % len(file))
+        seen = set()
+        for size in range(8000000, 60000000, 1300000):
+            try:
+                more = self.limited(size)
+            except expected.unittest.SkipTest:
+                continue
+            for command, told in (("read", read), ("verify", same)):
+                with self.subTest([command, size]):
+                    status, out, err = vendorfinch(command, "m.bin", "a.itf", **more)
+                    self.assertIn((status, out, bool(err)), ((0, told, False), (2, b"", True)))
+                    seen.add(status)
+        if not seen:
+            self.skipTest("the command does not start with little memory")
+        self.assertEqual(seen, {0, 2})
+
+    def test_threads_that_cannot_be_started(self):
+        """Each wants a stack: as many as asked for do not fit, and the files are answered all the same."""
+        self.made("a.itf", cases.SAMPLE_FILE)
+        more = self.limited(150000000)
+        status, out, err = vendorfinch("read", "--jobs", "256", "model.bin", *["a.itf"] * 300, **more)
+        self.assertEqual((status, out, err), (0, 300 * READ + b"300 files: 300 read, 0 refused, 0 not read\n", b""))

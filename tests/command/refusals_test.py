@@ -595,14 +595,27 @@ class Property(expected.Folder):
         self.assertEqual(len(lines), len(files) + 1)
         for answer, line, file in zip(answers, lines, files):
             self.assertEqual(json.loads(line), answer, "%r" % file)
+        refused = sum(answer["status"] == "refused" for answer in answers)
         status, out, err = vendorfinch("read", "m.bin", *names, cwd=self.folder)
         self.assertEqual((status, err), (int(worst), b""))
-        told = [expected.told(model, file, name) for name, file in zip(names, files)]
-        refused = sum(answer["status"] == "refused" for answer in answers)
-        told.append(b"%d files: %d read, %d refused, 0 not read\n" % (len(files), len(files) - refused, refused))
-        if all(len(line) <= expected.SHOWN_WHOLE for text in told for line in text.decode().split("\n")[1:]):
-            self.assertEqual(out, b"".join(told))
+        lines = out.decode().split("\n")
+        for name, file in zip(names, files):
+            told = expected.told(model, file, name).decode().split("\n")[:-1]
+            self.shown(told, lines[:len(told)], model, file)
+            del lines[:len(told)]
+        self.assertEqual(lines, ["%d files: %d read, %d refused, 0 not read" % (len(files), len(files) - refused,
+                                                                              refused), ""])
         return refused
+
+    def shown(self, told, got, model, file):
+        """Holds what is said of one file to what is expected; a long line may be left off at its ends."""
+        if max(map(len, told[1:]), default=0) <= expected.SHOWN_WHOLE:
+            self.assertEqual(got, told, "%r" % file)
+            return
+        self.assertEqual((len(got), got[0], got[1][:4]), (3, told[0], "    "))
+        self.assertRegex(got[2], r"\A {4,}\^+\Z")
+        expected.marked_rightly(self, got[1][4:], got[2].index("^") - 4, got[2].count("^"),
+                                expected.refused(model, file))
 
     def test_random_models(self):
         rng = random.Random(1848)
