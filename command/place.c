@@ -66,8 +66,10 @@ static struct line physical_lines(struct place *place, int number, char mark, co
         if (logical == place->line) {
             place->first = place->first ? place->first : place->lines;
             place->last = place->lines;
-            if (!fault.bytes && is_at_fault(number, line, continued, end))
+            if (!fault.bytes && is_at_fault(number, line, continued, end)) {
                 fault = line;
+                place->at = place->lines;
+            }
             if (fault.bytes && number == VENDORFINCH_CONT_MISSING)
                 break;
         }
@@ -168,7 +170,7 @@ static void place_in_text(struct place *place, const struct refusal *refusal, co
 
 struct place place_of(const struct refusal *refusal, const struct bytes *model, const struct bytes *file)
 {
-    struct place place = {0, 0, 0, 0, NULL, 0, 0, 0};
+    struct place place = {0, 0, 0, 0, 0, NULL, 0, 0, 0};
     struct vendorfinch_model open;
     int number = refusal->number;
     if (number < VENDORFINCH_END_MISSING || number > VENDORFINCH_FORM_WRONG)

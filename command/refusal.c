@@ -25,6 +25,8 @@ static void put_physical(struct text *text, const struct place *place)
     } else {
         put_count(text, " (physical lines ", place->first);
         put_count(text, " to ", place->last);
+        if (place->at)
+            put_count(text, ", at ", place->at);
         put(text, ")");
     }
 }
@@ -112,6 +114,8 @@ static void put_place_json(struct text *text, const struct refusal *refusal, con
         put_count(text, ", ", place->last);
         put(text, "]");
     }
+    if (place->at)
+        put_count(text, ", \"at\": ", place->at);
     if (place->shown) {
         put(text, ", \"text\": ");
         put_json_latin(text, place->shown, place->length);

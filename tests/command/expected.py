@@ -180,7 +180,8 @@ class Refused:
             first -= 1
         while self.number != 5 and marked[last] and last + 1 < len(lines):
             last += 1
-        self.tell("line %d" % self.place, self.place, first + 1, last + 1)
+        self.tell("line %d" % self.place, self.place, first + 1, last + 1, at + 1)
+        self.parts["at"] = at + 1
 
     def logical_fault(self, mark, file):
         lines = logical_lines(mark, file)
@@ -219,9 +220,9 @@ class Refused:
         objects = [n + 1 for n, (line, _, _) in enumerate(lines) if n > behind and line.split()[:1] == [b"OBJE"]]
         return objects[self.place]
 
-    def tell(self, what, line, first, last):
-        self.where = ": %s (%s)" % (what, "physical line %d" % first if first == last
-                                    else "physical lines %d to %d" % (first, last))
+    def tell(self, what, line, first, last, at=0):
+        lines = "physical line %d" % first if first == last else "physical lines %d to %d" % (first, last)
+        self.where = ": %s (%s%s)" % (what, lines, ", at %d" % at if at and first < last else "")
         self.parts.update({"line": line, "physical": [first, last]})
 
     def is_whole(self):
