@@ -110,6 +110,7 @@ static void refuse_files(void)
     memset(text, 1, 50);
     same("a bad model", vendorfinch_unfold(model, 186, file, file_length, text, 50), 2, 186);
     holds("a bad model", text, zeros, 50);
+    free(large);
 }
 
 /* What a call of reading lends. */
@@ -421,6 +422,7 @@ static void write_large(void)
     numbers("16,777,217 bytes to be written", 21, 0, 0, 0);
     for (size_t i = 0; i < 16777217; i += 65536)
         holds("16,777,217 bytes to be written", large + i, zeros, i < 16777216 ? 65536 : 1);
+    free(large);
 }
 
 int main(int count, char **names)
