@@ -115,7 +115,8 @@ static int has_code(struct line line, const char *code)
     return field.count == 4 && memcmp(line.bytes + field.from, code, 4) == 0;
 }
 
-/* The logical line of an object, from 0: objects begin behind the description, which ends in ////. */
+/* The logical line of an object, from 0: objects begin behind the description, which ends in the first line that begins
+ * with ////, without a blank before it. */
 static uint64_t line_of_object(const uint8_t *text, const uint8_t *end, uint64_t object)
 {
     uint64_t number = 0, objects = 0;
@@ -124,7 +125,7 @@ static uint64_t line_of_object(const uint8_t *text, const uint8_t *end, uint64_t
     for (const uint8_t *at = text; at < end; at = line.next) {
         line = line_at(at, end);
         number++;
-        described = described || has_code(line, "////");
+        described = described || (line.length >= 4 && memcmp(line.bytes, "////", 4) == 0);
         if (described && has_code(line, "OBJE") && objects++ == object)
             return number;
     }

@@ -186,6 +186,12 @@ SAID = [
      "17 reference names no object of its table: object 1, line 12, field 3 (physical line 12)",
      "OBJE p1 k9 @",
      "        ^^", {"line": 12, "field": 3, "physical": [12, 12], "object": 1}),
+    # a line that begins with a blank does not end the description
+    ("17 behind //// and an object in the description",
+     sample_file(2, b" ////\nOBJE a\n\t////\nOBJE b\n////").replace(b"p1 k1", b"p1 k9"),
+     "17 reference names no object of its table: object 1, line 14, field 3 (physical line 14)",
+     "OBJE p1 k9 @",
+     "        ^^", {"line": 14, "field": 3, "physical": [14, 14], "object": 1}),
     ("17 its code cut", sample_file(10, b"OBJE p1 k9 @", (1, 3), (b"\r\n",)),
      "17 reference names no object of its table: object 1, line 10, field 3 (physical lines 10 to 12)",
      "OBJE p1 k9 @",
