@@ -24,6 +24,8 @@ enum { OPTION_JOBS = 1, OPTION_JSON = 2, OPTION_WIDTH = 4, OPTION_OUTPUT = 8, OP
 enum status options_of(struct options *options, unsigned flags, char **words, int count);
 /* Whether it has a model and so many files, and standard input at most once; the same answers. */
 enum status options_fit(const struct options *options, size_t least, size_t most, const char *needs);
+/* Tells on standard error what is wrong, and with which word; COULD_NOT. */
+enum status wrong_usage(const char *what, const char *word);
 
 /* text.c: bytes put behind one another, kept, or written to a descriptor once they are many. */
 struct text {

@@ -65,16 +65,6 @@ static enum status version(void)
     return end_of(&out);
 }
 
-static enum status no_such(const char *what, const char *word)
-{
-    struct text told = TEXT_TO(2);
-    put(&told, what);
-    put_path(&told, word);
-    put(&told, "\nTry 'vendorfinch --help'.\n");
-    text_end(&told);
-    return COULD_NOT;
-}
-
 /* Whether help is asked for, before names begin. */
 static int asks_help(char **words, int count)
 {
@@ -93,7 +83,7 @@ static enum status run(const struct way *way, char **words, int count)
     if (status == DONE)
         status = options_fit(&options, way->least, way->most, way->needs);
     if (status == DONE && way->options == OPTION_CSV && !options.csv)
-        status = no_such("vendorfinch: this needs ", way->needs);
+        status = wrong_usage("this needs ", way->needs);
     return status == DONE ? way->run(&options) : status;
 }
 
@@ -113,7 +103,7 @@ int main(int count, char **words)
 {
     hold_descriptors();
     if (count < 2)
-        return no_such("vendorfinch: no command", "");
+        return wrong_usage("no command", "");
     if (asks_help(words + 1, 1) || strcmp(words[1], "help") == 0)
         return help(NULL);
     if (strcmp(words[1], "--version") == 0)
@@ -121,5 +111,5 @@ int main(int count, char **words)
     for (int i = 0; i < WAYS; i++)
         if (strcmp(words[1], ways[i].name) == 0)
             return run(&ways[i], words + 2, count - 2);
-    return no_such("vendorfinch: no such command: ", words[1]);
+    return wrong_usage("no such command: ", words[1]);
 }

@@ -12,7 +12,7 @@ static const struct option {
     {"--output", 'o', 's', OPTION_OUTPUT}, {"--csv", 0, 's', OPTION_CSV},
 };
 
-static enum status wrong_usage(const char *what, const char *word)
+enum status wrong_usage(const char *what, const char *word)
 {
     struct text told = TEXT_TO(2);
     put(&told, "vendorfinch: ");
