@@ -3,7 +3,6 @@
 
 #include <errno.h>
 #include <stdlib.h>
-#include <string.h>
 
 static void put_plural(struct text *out, unsigned count, const char *what)
 {
@@ -95,26 +94,32 @@ static void put_model(struct text *out, const struct vendorfinch_model *open)
         put_table(out, open, i);
 }
 
+/* The model in words, or that it is bad. */
+static enum status put_check(struct text *out, const struct bytes *model, const char *name)
+{
+    static const struct place nowhere;
+    struct vendorfinch_model open;
+    uint64_t got = vendorfinch_check_model(model->bytes, model->length);
+    struct refusal refusal = {(int)VENDORFINCH_NUMBER(got), {VENDORFINCH_SECOND(got), 0}};
+    if (refusal.number) {
+        put_refusal(out, name, &refusal, &nowhere);
+        return REFUSED;
+    }
+    if (vendorfinch_model_open(&open, model->bytes, model->length) != 0)
+        return could_not(name, ENOMEM);
+    put_model(out, &open);
+    vendorfinch_model_free(&open);
+    return DONE;
+}
+
 enum status check(const struct options *options)
 {
     struct bytes model;
-    struct vendorfinch_model open;
     struct text out = TEXT_TO(1);
     int error = load(options->model, MOST_OF_MODEL, &model);
     if (error)
         return could_not(options->model, error);
-    uint64_t got = vendorfinch_check_model(model.bytes, model.length);
-    struct refusal refusal = {(int)VENDORFINCH_NUMBER(got), {VENDORFINCH_SECOND(got), 0}};
-    if (refusal.number)
-        put_refusal(&out, options->model, &refusal, &model, &model);
-    else if (vendorfinch_model_open(&open, model.bytes, model.length) == 0) {
-        put_model(&out, &open);
-        vendorfinch_model_free(&open);
-    } else
-        out.error = ENOMEM;
+    enum status status = put_check(&out, &model, options->model);
     free(model.bytes);
-    error = text_end(&out);
-    if (error)
-        return could_not("standard output", error);
-    return refusal.number ? REFUSED : DONE;
+    return end_output(&out, status);
 }

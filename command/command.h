@@ -16,10 +16,10 @@ struct options {
     size_t count;
     size_t width;
     unsigned jobs;
-    int json;
+    int json, help;
     const char *output, *csv; /* NULL where not given */
 };
-enum { OPTION_JOBS = 1, OPTION_JSON = 2, OPTION_WIDTH = 4, OPTION_OUTPUT = 8, OPTION_CSV = 16 };
+enum { OPTION_JOBS = 1, OPTION_JSON = 2, OPTION_WIDTH = 4, OPTION_OUTPUT = 8, OPTION_CSV = 16, OPTION_HELP = 32 };
 /* Takes the words of a command that has these options; DONE, or COULD_NOT once it is told on standard error. */
 enum status options_of(struct options *options, unsigned flags, char **words, int count);
 /* Whether it has a model and so many files, and standard input at most once; the same answers. */
@@ -40,6 +40,8 @@ void put_bytes(struct text *text, const void *bytes, size_t length);
 void put(struct text *text, const char *words);
 void put_name(struct text *text, struct vendorfinch_name name);
 void put_number(struct text *text, int64_t number);
+/* The digits of a number, at least so many. */
+void put_digits(struct text *text, uint64_t number, unsigned least);
 /* A scaled value: 205 with one decimal is 20.5. */
 void put_scaled(struct text *text, int64_t value, unsigned decimals);
 /* A byte of a transfer file, ISO 8859-1, as UTF-8. */
@@ -50,6 +52,8 @@ int text_end(struct text *text);
 int text_flush(struct text *text);
 /* Gives the memory back and writes nothing. */
 void text_free(struct text *text);
+/* Ends what goes to standard output: the status, or COULD_NOT once it is told why. */
+enum status end_output(struct text *out, enum status status);
 
 /* input.c: the bytes of a file, or of standard input for "-". */
 struct bytes {
@@ -66,10 +70,14 @@ struct output {
     char *name, *temporary; /* NULL for a device or a pipe */
     int to;
 };
-/* Each 0 or an errno. Opened, it is written to through `to`; ended, it is on the disk; kept, it has its name. */
+/* Each 0 or an errno. Opened, it is written to through `to`; ended, it is on the disk; kept, it has its name; settled,
+ * its name is on the disk too. */
 int output_open(struct output *output, const char *name);
 int output_end(struct output *output);
 int output_keep(struct output *output);
+int output_settle(const struct output *output);
+/* Settles all names of a folder at once. */
+int folder_sync(const char *folder);
 /* Gives all back; what was not kept is gone, and what stood there before still stands. */
 void output_drop(struct output *output);
 
@@ -86,16 +94,15 @@ struct place {
     size_t length;
     size_t from, count;         /* its part to mark, from 0; a missing field has none */
 };
-struct place place_of(const struct refusal *refusal, const struct bytes *model, const struct bytes *file);
+/* 0, or the errno of no memory, and then there is nothing in the place. */
+int place_of(struct place *place, const struct refusal *refusal, const struct bytes *model, const struct bytes *file);
 
 /* refusal.c: a refusal in words, as the man page says it. */
-void put_refusal(struct text *text, const char *name, const struct refusal *refusal, const struct bytes *model,
-                 const struct bytes *file);
+void put_refusal(struct text *text, const char *name, const struct refusal *refusal, const struct place *place);
 /* The members of its JSON object behind "status". */
-void put_refusal_json(struct text *text, const struct refusal *refusal, const struct bytes *model,
-                      const struct bytes *file);
+void put_refusal_json(struct text *text, const struct refusal *refusal, const struct place *place);
 
-/* names.c: a file's name, its control bytes as \x and two digits. */
+/* names.c: a file's name; control characters, and what is not UTF-8, as \x and two digits for each byte. */
 void put_path(struct text *text, const char *name);
 /* A string of JSON: what is UTF-8 as it is, any other byte as \udc80 to \udcff. */
 void put_json_path(struct text *text, const char *name);
@@ -112,10 +119,11 @@ enum status reading_load(struct reading *reading, const struct options *options)
 /* DONE; or the status, once it is told on standard error. To be closed in either case. */
 enum status reading_open(struct reading *reading, const struct options *options);
 void reading_close(struct reading *reading);
-/* Tells on standard error that the file is refused; REFUSED. */
+/* Tells on standard error that the file is refused; REFUSED, or COULD_NOT without memory. */
 enum status refused(const struct reading *reading, const char *name);
 /* Tells on standard error why a name could not be read or written; COULD_NOT. */
 enum status could_not(const char *name, int error);
+void put_could_not(struct text *text, const char *name, int error);
 
 /* files.c: the work of a command on each of its files, several at a time, answered in order. */
 struct job {

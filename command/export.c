@@ -41,22 +41,14 @@ static void put_identification(struct text *text, const struct vendorfinch_table
     put_quoted(text, table->text + row[1], row[2], NO_BLANK);
 }
 
-static void put_digits(struct text *text, int64_t number, unsigned count)
-{
-    char digits[] = "0000";
-    for (unsigned i = count; i > 0; number /= 10)
-        digits[--i] = (char)('0' + number % 10);
-    put_bytes(text, digits, count);
-}
-
 /* 19990228 as 1999-02-28. */
 static void put_date(struct text *text, int64_t date)
 {
-    put_digits(text, date / 10000, 4);
+    put_digits(text, (uint64_t)date / 10000, 4);
     put(text, "-");
-    put_digits(text, date / 100 % 100, 2);
+    put_digits(text, (uint64_t)date / 100 % 100, 2);
     put(text, "-");
-    put_digits(text, date % 100, 2);
+    put_digits(text, (uint64_t)date % 100, 2);
 }
 
 /* The numbers of a position, which stand so many cells apart. */
@@ -288,7 +280,8 @@ static enum status keep_files(const struct folder *folder)
         if (error)
             return could_not(folder->files[i].name, error);
     }
-    return DONE;
+    const int error = folder_sync(folder->name);
+    return error ? could_not(folder->name, error) : DONE;
 }
 
 /* Lays the model open, makes room for its files, and the directory if it is not there. */

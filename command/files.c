@@ -33,11 +33,16 @@ static void do_file(struct shift *shift, struct job *job, size_t number)
     job->name = shift->options->files[number];
     job->report = report;
     enum status status = shift->each(job);
+    if (job->report.error) {
+        text_free(&job->report);
+        job->report = report;
+        status = report_error(job, ENOMEM);
+    }
     free(job->file.bytes);
     job->file.bytes = NULL;
     pthread_mutex_lock(&shift->lock);
     result->report = job->report;
-    result->status = job->report.error ? COULD_NOT : status;
+    result->status = status;
     result->ready = 1;
     pthread_cond_signal(&shift->ready);
     pthread_mutex_unlock(&shift->lock);
@@ -133,10 +138,7 @@ static enum status print_all(struct shift *shift, int workers)
     vendorfinch_table_free(&job.table);
     if (options->count > 1 && !options->json)
         put_summary(&out, shift, counts);
-    int error = text_end(&out);
-    if (error)
-        return could_not("standard output", error);
-    return counts[COULD_NOT] ? COULD_NOT : counts[REFUSED] ? REFUSED : DONE;
+    return end_output(&out, counts[COULD_NOT] ? COULD_NOT : counts[REFUSED] ? REFUSED : DONE);
 }
 
 /* Starts the workers, prints, and waits for them. */

@@ -34,6 +34,5 @@ enum status list(const struct options *options)
     if (status == REFUSED)
         put_line(&out, answer, 4);
     reading_close(&reading);
-    int error = text_end(&out);
-    return error ? could_not("standard output", error) : status;
+    return end_output(&out, status);
 }

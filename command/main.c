@@ -2,7 +2,6 @@
 #include "command.h"
 
 #include <fcntl.h>
-#include <stddef.h>
 #include <string.h>
 #include <unistd.h>
 
@@ -37,12 +36,6 @@ static void put_usage(struct text *out, const struct way *way)
     put(out, "\n");
 }
 
-static enum status end_of(struct text *out)
-{
-    int error = text_end(out);
-    return error ? could_not("standard output", error) : DONE;
-}
-
 /* The help on one way, or on all. */
 static enum status help(const struct way *one)
 {
@@ -51,35 +44,30 @@ static enum status help(const struct way *one)
     for (int i = 0; i < WAYS; i++)
         if (!one || one == &ways[i])
             put_usage(&out, &ways[i]);
-    put(&out, "\nMODEL is a compiled model, FILE a transfer file; one of them may be -, standard input. Behind -- all\n"
-              "words are names. --jobs: so many files at a time, 1 to 256. --json: an object a line for each file.\n"
-              "--width: the longest line, 16 to 65535, 80 if not given. -o: the file to write, whole or not at all.\n"
+    put(&out, "\nMODEL is a compiled model, FILE a transfer file; one of them may be -, standard input.\n\n"
+              "  -j, --jobs N      so many files at a time, 1 to 256; 1 if not given\n"
+              "  --json            an object in a line for each file\n"
+              "  --width N         the longest line, 16 to 65535; 80 if not given\n"
+              "  -o, --output OUT  the file to write, whole or not at all; - is standard output\n"
+              "  --csv DIR         the folder for the CSV files\n"
+              "  --                behind it all words are names\n\n"
               "Status: 0 done, 1 refused, 2 could not. More: man vendorfinch.\n");
-    return end_of(&out);
+    return end_output(&out, DONE);
 }
 
 static enum status version(void)
 {
     struct text out = TEXT_TO(1);
     put(&out, "vendorfinch " VENDORFINCH_VERSION "\n");
-    return end_of(&out);
-}
-
-/* Whether help is asked for, before names begin. */
-static int asks_help(char **words, int count)
-{
-    for (int i = 0; i < count && strcmp(words[i], "--") != 0; i++)
-        if (strcmp(words[i], "--help") == 0 || strcmp(words[i], "-h") == 0)
-            return 1;
-    return 0;
+    return end_output(&out, DONE);
 }
 
 static enum status run(const struct way *way, char **words, int count)
 {
-    struct options options = {way->name, NULL, NULL, 0, 80, 1, 0, NULL, NULL};
-    if (asks_help(words, count))
+    struct options options = {.command = way->name, .width = 80, .jobs = 1};
+    enum status status = options_of(&options, way->options | OPTION_HELP, words, count);
+    if (status == DONE && options.help)
         return help(way);
-    enum status status = options_of(&options, way->options, words, count);
     if (status == DONE)
         status = options_fit(&options, way->least, way->most, way->needs);
     if (status == DONE && way->options == OPTION_CSV && !options.csv)
@@ -104,7 +92,7 @@ int main(int count, char **words)
     hold_descriptors();
     if (count < 2)
         return wrong_usage("no command", "");
-    if (asks_help(words + 1, 1) || strcmp(words[1], "help") == 0)
+    if (strcmp(words[1], "--help") == 0 || strcmp(words[1], "-h") == 0 || strcmp(words[1], "help") == 0)
         return help(NULL);
     if (strcmp(words[1], "--version") == 0)
         return version();

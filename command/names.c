@@ -2,18 +2,6 @@
 #include "command.h"
 
 #include <stdio.h>
-#include <string.h>
-
-void put_path(struct text *text, const char *name)
-{
-    char escape[8];
-    for (; *name; name++)
-        if ((unsigned char)*name < 0x20 || *name == 0x7F) {
-            snprintf(escape, sizeof escape, "\\x%02X", (unsigned char)*name);
-            put(text, escape);
-        } else
-            put_bytes(text, name, 1);
-}
 
 /* How many bytes the character of UTF-8 has that begins here; 0 where these bytes are none. */
 static size_t utf8_here(const unsigned char *at)
@@ -31,18 +19,41 @@ static size_t utf8_here(const unsigned char *at)
     return none ? 0 : length;
 }
 
-/* A character of one byte within a string of JSON. */
+/* Whether it is a control character, by its first two bytes as UTF-8. */
+static int is_control(const unsigned char *at)
+{
+    return at[0] < 0x20 || at[0] == 0x7F || (at[0] == 0xC2 && at[1] < 0xA0);
+}
+
+void put_path(struct text *text, const char *name)
+{
+    char escape[8];
+    const unsigned char *at = (const unsigned char *)name;
+    while (*at) {
+        size_t length = utf8_here(at);
+        if (length > 0 && !is_control(at)) {
+            put_bytes(text, at, length);
+            at += length;
+            continue;
+        }
+        for (length = length ? length : 1; length > 0; length--) {
+            snprintf(escape, sizeof escape, "\\x%02X", *at++);
+            put(text, escape);
+        }
+    }
+}
+
+/* A character of ISO 8859-1 within a string of JSON. */
 static void put_json_byte(struct text *text, unsigned char byte)
 {
     char escape[8];
-    if (byte < 0x20 || byte == 0x7F) {
-        snprintf(escape, sizeof escape, "\\u%04x", byte);
+    snprintf(escape, sizeof escape, "\\u%04x", byte);
+    if (byte < 0x20 || (byte >= 0x7F && byte <= 0x9F))
         put(text, escape);
-        return;
+    else {
+        put(text, byte == '"' || byte == '\\' ? "\\" : "");
+        put_latin(text, byte);
     }
-    if (byte == '"' || byte == '\\')
-        put(text, "\\");
-    put_bytes(text, &byte, 1);
 }
 
 void put_json_path(struct text *text, const char *name)
@@ -52,14 +63,15 @@ void put_json_path(struct text *text, const char *name)
     put(text, "\"");
     while (*at) {
         size_t length = utf8_here(at);
-        if (length == 1)
-            put_json_byte(text, *at);
-        else if (length > 1)
-            put_bytes(text, at, length);
-        else {
-            snprintf(escape, sizeof escape, "\\udc%02x", *at);
+        snprintf(escape, sizeof escape, "\\udc%02x", *at);
+        if (length == 0)
             put(text, escape);
-        }
+        else if (length == 1)
+            put_json_byte(text, at[0]);
+        else if (is_control(at))
+            put_json_byte(text, at[1]);
+        else
+            put_bytes(text, at, length);
         at += length ? length : 1;
     }
     put(text, "\"");
@@ -69,9 +81,6 @@ void put_json_latin(struct text *text, const uint8_t *bytes, size_t length)
 {
     put(text, "\"");
     for (size_t i = 0; i < length; i++)
-        if (bytes[i] < 0x80)
-            put_json_byte(text, bytes[i]);
-        else
-            put_latin(text, bytes[i]);
+        put_json_byte(text, bytes[i]);
     put(text, "\"");
 }

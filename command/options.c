@@ -9,7 +9,7 @@ static const struct option {
     char letter, takes, flag;
 } known[] = {
     {"--jobs", 'j', 'n', OPTION_JOBS},     {"--json", 0, 0, OPTION_JSON},      {"--width", 0, 'n', OPTION_WIDTH},
-    {"--output", 'o', 's', OPTION_OUTPUT}, {"--csv", 0, 's', OPTION_CSV},
+    {"--output", 'o', 's', OPTION_OUTPUT}, {"--csv", 0, 's', OPTION_CSV},      {"--help", 'h', 0, OPTION_HELP},
 };
 
 enum status wrong_usage(const char *what, const char *word)
@@ -68,6 +68,7 @@ static int set_option(struct options *options, const struct option *option, cons
     case OPTION_JOBS: options->jobs = (unsigned)number; return number >= 1 && number <= 256;
     case OPTION_WIDTH: options->width = (size_t)number; return 1;
     case OPTION_JSON: options->json = 1; return 1;
+    case OPTION_HELP: options->help = 1; return 1;
     case OPTION_OUTPUT: options->output = value; return 1;
     default: options->csv = value; return 1;
     }

@@ -3,6 +3,7 @@
 
 #include <errno.h>
 #include <fcntl.h>
+#include <signal.h>
 #include <stdio.h>
 #include <stdlib.h>
 #include <string.h>
@@ -15,7 +16,8 @@ static char *name_beside(const char *name)
 {
     const char *slash = strrchr(name, '/');
     size_t folder = slash ? (size_t)(slash - name) + 1 : 0, room = folder + 64;
-    uint64_t number = (uint64_t)getpid();
+    static uint64_t count;
+    uint64_t number = (uint64_t)getpid() << 32 | ++count;
     char *beside = malloc(room);
     if (!beside)
         return NULL;
@@ -31,16 +33,15 @@ static int open_beside(struct output *output, const struct stat *before)
     output->temporary = name_beside(output->name);
     if (!output->temporary)
         return ENOMEM;
-    output->to = open(output->temporary, O_WRONLY | O_CREAT | O_EXCL | O_CLOEXEC, 0666);
+    const mode_t mode = before ? before->st_mode & 0777 : 0666;
+    output->to = open(output->temporary, O_WRONLY | O_CREAT | O_EXCL | O_CLOEXEC, mode);
     if (output->to < 0) {
         int error = errno;
         free(output->temporary);
         output->temporary = NULL;
         return error;
     }
-    if (before && fchmod(output->to, before->st_mode & 0777) != 0)
-        return errno;
-    return 0;
+    return before && fchmod(output->to, mode) != 0 ? errno : 0;
 }
 
 /* The name itself, or what a symbolic link that leads to nothing names, so that the file is made and the link stays. */
@@ -68,6 +69,9 @@ int output_open(struct output *output, const char *name)
     struct stat before;
     output->name = output->temporary = NULL;
     output->to = -1;
+    /* a closed pipe and a file that is too large are errors like others, so that no part of a file is left behind */
+    signal(SIGPIPE, SIG_IGN);
+    signal(SIGXFSZ, SIG_IGN);
     int there = stat(name, &before) == 0;
     if (!there && errno != ENOENT)
         return errno;
@@ -93,18 +97,27 @@ int output_end(struct output *output)
     return error;
 }
 
-/* Syncs the folder, so that the name is on the disk too; not every file system can. */
-static void sync_folder(const char *name)
+/* Some file systems cannot sync a folder, and say that it is no file for that. */
+int folder_sync(const char *folder)
 {
-    char *folder = strdup(name), *slash = folder ? strrchr(folder, '/') : NULL;
+    int opened = open(folder, O_RDONLY | O_DIRECTORY | O_CLOEXEC), error = 0;
+    if (opened < 0 || (fsync(opened) != 0 && errno != EINVAL))
+        error = errno;
+    if (opened >= 0)
+        close(opened);
+    return error;
+}
+
+int output_settle(const struct output *output)
+{
+    char *folder = output->name ? strdup(output->name) : NULL, *slash = folder ? strrchr(folder, '/') : NULL;
+    if (!folder)
+        return output->name ? ENOMEM : 0;
     if (slash)
         slash[slash == folder] = 0;
-    int opened = folder ? open(slash ? folder : ".", O_RDONLY | O_DIRECTORY | O_CLOEXEC) : -1;
-    if (opened >= 0) {
-        fsync(opened);
-        close(opened);
-    }
+    int error = folder_sync(slash ? folder : ".");
     free(folder);
+    return error;
 }
 
 int output_keep(struct output *output)
@@ -115,7 +128,6 @@ int output_keep(struct output *output)
         return errno;
     free(output->temporary);
     output->temporary = NULL;
-    sync_folder(output->name);
     return 0;
 }
 

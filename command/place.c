@@ -2,6 +2,7 @@
  * looked for here has been found by the library; nothing here decides about a file. */
 #include "command.h"
 
+#include <errno.h>
 #include <stdlib.h>
 #include <string.h>
 
@@ -140,22 +141,25 @@ static struct line line_number(const uint8_t *text, const uint8_t *end, uint64_t
     return line;
 }
 
-static void show(struct place *place, struct line line)
+/* A copy of the line to show; 0, or an errno. */
+static int show(struct place *place, struct line line)
 {
     place->shown = malloc(line.length + 1);
     if (!place->shown)
-        return;
+        return ENOMEM;
     memcpy(place->shown, line.bytes, line.length);
     place->length = line.length;
+    return 0;
 }
 
-/* A place in the logical lines, as the library unfolds them. */
-static void place_in_text(struct place *place, const struct refusal *refusal, const struct bytes *model,
-                          const struct bytes *file, char mark)
+/* A place in the logical lines, as the library unfolds them; 0, or an errno. */
+static int place_in_text(struct place *place, const struct refusal *refusal, const struct bytes *model,
+                         const struct bytes *file, char mark)
 {
     uint8_t *text = malloc(file->length + 1);
+    int error = 0;
     if (!text)
-        return;
+        return ENOMEM;
     uint64_t got = vendorfinch_unfold(model->bytes, model->length, file->bytes, file->length, text, file->length);
     const uint8_t *end = text + VENDORFINCH_SECOND(got);
     if (refusal->number == VENDORFINCH_NO_OBJECT)
@@ -164,31 +168,36 @@ static void place_in_text(struct place *place, const struct refusal *refusal, co
     if (place->last) {
         struct line line = line_number(text, end, place->line);
         mark_field(place, line, refusal->place[1]);
-        show(place, line);
+        error = show(place, line);
     }
     free(text);
+    return error;
 }
 
-struct place place_of(const struct refusal *refusal, const struct bytes *model, const struct bytes *file)
+/* A place in the physical lines; 0, or an errno. */
+static int place_in_file(struct place *place, int number, const struct bytes *file, char mark)
 {
-    struct place place = {0, 0, 0, 0, 0, NULL, 0, 0, 0};
+    struct line fault = physical_lines(place, number, mark, file);
+    if (!fault.bytes)
+        return 0;
+    mark_fault(place, number, fault);
+    return show(place, fault);
+}
+
+int place_of(struct place *place, const struct refusal *refusal, const struct bytes *model, const struct bytes *file)
+{
+    static const struct place none;
     struct vendorfinch_model open;
     int number = refusal->number;
+    *place = none;
     if (number < VENDORFINCH_END_MISSING || number > VENDORFINCH_FORM_WRONG)
-        return place;
+        return 0;
     if (vendorfinch_model_open(&open, model->bytes, model->length) != 0)
-        return place;
+        return ENOMEM;
     char mark = open.continuation;
     vendorfinch_model_free(&open);
-    place.line = refusal->place[0];
-    if (number > VENDORFINCH_CONT_MISSING) {
-        place_in_text(&place, refusal, model, file, mark);
-        return place;
-    }
-    struct line fault = physical_lines(&place, number, mark, file);
-    if (fault.bytes) {
-        mark_fault(&place, number, fault);
-        show(&place, fault);
-    }
-    return place;
+    place->line = refusal->place[0];
+    if (number > VENDORFINCH_CONT_MISSING)
+        return place_in_text(place, refusal, model, file, mark);
+    return place_in_file(place, number, file, mark);
 }

@@ -2,6 +2,7 @@
 #include "command.h"
 
 #include <errno.h>
+#include <stdlib.h>
 #include <string.h>
 
 static void put_count(struct text *text, int json, int64_t count, const char *what)
@@ -56,24 +57,24 @@ enum status report_error(struct job *job, int error)
         report_end(job);
         return COULD_NOT;
     }
-    put(report, "vendorfinch: ");
-    put_path(report, job->name);
-    put(report, ": ");
-    put(report, strerror(error));
-    put(report, "\n");
+    put_could_not(report, job->name, error);
     return COULD_NOT;
 }
 
 enum status report_refusal(struct job *job, int number)
 {
     struct refusal refusal = {number, {job->table.place[0], job->table.place[1]}};
-    if (!job->options->json) {
-        put_refusal(&job->report, job->name, &refusal, job->model, &job->file);
-        return REFUSED;
-    }
-    report_begin(job, "refused");
-    put_refusal_json(&job->report, &refusal, job->model, &job->file);
-    report_end(job);
+    struct place place;
+    int error = place_of(&place, &refusal, job->model, &job->file);
+    if (error)
+        return report_error(job, error);
+    if (job->options->json) {
+        report_begin(job, "refused");
+        put_refusal_json(&job->report, &refusal, &place);
+        report_end(job);
+    } else
+        put_refusal(&job->report, job->name, &refusal, &place);
+    free(place.shown);
     return REFUSED;
 }
 

@@ -5,24 +5,40 @@
 #include <stdlib.h>
 #include <string.h>
 
+void put_could_not(struct text *text, const char *name, int error)
+{
+    put(text, "vendorfinch: ");
+    put_path(text, name);
+    put(text, ": ");
+    put(text, strerror(error));
+    put(text, "\n");
+}
+
 enum status could_not(const char *name, int error)
 {
     struct text told = TEXT_TO(2);
-    put(&told, "vendorfinch: ");
-    put_path(&told, name);
-    put(&told, ": ");
-    put(&told, strerror(error));
-    put(&told, "\n");
+    put_could_not(&told, name, error);
     text_end(&told);
     return COULD_NOT;
+}
+
+enum status end_output(struct text *out, enum status status)
+{
+    int error = text_end(out);
+    return error ? could_not("standard output", error) : status;
 }
 
 enum status refused(const struct reading *reading, const char *name)
 {
     struct text told = TEXT_TO(2);
     struct refusal refusal = {reading->number, {reading->table.place[0], reading->table.place[1]}};
-    put_refusal(&told, name, &refusal, &reading->model, &reading->file);
+    struct place place;
+    int error = place_of(&place, &refusal, &reading->model, &reading->file);
+    if (error)
+        return could_not(name, error);
+    put_refusal(&told, name, &refusal, &place);
     text_end(&told);
+    free(place.shown);
     return REFUSED;
 }
 

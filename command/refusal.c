@@ -2,9 +2,8 @@
 #include "command.h"
 
 #include <stdio.h>
-#include <stdlib.h>
 
-enum { BEFORE = 40, WIDEST = 150 }; /* columns shown before the marked part, and in all */
+enum { BEFORE = 30, WIDEST = 150 }; /* bytes shown before the marked part, and columns in all: a byte has at most 4 */
 
 static void put_count(struct text *text, const char *words, uint64_t number)
 {
@@ -48,29 +47,42 @@ static void put_place(struct text *text, const struct refusal *refusal, const st
     put_physical(text, place);
 }
 
-/* A byte as it is shown; answers its columns. */
-static unsigned put_shown(struct text *text, uint8_t byte)
+/* The columns of a byte as it is shown. */
+static unsigned columns_of(uint8_t byte)
+{
+    return byte == 9 || (byte >= 0x20 && (byte < 0x7F || byte > 0x9F)) ? 1 : 4;
+}
+
+static void put_shown(struct text *text, uint8_t byte)
 {
     char escape[8];
-    if (byte >= 0x20 && (byte < 0x7F || byte > 0x9F)) {
-        put_latin(text, byte);
-        return 1;
-    }
     snprintf(escape, sizeof escape, "\\x%02X", byte);
-    put(text, byte == 9 ? " " : escape);
-    return byte == 9 ? 1 : 4;
+    if (columns_of(byte) > 1)
+        put(text, escape);
+    else
+        put_latin(text, byte == 9 ? ' ' : byte);
+}
+
+/* The first byte that is shown: of a line that is too wide some before its marked part. */
+static size_t first_shown(const struct place *place)
+{
+    size_t columns = 0;
+    for (size_t i = 0; i < place->length && columns <= WIDEST; i++)
+        columns += columns_of(place->shown[i]);
+    return columns > WIDEST && place->from > BEFORE ? place->from - BEFORE : 0;
 }
 
 /* The line, or as much of it as is wide enough, and the marks beneath. */
 static void put_marked(struct text *text, const struct place *place)
 {
     struct text marks = TEXT_KEPT;
-    size_t at = place->length > WIDEST && place->from > BEFORE ? place->from - BEFORE : 0, columns = 0;
+    size_t at = first_shown(place), columns = 0;
     size_t end = place->from + (place->count ? place->count : 1);
     put(text, at ? "    ..." : "    ");
     put(&marks, at ? "       " : "    ");
     for (; at < place->length && columns < WIDEST; at++) {
-        unsigned wide = put_shown(text, place->shown[at]);
+        unsigned wide = columns_of(place->shown[at]);
+        put_shown(text, place->shown[at]);
         columns += wide;
         for (; wide > 0; wide--)
             if (at < end)
@@ -84,19 +96,16 @@ static void put_marked(struct text *text, const struct place *place)
     text_free(&marks);
 }
 
-void put_refusal(struct text *text, const char *name, const struct refusal *refusal, const struct bytes *model,
-                 const struct bytes *file)
+void put_refusal(struct text *text, const char *name, const struct refusal *refusal, const struct place *place)
 {
-    struct place place = place_of(refusal, model, file);
     put_path(text, name);
     put_count(text, ": refused, ", (uint64_t)refusal->number);
     put(text, " ");
     put(text, vendorfinch_words(refusal->number));
-    put_place(text, refusal, &place);
+    put_place(text, refusal, place);
     put(text, "\n");
-    if (place.shown)
-        put_marked(text, &place);
-    free(place.shown);
+    if (place->shown)
+        put_marked(text, place);
 }
 
 static void put_place_json(struct text *text, const struct refusal *refusal, const struct place *place)
@@ -124,14 +133,11 @@ static void put_place_json(struct text *text, const struct refusal *refusal, con
     }
 }
 
-void put_refusal_json(struct text *text, const struct refusal *refusal, const struct bytes *model,
-                      const struct bytes *file)
+void put_refusal_json(struct text *text, const struct refusal *refusal, const struct place *place)
 {
-    struct place place = place_of(refusal, model, file);
     put_count(text, ", \"number\": ", (uint64_t)refusal->number);
     put(text, ", \"words\": \"");
     put(text, vendorfinch_words(refusal->number));
     put(text, "\"");
-    put_place_json(text, refusal, &place);
-    free(place.shown);
+    put_place_json(text, refusal, place);
 }

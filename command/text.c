@@ -31,37 +31,32 @@ int text_flush(struct text *text)
     return text->error;
 }
 
-/* Room for so many more bytes. */
+/* Room for so many more bytes, if there is memory: a descriptor's is of one size, and written out when it is full. */
 static void make_room(struct text *text, size_t more)
 {
-    if (text->to >= 0 && text->length + more > MANY)
+    if (text->to >= 0)
         text_flush(text);
-    size_t room = text->room ? text->room : 256;
-    while (room < text->length + more)
+    size_t room = text->to >= 0 ? MANY : 256;
+    while (room < text->length + more && text->to < 0)
         room *= 2;
-    if (room == text->room)
-        return;
-    char *bytes = realloc(text->bytes, room);
-    if (!bytes) {
-        text->error = text->error ? text->error : ENOMEM;
-        return;
+    char *bytes = room > text->room ? realloc(text->bytes, room) : NULL;
+    if (bytes) {
+        text->bytes = bytes;
+        text->room = room;
     }
-    text->bytes = bytes;
-    text->room = room;
 }
 
 void put_bytes(struct text *text, const void *bytes, size_t length)
 {
-    if (text->to >= 0 && length >= MANY) {
-        if (text_flush(text) == 0)
-            text->error = write_all(text->to, bytes, length);
-        return;
-    }
-    make_room(text, length);
+    if (!text->error && text->length + length > text->room)
+        make_room(text, length);
     if (text->error || length == 0)
         return;
-    memcpy(text->bytes + text->length, bytes, length);
-    text->length += length;
+    if (text->length + length <= text->room) {
+        memcpy(text->bytes + text->length, bytes, length);
+        text->length += length;
+    } else
+        text->error = text->to >= 0 ? write_all(text->to, bytes, length) : ENOMEM;
 }
 
 void put(struct text *text, const char *words)
@@ -74,8 +69,7 @@ void put_name(struct text *text, struct vendorfinch_name name)
     put_bytes(text, name.bytes, name.length);
 }
 
-/* The digits of a number, at least so many. */
-static void put_digits(struct text *text, uint64_t number, unsigned least)
+void put_digits(struct text *text, uint64_t number, unsigned least)
 {
     char digits[20];
     unsigned from = sizeof digits;

@@ -4,28 +4,30 @@
 #include <errno.h>
 #include <stdlib.h>
 
+/* The text into the output; or what is told on standard error. */
+static enum status put_lines(struct text *out, struct reading *reading, const char *name)
+{
+    const struct bytes *model = &reading->model, *file = &reading->file;
+    uint8_t *text = malloc(file->length + 1);
+    if (!text)
+        return could_not(name, ENOMEM);
+    uint64_t got = vendorfinch_unfold(model->bytes, model->length, file->bytes, file->length, text, file->length);
+    reading->number = (int)VENDORFINCH_NUMBER(got);
+    reading->table.place[0] = VENDORFINCH_SECOND(got);
+    enum status status = reading->number ? refused(reading, name) : DONE;
+    if (status == DONE)
+        put_bytes(out, text, VENDORFINCH_SECOND(got));
+    free(text);
+    return status;
+}
+
 enum status unfold(const struct options *options)
 {
     struct reading reading;
     struct text out = TEXT_TO(1);
     enum status status = reading_load(&reading, options);
-    if (status == DONE) {
-        uint8_t *text = malloc(reading.file.length + 1);
-        uint64_t got = 0;
-        if (text)
-            got = vendorfinch_unfold(reading.model.bytes, reading.model.length, reading.file.bytes,
-                                     reading.file.length, text, reading.file.length);
-        reading.number = (int)VENDORFINCH_NUMBER(got);
-        reading.table.place[0] = VENDORFINCH_SECOND(got);
-        if (!text)
-            out.error = ENOMEM;
-        else if (reading.number)
-            status = refused(&reading, options->files[0]);
-        else
-            put_bytes(&out, text, VENDORFINCH_SECOND(got));
-        free(text);
-    }
+    if (status == DONE)
+        status = put_lines(&out, &reading, options->files[0]);
     reading_close(&reading);
-    int error = text_end(&out);
-    return error ? could_not("standard output", error) : status;
+    return end_output(&out, status);
 }

@@ -19,6 +19,8 @@ static int save(const char *name, const uint8_t *bytes, size_t length)
         error = output_end(&output);
     if (!error)
         error = output_keep(&output);
+    if (!error)
+        error = output_settle(&output);
     output_drop(&output);
     return error;
 }
@@ -27,14 +29,12 @@ static int save(const char *name, const uint8_t *bytes, size_t length)
 static enum status put_out(const char *name, const uint8_t *bytes, size_t length)
 {
     struct text out = TEXT_TO(1);
-    int named = name && strcmp(name, "-") != 0, error;
-    if (named)
-        error = save(name, bytes, length);
-    else {
+    if (!name || strcmp(name, "-") == 0) {
         put_bytes(&out, bytes, length);
-        error = text_end(&out);
+        return end_output(&out, DONE);
     }
-    return error ? could_not(named ? name : "standard output", error) : DONE;
+    int error = save(name, bytes, length);
+    return error ? could_not(name, error) : DONE;
 }
 
 enum status write_out(const struct options *options)

@@ -501,7 +501,7 @@ static void again_and_again(struct bytes model)
     free(wrong_file.at);
 }
 
-/* Writes a table that was not read, and one whose file was refused: what the proved call says of it. */
+/* Writes a table that was not read, and one whose file was refused: no lines read as it. */
 static void tables_without_objects(struct bytes model)
 {
     struct vendorfinch_table t = VENDORFINCH_NO_TABLE;
@@ -513,18 +513,7 @@ static void tables_without_objects(struct bytes model)
     owns_nothing("a new table, freed", &t);
 
     is_number("refused", "the answer", vendorfinch_table_read(&t, model.at, model.length, NULL, 0), 7);
-    static const uint8_t nothing[1];
-    uint8_t plain[1000];
-    uint64_t answer[4], index[4];
-    vendorfinch_write(model.at, model.length, t.text ? t.text : nothing, t.text_length,
-                      t.marks ? t.marks : nothing, t.marks_length, t.rows ? t.rows : index, t.rows_length,
-                      t.cells ? t.cells : (int64_t *)index, t.cells_length,
-                      t.points ? t.points : (int64_t *)index, t.points_length, 0, 0, 0, 80, plain, sizeof plain,
-                      index, 0, 1, answer, 4);
-    if (answer[0] == 0)
-        writes("refused, and written", &t, model, 80, (const char *)plain, answer[1]);
-    else
-        writes_not("refused, and written", &t, model.at, model.length, 80, (int)answer[0]);
+    writes_not("refused, and written", &t, model.at, model.length, 80, VENDORFINCH_UNWRITABLE);
 
     /* a file that is read and has no objects */
     static const char none[] = "SCNT\n////\nMTID T\nMODL M\nEMOD\nENDE\n";

@@ -33,11 +33,11 @@ static size_t least(size_t a, size_t b)
     return a < b ? a : b;
 }
 
-/* A number that nobody who writes a file can guess. It changes no answer: where there is none, 0 does as well. */
-static uint64_t seed(void)
+/* A number that nobody who writes a file can guess: where the system has none, where something lies in memory. */
+static uint64_t seed(const void *something)
 {
     uint64_t number = 0;
-    return getrandom(&number, sizeof number, 0) == sizeof number ? number : 0;
+    return getrandom(&number, sizeof number, 0) == sizeof number ? number : (uint64_t)(uintptr_t)something;
 }
 
 /* The rooms that are enough for every file of this length: `roomsFor` in crates/meaning/specs/RoomClaims.antt. */
@@ -74,8 +74,8 @@ static size_t cells_named(const struct vendorfinch_model *open, unsigned *table,
     return longest;
 }
 
-/* The rooms of a first try, counted by how physical lines begin: exact where no code and no table's name is cut. A
- * wrong count costs a second try. */
+/* The rooms of a first try, counted by how physical lines begin: exact where no code and no table's name is cut, and
+ * no object has more cells than bytes. A wrong count costs a second try. */
 static struct rooms rooms_counted(const struct vendorfinch_model *open, const uint8_t *file, size_t length,
                                   struct rooms enough)
 {
@@ -91,6 +91,7 @@ static struct rooms rooms_counted(const struct vendorfinch_model *open, const ui
         else
             points += memcmp(at, "STPT", 4) == 0 || memcmp(at, "LIPT", 4) == 0 || memcmp(at, "ARCP", 4) == 0;
     }
+    cells = least(cells, length);
     struct rooms rooms = {enough.text, enough.marks, least(rows, enough.rows), least(cells, enough.cells),
                           least(4 * points, enough.points)};
     return rooms;
@@ -157,13 +158,16 @@ static int read_in(struct vendorfinch_table *table, struct rooms rooms, const ui
         return VENDORFINCH_NO_MEMORY;
     vendorfinch_read(model, model_length, file, file_length, table->text, rooms.text, table->marks, rooms.marks,
                      table->rows, rooms.rows, table->cells, rooms.cells, table->points, rooms.points,
-                     index, 3 * rooms.rows, seed(), answer, 4);
+                     index, 3 * rooms.rows, seed(index), answer, 4);
     int good = answer[0] == 0;
     table->objects = good ? answer[1] : 0;
     table->cells_used = good ? answer[2] : 0;
     table->points_used = good ? answer[3] : 0;
     table->place[0] = good ? 0 : answer[1];
     table->place[1] = good ? 0 : answer[2];
+    /* marks that are all zeros would be a table: one without topics */
+    if (!good)
+        table->text_length = table->marks_length = table->rows_length = table->cells_length = table->points_length = 0;
     return (int)answer[0];
 }
 
@@ -222,7 +226,7 @@ static int write_in(const struct vendorfinch_table *table, const uint8_t *model,
     else
         vendorfinch_write(model, model_length, t.text, t.text_length, t.marks, t.marks_length, t.rows, t.rows_length,
                           t.cells, t.cells_length, t.points, t.points_length, t.objects, t.cells_used, t.points_used,
-                          width, out, room, index, 3 * t.objects, seed(), answer, 4);
+                          width, out, room, index, 3 * t.objects, seed(index), answer, 4);
     free(index);
     if (answer[0] == 0) {
         into->bytes = out;

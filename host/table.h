@@ -27,8 +27,8 @@ struct vendorfinch_table {
 #define VENDORFINCH_NO_TABLE {0, 0, 0, {0, 0}, 0, 0, 0, 0, 0, 0, 0, 0, 0, 0, 0, 0}
 
 /* Reads a file under a model into the table; what was in it is gone. Room is never wanting: 6 and 16 are not answered.
- * Refused, the table has no objects and `place` says where; without memory, and for a NULL with a length, it is empty
- * and owns nothing. A table may be read into again, and keeps its memory for that. */
+ * Refused, the table is empty, so that it cannot be written (19), and `place` says where; without memory, and for a
+ * NULL with a length, it is empty and owns nothing. A table may be read into again, and keeps its memory for that. */
 int vendorfinch_table_read(struct vendorfinch_table *table, const uint8_t *model, size_t model_length,
                            const uint8_t *file, size_t file_length);
 

@@ -4,11 +4,7 @@ int *__errno_location(void);
 #define errno (*__errno_location())
 #define ENOENT 2
 #define EINTR 4
-#define EIO 5
 #define ENOMEM 12
 #define EEXIST 17
-#define ENOTDIR 20
 #define EISDIR 21
 #define EINVAL 22
-#define ENOSPC 28
-#define EPIPE 32

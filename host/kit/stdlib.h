@@ -7,8 +7,4 @@ void *calloc(size_t, size_t);
 void *realloc(void *, size_t);
 void free(void *);
 _Noreturn void exit(int);
-_Noreturn void abort(void);
 char *realpath(const char *, char *);
-unsigned long strtoul(const char *, char **, int);
-char *getenv(const char *);
-void qsort(void *, size_t, size_t, int (*)(const void *, const void *));

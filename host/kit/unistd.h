@@ -2,7 +2,6 @@
 #pragma once
 #include <sys/types.h>
 #define STDIN_FILENO 0
-#define STDOUT_FILENO 1
 #define STDERR_FILENO 2
 ssize_t read(int, void *, size_t);
 ssize_t write(int, const void *, size_t);

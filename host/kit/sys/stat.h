@@ -22,9 +22,7 @@ struct stat {
 _Static_assert(sizeof(struct stat) == 144, "struct stat of x86-64 Linux");
 #define S_ISDIR(mode) (((mode) & 0170000) == 0040000)
 #define S_ISREG(mode) (((mode) & 0170000) == 0100000)
-#define S_ISLNK(mode) (((mode) & 0170000) == 0120000)
 int stat(const char *, struct stat *);
-int lstat(const char *, struct stat *);
 int fstat(int, struct stat *);
 int fchmod(int, mode_t);
 int mkdir(const char *, mode_t);

@@ -1,6 +1,0 @@
-/* For a build with the kit's clang alone, which has no C headers. */
-#pragma once
-typedef __builtin_va_list va_list;
-#define va_start(list, last) __builtin_va_start(list, last)
-#define va_arg(list, type) __builtin_va_arg(list, type)
-#define va_end(list) __builtin_va_end(list)
