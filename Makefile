@@ -3,7 +3,7 @@
 PREFIX ?= /usr/local
 CFLAGS ?= -O2
 VERSION := $(shell sed -n 's/.*VENDORFINCH_VERSION "\(.*\)"/\1/p' host/vendorfinch.h)
-flags := -std=c11 -D_GNU_SOURCE $(CFLAGS) -Wall -Wextra -Werror -Ihost
+flags := -std=c11 -D_GNU_SOURCE $(CFLAGS) -Wall -Wextra -Ihost
 
 # the kit's own compiler where there is a kit and no other is asked for; a folder for each compiler
 ifneq ($(and $(filter default,$(origin CC)),$(wildcard host/cc),$(shell command -v rt 2>/dev/null)),)
@@ -12,6 +12,7 @@ endif
 ifeq ($(CC),host/cc)
 build := target/c/kit
 run := host/run
+flags += -Werror
 AR = $(shell host/cc -print-prog-name=llvm-ar)
 else
 build := target/c/$(notdir $(firstword $(CC)))
@@ -34,9 +35,9 @@ hosts: $(hosts)
 test: all
 	VENDORFINCH="$(patsubst %,'$(CURDIR)/%',$(run) $(build)/vendorfinch)" tests/command/run
 
-# proved again where a crate's source is newer
-sources := -name '*.rt' -o -name '*.antt' -o -name crates.txt
-target/libproved.a: $(shell find crates crates.txt \( $(sources) \) -newer target/libproved.a 2>/dev/null)
+# proved again where a crate's source is newer, or its folder, from which one may have gone
+sources := -type d -o -name '*.rt' -o -name '*.antt' -o -name crates.txt -o -name library
+target/libproved.a: $(shell find crates crates.txt host/library \( $(sources) \) -newer target/libproved.a 2>/dev/null)
 	host/library
 
 $(build)/%.o: %.c $(headers) Makefile
@@ -47,8 +48,8 @@ $(build)/libvendorfinch.a: target/libproved.a $(layer)
 	cp target/libproved.a $@
 	$(AR) rs $@ $(layer)
 
-$(build)/vendorfinch: $(command) $(build)/libvendorfinch.a
-	$(CC) $(flags) $(LDFLAGS) -o $@ $^
+$(build)/vendorfinch: $(command) $(build)/libvendorfinch.a command
+	$(CC) $(flags) $(LDFLAGS) -o $@ $(filter %.o %.a,$^)
 
 $(hosts): %: %.o $(build)/libvendorfinch.a
 	$(CC) $(flags) $(LDFLAGS) -o $@ $^

@@ -4,6 +4,7 @@ A line is shown as text; a column here counts from 0, in the man page and in JSO
 import os
 import pathlib
 import re
+import resource
 import subprocess
 import sys
 import tempfile
@@ -82,6 +83,14 @@ class Folder(unittest.TestCase):
         if not able:
             self.skipTest("another user may not start the command")
         return {"preexec_fn": other}
+
+    def limited(self, size):
+        """More for `vendorfinch`, so that it has so many bytes; skips where it does not start with them."""
+        def limit():
+            resource.setrlimit(resource.RLIMIT_AS, (size, size))
+        if vendorfinch("--version", preexec_fn=limit)[0] != 0:
+            self.skipTest("the command does not start with so little memory")
+        return {"cwd": self.folder, "preexec_fn": limit}
 
     def fails(self, words, **more):
         """Runs the command in the folder: status 2, a message and nothing else. Gives the message."""

@@ -478,14 +478,6 @@ class StandardOutput(expected.Folder):
 class Memory(expected.Folder):
     """There is little of it: a file is answered, or it is told that there is no memory; never anything else."""
 
-    def limited(self, size):
-        """More for `vendorfinch`, so that it has so many bytes; skips where it does not start with them."""
-        def limit():
-            resource.setrlimit(resource.RLIMIT_AS, (size, size))
-        if vendorfinch("--version", preexec_fn=limit)[0] != 0:
-            self.skipTest("the command does not start with so little memory")
-        return {"cwd": self.folder, "preexec_fn": limit}
-
     def test_too_little(self):
         model, file, number = many_objects(12000000)
         self.made("m.bin", model)
