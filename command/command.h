@@ -10,7 +10,6 @@ enum status { DONE = 0, REFUSED = 1, COULD_NOT = 2 };
 
 /* options.c: the words behind the command's name. */
 struct options {
-    const char *command;
     const char *model;
     char **files;
     size_t count;

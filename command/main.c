@@ -64,7 +64,7 @@ static enum status version(void)
 
 static enum status run(const struct way *way, char **words, int count)
 {
-    struct options options = {.command = way->name, .width = 80, .jobs = 1};
+    struct options options = {.width = 80, .jobs = 1};
     enum status status = options_of(&options, way->options | OPTION_HELP, words, count);
     if (status == DONE && options.help)
         return help(way);

@@ -45,6 +45,8 @@ static int is_at_fault(int number, struct line line, int continued, const uint8_
         return line.next == end;
     if (number == VENDORFINCH_CONT_MISSING)
         return continued && !has_cont(line);
+    if (number != VENDORFINCH_BYTE_NOT_PERMITTED)
+        return 0;
     for (size_t i = 0; i < line.length; i++)
         if (!is_permitted(line.bytes[i]))
             return 1;

@@ -93,6 +93,7 @@ static void put_marked(struct text *text, const struct place *place)
         put(&marks, at < place->from ? " " : "^");
     put(&marks, "\n");
     put_bytes(text, marks.bytes, marks.length);
+    text->error = text->error ? text->error : marks.error;
     text_free(&marks);
 }
 
