@@ -21,7 +21,8 @@ extern "C" {
 // Seconds, and the most memory of a program in bytes, which must end well.
 fn run(words: &[&str]) -> (f64, usize) {
     let start = Instant::now();
-    let child = Command::new(words[0]).args(&words[1..]).stdout(Stdio::null()).stderr(Stdio::null()).spawn().expect(words[0]);
+    let mut command = Command::new(words[0]);
+    let child = command.args(&words[1..]).stdout(Stdio::null()).stderr(Stdio::null()).spawn().expect(words[0]);
     let (mut status, mut usage) = (0, [0; 18]);
     unsafe { wait4(child.id() as c_int, &mut status, 0, &mut usage) };
     assert_eq!(status, 0, "{words:?}");

@@ -86,12 +86,12 @@ struct refusal {
     uint64_t place[2];
 };
 struct place {
-    uint64_t line;              /* the logical line, 0 where there is none */
+    uint64_t line;               /* the logical line, 0 where there is none */
     uint64_t first, last, lines; /* its physical lines, 0 0 where no line is left; how many there are up to them */
-    uint64_t at;                /* the physical one with the fault, for 3, 4 and 5; else 0 */
-    uint8_t *shown;             /* the line to show, or NULL; the caller's to free */
+    uint64_t at;                 /* the physical one with the fault, for 3, 4 and 5; else 0 */
+    uint8_t *shown;              /* the line to show, or NULL; the caller's to free */
     size_t length;
-    size_t from, count;         /* its part to mark, from 0; a missing field has none */
+    size_t from, count;          /* its part to mark, from 0; a missing field has none */
 };
 /* 0, or the errno of no memory, and then there is nothing in the place. */
 int place_of(struct place *place, const struct refusal *refusal, const struct bytes *model, const struct bytes *file);

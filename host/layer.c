@@ -1,7 +1,6 @@
 /* Calls the layer in host/table.h and host/model.h as a host does, and compares what it answers and leaves with what
  * the headers say and with what the proved call answers into rooms that are surely enough. Its exit status is 0 only
- * where all agree. It is compiled with host/table.c, host/model.c, host/words.c and the proved library, -I host and
- * -pthread.
+ * where all agree. argv[1] to argv[3]: the sample's compiled model, its file, and the file cut at 16.
  *
  * That there is no memory is tried by an allocator of its own, which the linker takes before the C library's: it maps
  * each block by itself, and can fail at its k-th call. A build with sanitizers has their allocator, and leaves it out.
@@ -185,43 +184,24 @@ static void open_model(struct bytes *to, const char *topic)
     record(to, 3, topic, strlen(topic));
 }
 
-/* 01's sample. */
-static struct bytes sample_model(void)
+/* The bytes of a file. */
+static struct bytes load(const char *name)
 {
-    struct bytes model = {0}, attribute = {0};
-    open_model(&model, "Netz");
-    record(&model, 4, "\0Knoten", 7);
-    record(&model, 5, "\0\5\4\0Nr", 6);
-    put(&attribute, "\0\2", 2);
-    component(&attribute, 1, 0, 999);
-    component(&attribute, 1, 0, 999);
-    say(&attribute, "Lage");
-    record(&model, 5, attribute.at, attribute.length);
-    record(&model, 4, "\0Leitung", 8);
-    record(&model, 5, "\0\1\0\0Von", 7);
-    attribute.length = 0;
-    put(&attribute, "\1\4", 2);
-    component(&attribute, 2, -500, 999);
-    say(&attribute, "Tiefe");
-    record(&model, 5, attribute.at, attribute.length);
-    attribute.length = 0;
-    put(&attribute, "\0\10\3\2", 4);
-    component(&attribute, 1, 0, 999);
-    component(&attribute, 1, 0, 999);
-    say(&attribute, "Verlauf");
-    record(&model, 5, attribute.at, attribute.length);
-    record(&model, 6, "", 0);
-    free(attribute.at);
-    return model;
+    struct bytes bytes = {0};
+    uint8_t some[4096];
+    FILE *f = fopen(name, "rb");
+    for (size_t length = 1; f && length > 0;) {
+        length = fread(some, 1, sizeof some, f);
+        put(&bytes, some, length);
+    }
+    if (f)
+        fclose(f);
+    return bytes;
 }
 
-static const char sample[] =
-    "SCNT\n////\nMTID T\nMODL M\nTOPI Netz\nTABL Knoten\nOBJE k1 A_1 10.0 20.5\nETAB\nTABL Leitung\nOBJE p1 k1 @\n"
-    "STPT 10.0 20.5\nARCP 11.0 21.0\nLIPT 12.0 20.5\nELIN\nETAB\nETOP\nEMOD\nENDE\n";
-static const char sample_16[] =
-    "SCNT\n////\nMTID T\nMODL M\nTOPI Netz\nTABL Knoten\nOBJE k1 A_1 10.\\\nCONT 0 20.5\nETAB\nTABL Leitung\n"
-    "OBJE p1 k1 @\nSTPT 10.0 20.5\nARCP 11.0 21.0\nLIPT 12.0 20.5\nELIN\nETAB\nETOP\nEMOD\nENDE\n";
-#define SAMPLE ((const uint8_t *)sample), (sizeof sample - 1)
+/* 01's sample: its file, and the same cut at 16. */
+static struct bytes sample, sample_16;
+#define SAMPLE sample.at, sample.length
 
 /* Topic N with the table A of one optional line of two numbers without decimals; or of so many optional texts. */
 static struct bytes line_model(void)
@@ -424,9 +404,9 @@ static void the_sample(struct bytes model)
     is_so("the sample", "its cells", t.cells && memcmp(t.cells, cells, sizeof cells) == 0);
     is_so("the sample", "its points", t.points && memcmp(t.points, points, sizeof points) == 0);
     is_so("the sample", "its marks", t.marks && memcmp(t.marks, "\1\1\1", 3) == 0);
-    writes("the sample at 80", &t, model, 80, sample, sizeof sample - 1);
-    writes("the sample at 65,535", &t, model, 65535, sample, sizeof sample - 1);
-    writes("the sample at 16", &t, model, 16, sample_16, sizeof sample_16 - 1);
+    writes("the sample at 80", &t, model, 80, (const char *)sample.at, sample.length);
+    writes("the sample at 65,535", &t, model, 65535, (const char *)sample.at, sample.length);
+    writes("the sample at 16", &t, model, 16, (const char *)sample_16.at, sample_16.length);
     writes_not("width 15", &t, model.at, model.length, 15, VENDORFINCH_WIDTH_WRONG);
     writes_not("width 65,536", &t, model.at, model.length, 65536, VENDORFINCH_WIDTH_WRONG);
     writes_not("width 0", &t, model.at, model.length, 0, VENDORFINCH_WIDTH_WRONG);
@@ -477,7 +457,7 @@ static void again_and_again(struct bytes model)
     struct vendorfinch_table t = VENDORFINCH_NO_TABLE;
     size_t objects;
     file = objects_file(MIB, "OBJE ", " @\n", &objects);
-    say(&wrong_file, sample);
+    put(&wrong_file, SAMPLE);
     memcpy(wrong_file.at + 56, "\xd7", 1); /* within A_1 */
     for (int i = 0; i < 3; i++) {
         reads_as_proved("a small file", &t, model, SAMPLE, 9);
@@ -487,7 +467,7 @@ static void again_and_again(struct bytes model)
         size_t kept_length = t.memory_length;
         reads_as_proved("a refused one behind it", &t, model, wrong_file.at, wrong_file.length, 9);
         reads_as_proved("a small one behind that", &t, model, SAMPLE, 9);
-        writes("a small one behind that", &t, model, 80, sample, sizeof sample - 1);
+        writes("a small one behind that", &t, model, 80, (const char *)sample.at, sample.length);
         is_so("memory", "it was not kept", t.memory == kept && t.memory_length == kept_length);
         reads_as_proved("a large one, cut", &t, small, file.at, file.length - 1, 5);
         has_nothing("a large one, cut", &t, t.place[0], 0);
@@ -522,55 +502,62 @@ static void tables_without_objects(struct bytes model)
     vendorfinch_table_free(&t);
 }
 
-/* Files for which rooms by the wayside would be too small: each is read, and none is refused with 6 or 16. */
-static void rooms_are_enough(void)
+/* Files for which rooms by the wayside would be too small. */
+static const struct shape {
+    const char *what, *before, *behind;
+    size_t length, texts; /* 0: the model of a line */
+    size_t points;        /* of each object */
+} shapes[] = {
+    {"every OBJE cut within its code", "OB\\\nCONT JE ", " @\n", 4 * MIB, 1, 0},
+    {"every byte of OBJE cut", "O\\\r\nCONT B\\\nCONT J\\\nCONT E\\\nCONT  ", " @\n", 4 * MIB, 1, 0},
+    {"OBJE cut by nothing", "\\\nCONT OBJE ", " @\n", 4 * MIB, 1, 0},
+    {"smallest objects", "OBJE ", " @\n", 4 * MIB, 1, 0},
+    {"blanks before OBJE", " \tOBJE\t", " @@\n", 4 * MIB, 1, 0},
+    {"objects of a line that is undefined", "OBJE ", "\nELIN\n", 4 * MIB, 0, 0},
+    {"such objects, cut", "OB\\\nCONT JE ", "\nE\\\nCONT LIN\n", 4 * MIB, 0, 0},
+    {"objects of two points", "OBJE ", "\nSTPT 1 1\nLIPT 1 1\nELIN\n", 4 * MIB, 0, 2},
+    {"objects of many points", "OBJE ",
+     "\nSTPT 1 1\nLIPT 1 1\nLIPT 1 1\nLIPT 1 1\nARCP 1 1\nLIPT 1 1\nLIPT 1 1\nLIPT 1 1\nLIPT 1 1\nLIPT 1 1\nELIN\n",
+     4 * MIB, 0, 10},
+    {"points cut within their codes", "OBJE ",
+     "\nST\\\nCONT PT 1 1\nL\\\nCONT IPT 1 1\nLI\\\nCONT PT 1 1\nLIP\\\nCONT T 1 1\nELIN\n", 4 * MIB, 0, 4},
+    {"rows of 64 attributes for two bytes", "OBJE ", " @@\n", MIB / 4, 64, 0},
+};
+
+/* What is written of a table is read with the same counts again. */
+static void reads_again(const char *what, const struct vendorfinch_table *t, struct bytes model)
 {
-    struct {
-        const char *what, *before, *behind;
-        size_t length, texts; /* 0: the model of a line */
-        size_t points;        /* of each object */
-    } const files[] = {
-        {"every OBJE cut within its code", "OB\\\nCONT JE ", " @\n", 4 * MIB, 1, 0},
-        {"every byte of OBJE cut", "O\\\r\nCONT B\\\nCONT J\\\nCONT E\\\nCONT  ", " @\n", 4 * MIB, 1, 0},
-        {"OBJE cut by nothing", "\\\nCONT OBJE ", " @\n", 4 * MIB, 1, 0},
-        {"smallest objects", "OBJE ", " @\n", 4 * MIB, 1, 0},
-        {"blanks before OBJE", " \tOBJE\t", " @@\n", 4 * MIB, 1, 0},
-        {"objects of a line that is undefined", "OBJE ", "\nELIN\n", 4 * MIB, 0, 0},
-        {"such objects, cut", "OB\\\nCONT JE ", "\nE\\\nCONT LIN\n", 4 * MIB, 0, 0},
-        {"objects of two points", "OBJE ", "\nSTPT 1 1\nLIPT 1 1\nELIN\n", 4 * MIB, 0, 2},
-        {"objects of many points", "OBJE ",
-         "\nSTPT 1 1\nLIPT 1 1\nLIPT 1 1\nLIPT 1 1\nARCP 1 1\nLIPT 1 1\nLIPT 1 1\nLIPT 1 1\nLIPT 1 1\nLIPT 1 1\nELIN\n",
-         4 * MIB, 0, 10},
-        {"points cut within their codes", "OBJE ",
-         "\nST\\\nCONT PT 1 1\nL\\\nCONT IPT 1 1\nLI\\\nCONT PT 1 1\nLIP\\\nCONT T 1 1\nELIN\n", 4 * MIB, 0, 4},
-        {"rows of 64 attributes for two bytes", "OBJE ", " @@\n", MIB / 4, 64, 0},
-    };
-    for (size_t i = 0; i < sizeof files / sizeof *files; i++) {
-        struct bytes model = files[i].texts ? text_model((unsigned)files[i].texts) : line_model();
-        size_t objects, row_cells = files[i].texts ? 3 + 2 * files[i].texts : 5;
-        struct bytes file = objects_file(files[i].length, files[i].before, files[i].behind, &objects);
-        struct vendorfinch_table t = VENDORFINCH_NO_TABLE;
-        reads_as_proved(files[i].what, &t, model, file.at, file.length, row_cells);
-        is_number(files[i].what, "objects", (long long)t.objects, (long long)objects);
-        is_number(files[i].what, "cells_used", (long long)t.cells_used, (long long)(objects * row_cells));
-        is_number(files[i].what, "points_used", (long long)t.points_used, (long long)(objects * files[i].points));
-        /* what is written is read as the same again */
-        uint8_t *out;
-        size_t out_length;
-        is_number(files[i].what, "writing",
-                  vendorfinch_table_write(&t, model.at, model.length, 16, &out, &out_length), 0);
-        struct vendorfinch_table again = VENDORFINCH_NO_TABLE;
-        is_number(files[i].what, "reading again",
-                  vendorfinch_table_read(&again, model.at, model.length, out, out_length), 0);
-        is_so(files[i].what, "it has other counts", again.objects == t.objects && again.cells_used == t.cells_used
-              && again.points_used == t.points_used);
-        free(out);
-        vendorfinch_table_free(&again);
-        vendorfinch_table_free(&t);
-        free(file.at);
-        free(model.at);
-    }
-    /* one object of a line of as many points as there can be */
+    struct vendorfinch_table again = VENDORFINCH_NO_TABLE;
+    uint8_t *out;
+    size_t out_length;
+    is_number(what, "writing", vendorfinch_table_write(t, model.at, model.length, 16, &out, &out_length), 0);
+    is_number(what, "reading again", vendorfinch_table_read(&again, model.at, model.length, out, out_length), 0);
+    is_so(what, "it has other counts", again.objects == t->objects && again.cells_used == t->cells_used
+          && again.points_used == t->points_used);
+    free(out);
+    vendorfinch_table_free(&again);
+}
+
+/* Each is read, and none is refused with 6 or 16. */
+static void rooms_are_enough(const struct shape *shape)
+{
+    struct bytes model = shape->texts ? text_model((unsigned)shape->texts) : line_model();
+    size_t objects, row_cells = shape->texts ? 3 + 2 * shape->texts : 5;
+    struct bytes file = objects_file(shape->length, shape->before, shape->behind, &objects);
+    struct vendorfinch_table t = VENDORFINCH_NO_TABLE;
+    reads_as_proved(shape->what, &t, model, file.at, file.length, row_cells);
+    is_number(shape->what, "objects", (long long)t.objects, (long long)objects);
+    is_number(shape->what, "cells_used", (long long)t.cells_used, (long long)(objects * row_cells));
+    is_number(shape->what, "points_used", (long long)t.points_used, (long long)(objects * shape->points));
+    reads_again(shape->what, &t, model);
+    vendorfinch_table_free(&t);
+    free(file.at);
+    free(model.at);
+}
+
+/* One object of a line of as many points as there can be. */
+static void the_longest_line(void)
+{
     struct bytes model = line_model(), file = {0};
     struct vendorfinch_table t = VENDORFINCH_NO_TABLE;
     size_t points = 1;
@@ -593,12 +580,12 @@ static void the_longest(struct bytes model)
     struct bytes file = {0};
     struct vendorfinch_table t = VENDORFINCH_NO_TABLE;
     say(&file, "SCNT\n");
-    while (file.length < 16777216 - (sizeof sample - 1 - 5) - 80)
+    while (file.length < 16777216 - (sample.length - 5) - 80)
         say(&file, "a description\n");
-    while (file.length < 16777216 - (sizeof sample - 1 - 5) - 1)
+    while (file.length < 16777216 - (sample.length - 5) - 1)
         say(&file, "x");
     say(&file, "\n");
-    say(&file, sample + 5);
+    put(&file, sample.at + 5, sample.length - 5);
     is_number("16,777,216 bytes", "the length", (long long)file.length, 16777216);
     is_number("16,777,216 bytes", "the answer",
               vendorfinch_table_read(&t, model.at, model.length, file.at, file.length), 0);
@@ -616,59 +603,72 @@ static void the_longest(struct bytes model)
 }
 
 #ifndef SANITIZED
-/* Each call for memory fails in turn, alone and with all behind it, until reading and writing need no more. */
+/* Each call for memory of reading fails in turn, until it needs no more: into a new table, or into one that has to
+ * grow. */
+static void no_memory_to_read(struct bytes model, struct bytes file, size_t objects, const struct bytes *before)
+{
+    struct vendorfinch_table t = VENDORFINCH_NO_TABLE;
+    int answer = VENDORFINCH_NO_MEMORY;
+    long k;
+    for (k = 0; k < 100 && answer == VENDORFINCH_NO_MEMORY; k++) {
+        if (before)
+            is_number("before there is no memory", "the answer",
+                      vendorfinch_table_read(&t, before->at, before->length, SAMPLE), 0);
+        calls = 0;
+        fails_at = k;
+        answer = vendorfinch_table_read(&t, model.at, model.length, file.at, file.length);
+        fails_at = -1;
+        if (answer == VENDORFINCH_NO_MEMORY)
+            owns_nothing("no memory for reading", &t);
+    }
+    is_so("no memory for reading", "no call for memory was seen to fail", k > 1);
+    is_number("memory for reading", "the answer", answer, 0);
+    is_number("memory for reading", "objects", (long long)t.objects, (long long)objects);
+    vendorfinch_table_free(&t);
+}
+
+/* The same of writing, which leaves the table as it was. */
+static void no_memory_to_write(struct bytes model, struct bytes file)
+{
+    struct vendorfinch_table t = VENDORFINCH_NO_TABLE;
+    is_number("before writing", "the answer",
+              vendorfinch_table_read(&t, model.at, model.length, file.at, file.length), 0);
+    struct vendorfinch_table before = t;
+    uint8_t *out = NULL;
+    size_t out_length;
+    int answer = VENDORFINCH_NO_MEMORY;
+    long k;
+    for (k = 0; k < 100 && answer == VENDORFINCH_NO_MEMORY; k++) {
+        out = (uint8_t *)&before;
+        out_length = 77;
+        calls = 0;
+        fails_at = k;
+        answer = vendorfinch_table_write(&t, model.at, model.length, 80, &out, &out_length);
+        fails_at = -1;
+        is_so("no memory for writing", "the table was changed", memcmp(&before, &t, sizeof t) == 0);
+        if (answer == VENDORFINCH_NO_MEMORY)
+            is_so("no memory for writing", "out is not NULL", out == NULL && out_length == 0);
+    }
+    is_so("no memory for writing", "no call for memory was seen to fail", k > 1);
+    is_number("memory for writing", "the answer", answer, 0);
+    is_so("memory for writing", "other bytes", out && out_length == file.length
+          && memcmp(out, file.at, file.length) == 0);
+    free(out);
+    vendorfinch_table_free(&t);
+}
+
+/* One call for memory fails alone, then with all behind it. */
 static void no_memory(struct bytes model)
 {
     struct bytes small = text_model(1);
     size_t objects;
     struct bytes file = objects_file(100000, "OBJE ", " @\n", &objects);
-    struct vendorfinch_table t = VENDORFINCH_NO_TABLE;
     for (fails_on = 0; fails_on < 2; fails_on++) {
-        /* into a new table, and into one that has to grow */
-        for (int grows = 0; grows < 2; grows++) {
-            int answer = VENDORFINCH_NO_MEMORY;
-            long k;
-            for (k = 0; k < 100 && answer == VENDORFINCH_NO_MEMORY; k++) {
-                if (grows)
-                    is_number("before there is no memory", "the answer",
-                              vendorfinch_table_read(&t, model.at, model.length, SAMPLE), 0);
-                calls = 0;
-                fails_at = k;
-                answer = vendorfinch_table_read(&t, small.at, small.length, file.at, file.length);
-                fails_at = -1;
-                if (answer == VENDORFINCH_NO_MEMORY)
-                    owns_nothing("no memory for reading", &t);
-            }
-            is_so("no memory for reading", "no call for memory was seen to fail", k > 1);
-            is_number("memory for reading", "the answer", answer, 0);
-            is_number("memory for reading", "objects", (long long)t.objects, (long long)objects);
-            vendorfinch_table_free(&t);
-        }
-        is_number("before writing", "the answer",
-                  vendorfinch_table_read(&t, small.at, small.length, file.at, file.length), 0);
-        struct vendorfinch_table before = t;
-        uint8_t *out = NULL;
-        size_t out_length;
-        int answer = VENDORFINCH_NO_MEMORY;
-        long k;
-        for (k = 0; k < 100 && answer == VENDORFINCH_NO_MEMORY; k++) {
-            out = (uint8_t *)&before;
-            out_length = 77;
-            calls = 0;
-            fails_at = k;
-            answer = vendorfinch_table_write(&t, small.at, small.length, 80, &out, &out_length);
-            fails_at = -1;
-            is_so("no memory for writing", "the table was changed", memcmp(&before, &t, sizeof t) == 0);
-            if (answer == VENDORFINCH_NO_MEMORY)
-                is_so("no memory for writing", "out is not NULL", out == NULL && out_length == 0);
-        }
-        is_so("no memory for writing", "no call for memory was seen to fail", k > 1);
-        is_number("memory for writing", "the answer", answer, 0);
-        is_so("memory for writing", "other bytes", out && out_length == file.length
-              && memcmp(out, file.at, file.length) == 0);
-        free(out);
-        vendorfinch_table_free(&t);
+        no_memory_to_read(small, file, objects, NULL);
+        no_memory_to_read(small, file, objects, &model);
+        no_memory_to_write(small, file);
     }
+    fails_on = 0;
     free(small.at);
     free(file.at);
 }
@@ -745,19 +745,9 @@ static void is_closed(const char *what, const struct vendorfinch_model *open)
           && open->attribute == NULL);
 }
 
-static void models(struct bytes model)
+/* The attributes of the sample's model. */
+static void sample_attributes(const struct vendorfinch_model *open)
 {
-    static struct vendorfinch_model open;
-    is_number("a model", "the answer", vendorfinch_model_open(&open, model.at, model.length), 0);
-    is_so("a model", "its bytes", open.blank == '_' && open.undefined == '@' && open.continuation == '\\');
-    is_so("a model", "its counts", open.topics == 1 && open.tables == 2 && open.attributes == 5);
-    is_so("a model", "its names", is_name(open.transfer, "T") && is_name(open.name, "M")
-          && is_name(open.topic[0], "Netz") && is_name(open.table[0].name, "Knoten")
-          && is_name(open.table[1].name, "Leitung"));
-    is_so("a model", "its first table", open.table[0].topic == 0 && open.table[0].attributes == 2
-          && open.table[0].first == 0 && open.table[0].cells == 9 && !open.table[0].optional);
-    is_so("a model", "its second table", open.table[1].topic == 0 && open.table[1].attributes == 3
-          && open.table[1].first == 2 && open.table[1].cells == 9 && !open.table[1].optional);
     static const struct {
         const char *name;
         enum vendorfinch_type type;
@@ -772,7 +762,7 @@ static void models(struct bytes model)
         {"Verlauf", VENDORFINCH_LINE, 0, 3, 2, 7, 1, 0, 999},
     };
     for (int i = 0; i < 5; i++) {
-        const struct vendorfinch_attribute *a = &open.attribute[i];
+        const struct vendorfinch_attribute *a = &open->attribute[i];
         is_so("an attribute", attributes[i].name, is_name(a->name, attributes[i].name)
               && a->type == attributes[i].type && a->optional == attributes[i].optional
               && a->number == attributes[i].number && a->components == attributes[i].components
@@ -782,10 +772,31 @@ static void models(struct bytes model)
                   && a->component[c].least == attributes[i].least
                   && a->component[c].greatest == attributes[i].greatest);
     }
+}
+
+static void sample_opened(struct bytes model)
+{
+    static struct vendorfinch_model open;
+    is_number("a model", "the answer", vendorfinch_model_open(&open, model.at, model.length), 0);
+    is_so("a model", "its bytes", open.blank == '_' && open.undefined == '@' && open.continuation == '\\');
+    is_so("a model", "its counts", open.topics == 1 && open.tables == 2 && open.attributes == 5);
+    is_so("a model", "its names", is_name(open.transfer, "T") && is_name(open.name, "M")
+          && is_name(open.topic[0], "Netz") && is_name(open.table[0].name, "Knoten")
+          && is_name(open.table[1].name, "Leitung"));
+    is_so("a model", "its first table", open.table[0].topic == 0 && open.table[0].attributes == 2
+          && open.table[0].first == 0 && open.table[0].cells == 9 && !open.table[0].optional);
+    is_so("a model", "its second table", open.table[1].topic == 0 && open.table[1].attributes == 3
+          && open.table[1].first == 2 && open.table[1].cells == 9 && !open.table[1].optional);
+    sample_attributes(&open);
     vendorfinch_model_free(&open);
     is_closed("a model, freed", &open);
     vendorfinch_model_free(&open);
     is_closed("a model, freed twice", &open);
+}
+
+static void models_not_opened(struct bytes model)
+{
+    static struct vendorfinch_model open;
     for (size_t length = 0; length < model.length; length++) {
         memset(&open, 1, sizeof open);
         is_number("a model's beginning", "the answer", vendorfinch_model_open(&open, model.at, length),
@@ -796,7 +807,12 @@ static void models(struct bytes model)
     is_closed("no model", &open);
     is_number("a NULL", "the answer", vendorfinch_model_open(&open, NULL, 190), VENDORFINCH_NULL_SLICE);
     is_closed("a NULL", &open);
+}
+
 #ifndef SANITIZED
+static void no_memory_to_open(struct bytes model)
+{
+    static struct vendorfinch_model open;
     int answer = VENDORFINCH_NO_MEMORY;
     long k;
     for (k = 0; k < 100 && answer == VENDORFINCH_NO_MEMORY; k++) {
@@ -810,7 +826,12 @@ static void models(struct bytes model)
     is_so("no memory for a model", "no call for memory was seen to fail", k > 1);
     is_number("memory for a model", "the answer", answer, 0);
     vendorfinch_model_free(&open);
+}
 #endif
+
+static void wide_model_opened(void)
+{
+    static struct vendorfinch_model open;
     struct bytes wide = text_model(64);
     is_number("64 attributes", "the answer", vendorfinch_model_open(&open, wide.at, wide.length), 0);
     is_so("64 attributes", "their cells", open.attributes == 64 && open.table[0].cells == 131
@@ -828,24 +849,37 @@ static void words(void)
             is_number("words", "none for a number", number, 0);
 }
 
-int main(void)
+int main(int count, char **names)
 {
-    struct bytes model = sample_model();
+    if (count != 4)
+        return 2;
+    struct bytes model = load(names[1]);
+    sample = load(names[2]);
+    sample_16 = load(names[3]);
     is_number("the sample's model", "its length", (long long)model.length, 190);
-    is_number("the sample's model", "the check", (long long)vendorfinch_check_model(model.at, model.length), 256);
+    is_number("the sample", "its length", (long long)sample.length, 169);
+    if (wrong)
+        return 2;
     the_sample(model);
     null_slices(model);
     again_and_again(model);
     tables_without_objects(model);
-    rooms_are_enough();
+    for (size_t i = 0; i < sizeof shapes / sizeof *shapes; i++)
+        rooms_are_enough(&shapes[i]);
+    the_longest_line();
     the_longest(model);
+    side_by_side();
+    sample_opened(model);
+    models_not_opened(model);
+    wide_model_opened();
 #ifndef SANITIZED
     no_memory(model);
+    no_memory_to_open(model);
 #endif
-    side_by_side();
-    models(model);
     words();
     free(model.at);
+    free(sample.at);
+    free(sample_16.at);
     printf("layer: %d compared, %d wrong\n", compared, wrong);
     return wrong != 0;
 }
