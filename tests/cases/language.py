@@ -1,0 +1,415 @@
+"""The cases of tests/cases, from the words that tests/README.md explains. A line that is wrong ends the reading, and is
+told with its place."""
+
+import dataclasses
+import pathlib
+import re
+import sys
+
+ROOT = pathlib.Path(__file__).resolve().parents[2]
+sys.path.insert(0, str(ROOT / "tests" / "oracle"))
+import oracle  # noqa: E402
+import words  # noqa: E402
+from words import Wrong, need, number, unescaped  # noqa: E402
+
+CELL = (-2 ** 63, 2 ** 63 - 1)
+ROOMS = ("text", "marks", "rows", "cells", "points", "output", "index", "answer", "seed")
+LINE = re.compile(r"(?:(?P<first>[0-9]+)(?:-(?P<last>[0-9]+))? |\+(?P<before>[0-9]+) )?(?P<times>[0-9]+ times )?"
+                  r"\|(?: (?P<content>.*))?")
+LEFT_OUT = re.compile(r"([0-9]+)(?:-([0-9]+))? -")
+CALL = re.compile(r"(?:(?P<check>check)|(?P<call>unfold|read|write|list)(?: (?P<file>.+?))? against) (?P<model>.+)")
+CHANGE = re.compile(r"(text|marks|rows|cells|points) ([0-9]+) is (.+)")
+RANGE = re.compile(r"\\x([0-9a-f]{2})\.\.\\x([0-9a-f]{2})")
+
+
+@dataclasses.dataclass
+class Expected:
+    """What is expected by hand; None where nothing is said."""
+    answer: tuple = None
+    text: bytes = None
+    marks: list = None
+    rows: list = None
+    points: list = None
+    output: bytes = None
+
+
+@dataclasses.dataclass
+class Case:
+    """A case: where it stands, its words, what it derives from, the call with all it is given, and what is expected."""
+    place: tuple
+    name: str
+    source: str
+    sentences: list
+    call: str = None
+    model: bytes = b""
+    file: bytes = b""
+    rooms: dict = None
+    width: int = 80
+    table: oracle.Lent = None
+    expected: Expected = dataclasses.field(default_factory=Expected)
+
+
+@dataclasses.dataclass
+class File:
+    """The lines of a usual file, and before which of them a case's own lines go."""
+    lines: list
+    gap: int = None
+
+
+class Known:
+    """The models, files and rooms that blocks have said."""
+
+    def __init__(self):
+        self.models, self.files, self.rooms = {}, {}, {}
+
+    def of(self, what, name):
+        need(name in getattr(self, what), "there is no %s %s" % (what[:-1], name))
+        return getattr(self, what)[name]
+
+
+def content_lines(line):
+    """The lines that a line behind | says, each with its end."""
+    content = line["content"] or ""
+    return [unescaped(one[:-2]) if one.endswith("\\c") else unescaped(one) + b"\n"
+            for one in words.repeated((line["times"] or "") + content)]
+
+
+def rooms_said(line, usual):
+    """The rooms that `rooms text 168 rows 1` says."""
+    said = line.split()[1:]
+    need(len(said) % 2 == 0, "a room is its name and a number")
+    rooms = dict(usual)
+    for name, value in zip(said[::2], said[1::2]):
+        need(name in ROOMS, "there is no room %s" % name)
+        rooms[name] = number(value)
+    return rooms
+
+
+def said_sentences(rest):
+    """The readings and sentences that `from` says."""
+    return [part.strip() for part in re.findall(r'"[^"]*"|[^;"]+', rest) if part.strip(" ;")]
+
+
+class Body:
+    """What the lines of a case have said so far."""
+
+    def __init__(self, case, known, cases):
+        self.case, self.known, self.cases = case, known, cases
+        self.base = None
+        self.own, self.edits, self.changes = [], [], []
+        self.counts, self.into = None, None
+
+    def line(self, line):
+        word = line.split(" ")[0]
+        method = getattr(self, "word_" + word, None)
+        if CHANGE.fullmatch(line):
+            self.changes.append(CHANGE.fullmatch(line).groups())
+        elif CALL.fullmatch(line):
+            self.call(CALL.fullmatch(line))
+        elif LINE.fullmatch(line):
+            self.file_line(LINE.fullmatch(line))
+        elif LEFT_OUT.fullmatch(line):
+            first, last = LEFT_OUT.fullmatch(line).groups()
+            self.edits.append((int(first), int(last or first) + 1, []))
+        else:
+            need(method, "the word is unknown: %s" % word)
+            method(line[len(word) + 1:])
+
+    def call(self, said):
+        need(not self.case.call, "there is a call already")
+        self.case.call = said["check"] or said["call"]
+        self.case.model = self.known.of("models", said["model"])
+        if said["file"]:
+            self.base = self.known.of("files", said["file"])
+
+    def file_line(self, line):
+        """A line of the file, of an edit of it, or of the text or output that is expected."""
+        content = content_lines(line)
+        if self.into:
+            need(not (line["first"] or line["before"]), "an expected line has no number")
+            setattr(self.case.expected, self.into, getattr(self.case.expected, self.into) + b"".join(content))
+        elif line["before"]:
+            self.edits.append((int(line["before"]), int(line["before"]), content))
+        elif line["first"]:
+            self.edits.append((int(line["first"]), int(line["last"] or line["first"]) + 1, content))
+        else:
+            (self.edits[-1][2] if self.edits else self.own).extend(content)
+
+    def word_from(self, rest):
+        self.case.sentences += said_sentences(rest)
+
+    def word_rooms(self, rest):
+        self.case.rooms = rooms_said("rooms " + rest, self.known.rooms)
+
+    def word_width(self, rest):
+        self.case.width = number(rest)
+
+    def word_counts(self, rest):
+        self.counts = [number(word) for word in rest.split()]
+        need(len(self.counts) == 3, "three counts are due")
+
+    def word_answer(self, rest):
+        self.case.expected.answer = tuple(number(word) for word in rest.split())
+        need(len(self.case.expected.answer) == 4, "an answer is four numbers")
+
+    def word_as(self, rest):
+        like = [case for case in self.cases if case.name == rest]
+        need(like, "no case before this one is named %s" % rest)
+        self.case.expected = dataclasses.replace(like[0].expected)
+
+    def word_marks(self, rest):
+        self.case.expected.marks = [number(word, 0, 255) for word in rest.split()]
+
+    def cells_of(self, which, rest):
+        said = getattr(self.case.expected, which) or []
+        setattr(self.case.expected, which, said + [[number(word, *CELL) for word in rest.split()]])
+
+    def word_row(self, rest):
+        self.cells_of("rows", rest)
+
+    def word_point(self, rest):
+        self.cells_of("points", rest)
+
+    def content_of(self, part, rest):
+        """Lines that follow, or a file's content."""
+        content = b"".join(self.known.of("files", rest[3:]).lines) if rest.startswith("of ") else b""
+        setattr(self.case.expected, part, content)
+        self.into = None if rest else part
+
+    def word_text(self, rest):
+        self.content_of("text", rest)
+
+    def word_output(self, rest):
+        self.content_of("output", rest)
+
+    def file_content(self):
+        """The file that the case's lines make."""
+        lines = self.base.lines if self.base else []
+        edits = list(self.edits)
+        if self.own:
+            need(not self.base or self.base.gap is not None, "the file has no ... for lines without a number")
+            at = self.base.gap + 1 if self.base else 1
+            edits.append((at, at, self.own))
+        out, at = [], 0
+        for first, behind, new in sorted(edits, key=lambda edit: edit[:2]):
+            need(at < first <= behind <= len(lines) + 1, "the file has no such lines, or they are said twice")
+            out += lines[at:first - 1] + new
+            at = behind - 1
+        return b"".join(out + lines[at:])
+
+    def finish(self):
+        need(self.case.call, "there is no call")
+        need(self.case.expected.answer, "there is no answer")
+        self.case.file = self.file_content()
+        self.case.rooms = self.case.rooms or dict(self.known.rooms)
+        if self.case.call == "write":
+            self.case.table = lent_table(self.case, self.changes, self.counts)
+        else:
+            need(not self.changes and not self.counts, "only a table that is written is changed")
+        complete(self.case)
+
+
+def lent_table(case, changes, counts):
+    """The table that reading the file gives, with its changes, as much of it as is lent."""
+    rooms = case.rooms
+    large = oracle.Rooms(max(len(case.file), rooms["text"]), max(576, rooms["marks"]), max(2000, rooms["rows"]),
+                         max(20000, rooms["cells"]), max(20000, rooms["points"]))
+    result = oracle.read(case.model, case.file, large)
+    need(result.answer[0] == 0, "the file is refused: %d %d %d %d" % result.answer)
+    for which, at, said in changes:
+        values = list(unescaped(said)) if which == "text" else [
+            number(word, *CELL) if which in ("cells", "points") else number(word) for word in said.split()]
+        getattr(result, which)[int(at):int(at) + len(values)] = values
+    lent = [list(getattr(result, which))[:rooms[which]] for which in ("text", "marks", "rows", "cells", "points")]
+    return oracle.Lent(*lent, *(counts or result.answer[1:]))
+
+
+def complete(case):
+    """What goes without saying, and what must agree in what is said."""
+    e = case.expected
+    if e.answer[0] or case.call == "check":
+        need(e.answer[0] == 0 or not any((e.text, e.marks, e.rows, e.points, e.output)),
+             "after a refusal all buffers are zero")
+        return
+    if case.call in ("read", "unfold") and e.text is None:
+        mark = case.model[6:7]
+        if b"\r" not in case.file and mark + b"\n" not in case.file:
+            e.text = case.file
+    if case.call in ("read", "list"):
+        e.rows = [] if e.answer[1] == 0 else e.rows
+        e.points = [] if e.answer[3] == 0 else e.points
+        need(e.rows is None or [len(e.rows), sum(map(len, e.rows))] == list(e.answer[1:3]),
+             "the rows are not those that the answer counts")
+        need(e.points is None or (len(e.points) == e.answer[3] and all(len(p) == 4 for p in e.points)),
+             "the points are not those that the answer counts")
+    said = {"unfold": e.text, "write": e.output}.get(case.call)
+    need(said is None or len(said) == e.answer[1], "the bytes are not as many as the answer says")
+
+
+def blocks(path):
+    """Each block of a file: the number of its first line, that line, and the others with their numbers."""
+    block = None
+    for at, line in enumerate(path.read_text(encoding="ascii").split("\n"), 1):
+        if line.strip() == "" or line.lstrip().startswith("#"):
+            continue
+        if line != line.rstrip():
+            raise SystemExit("%s, line %d: a blank at the end of a line is \\s" % (place(path), at))
+        if not line.startswith(" "):
+            if block:
+                yield block
+            block = (at, line, [])
+        elif block:
+            block[2].append((at, line.strip()))
+        else:
+            raise SystemExit("%s, line %d: a block begins at the margin" % (place(path), at))
+    if block:
+        yield block
+
+
+def place(path):
+    return str(path.relative_to(ROOT))
+
+
+def said_case(path, block, known, cases):
+    """A case from its block."""
+    at, head, lines = block
+    name = head.split(" ", 1)[1]
+    need(all(case.name != name for case in cases), "the name is there already")
+    source = "\n".join(["  " + head] + ["    " + line for _, line in lines])
+    body = Body(Case((place(path), at), name, source, []), known, cases)
+    for at, line in lines:
+        try:
+            body.line(line)
+        except Wrong as wrong:
+            raise Wrong("line %d: %s" % (at, wrong)) from None
+    body.finish()
+    return body.case
+
+
+def value_lines(lines):
+    """Each line of a block of values with its number, a range as one for each of its bytes."""
+    for at, line in lines:
+        span = RANGE.match(line)
+        if span:
+            for byte in range(int(span[1], 16), int(span[2], 16) + 1):
+                yield at, "\\x%02x%s" % (byte, line[span.end():])
+        else:
+            yield at, line
+
+
+def read_value(case, said, known):
+    """A case that reads a field: `-5.00 is 1 -500`, `-5.01 refused 14`, `\\x00 answer 4 7 0 0`."""
+    field, how, *numbers = said
+    need(how in ("is", "refused", "answer"), "a field is, is refused, or has an answer")
+    case.call, case.expected = "read", Expected()
+    case.file = with_object(known, unescaped(field))
+    if how == "is":
+        case.expected = Expected((0, 1, 5, 0), marks=[1, 1], rows=[[0, 43, 1] + [number(n, *CELL) for n in numbers]])
+    else:
+        answer = numbers if how == "answer" else numbers + ["7", "3", "0"]
+        case.expected = Expected(tuple(number(n) for n in answer))
+    need(len(case.expected.answer) == 4, "an answer is four numbers")
+
+
+def write_value(case, said, known):
+    """A case that writes a pair of cells: `1 -500 as -5.00`, `1 1000 refused 19`."""
+    first, second, how, what = said
+    need(how in ("as", "refused"), "cells are written as a field, or refused")
+    case.call = "write"
+    cells = [0, 0, 1, number(first, *CELL), number(second, *CELL)]
+    case.table = oracle.Lent(list(b"a"), [1, 1], [0], cells, [], 1, 5, 0)
+    output = with_object(known, unescaped(what))
+    refused = Expected((number(what), 0, 0, 0)) if how == "refused" else None
+    case.expected = refused or Expected((0, len(output), 0, 0), output=output)
+
+
+def with_object(known, field):
+    """The file `table` with an object of this one field."""
+    file = known.of("files", "table")
+    return b"".join(file.lines[:file.gap] + [b"OBJE a " + field + b"\n"] + file.lines[file.gap:])
+
+
+def said_values(path, block, known):
+    """The cases of a block of values or cells."""
+    first, head, lines = block
+    word, kind = head.split(" ", 1)
+    model = words.model(["topic N", "table A", "V " + kind], known.models)
+    sentences = []
+    for at, line in value_lines(lines):
+        try:
+            if line.startswith("from "):
+                sentences += said_sentences(line[5:])
+                continue
+            case = Case((place(path), at), "%s: %s" % (kind, " ".join(line.split())), "  %s\n    %s" % (head, line),
+                        sentences, model=model, rooms=dict(known.rooms))
+            (read_value if word == "values" else write_value)(case, line.split(), known)
+            complete(case)
+            yield case
+        except (Wrong, ValueError) as wrong:
+            raise Wrong("line %d: %s" % (at, wrong)) from None
+
+
+def said_file(lines):
+    """A usual file from its lines."""
+    file = File([])
+    for at, line in lines:
+        if line == "...":
+            file.gap = len(file.lines)
+        else:
+            said = LINE.fullmatch(line)
+            need(said and not (said["first"] or said["before"]), "line %d: a line of a file stands behind |" % at)
+            file.lines += content_lines(said)
+    return file
+
+
+def said_block(path, block, known, cases):
+    """Takes up a block: what it makes known, or its cases."""
+    _, head, lines = block
+    word, _, name = head.partition(" ")
+    need(word in ("rooms", "model", "file", "case", "values", "cells") and name, "the block is unknown")
+    if word == "rooms":
+        known.rooms = rooms_said(head, known.rooms)
+    elif word == "model":
+        need(name not in known.models, "the model is there already")
+        known.models[name] = words.model([line for _, line in lines], known.models)
+    elif word == "file":
+        need(name not in known.files, "the file is there already")
+        known.files[name] = said_file(lines)
+    elif word == "case":
+        cases.append(said_case(path, block, known, cases))
+    else:
+        cases += said_values(path, block, known)
+
+
+def usual():
+    """What usual.cases makes known to all."""
+    known = Known()
+    for block in blocks(ROOT / "tests" / "cases" / "usual.cases"):
+        take(ROOT / "tests" / "cases" / "usual.cases", block, known, [])
+    return known
+
+
+def take(path, block, known, cases):
+    try:
+        said_block(path, block, known, cases)
+    except Wrong as wrong:
+        raise SystemExit("%s, line %d: %s" % (place(path), block[0], wrong)) from None
+
+
+def cases_of(path):
+    """The cases of a file."""
+    known, cases = usual(), []
+    for block in blocks(path):
+        take(path, block, known, cases)
+    return cases
+
+
+def all_cases():
+    """The cases of all files."""
+    files = sorted((ROOT / "tests" / "cases").glob("*.cases"))
+    return [case for path in files if path.name != "usual.cases" for case in cases_of(path)]
+
+
+if __name__ == "__main__":
+    for case in all_cases():
+        print("%s, line %d: %s" % (*case.place, case.name))

@@ -1,0 +1,163 @@
+"""The bytes that a file of cases says in words: lines with their escapes, and compiled models."""
+
+import re
+import struct
+
+PIECE = re.compile(r"[^\\]|\\(?:(?P<own>[tsrn\\])|x(?P<hex>[0-9a-f]{2})|(?P<count>[0-9]+)\*(?P<many>\\.x?|.))")
+OWN = {"t": b"\t", "s": b" ", "r": b"\r", "n": b"\n", "\\": b"\\"}
+USUAL = (("transfer", "T", "_", "@", "\\\\"), ("model", "M"))
+TYPES = {"reference": 1, "number": 4, "text": 5, "date": 6, "enumeration": 7, "line": 8}
+FORMS = {"straights": 1, "arcs": 2}
+
+
+class Wrong(Exception):
+    """What is wrong in a line of a file of cases."""
+
+
+def need(condition, what):
+    if not condition:
+        raise Wrong(what)
+
+
+def unescaped(words):
+    """The bytes that these words stand for."""
+    out, at = b"", 0
+    while at < len(words):
+        piece = PIECE.match(words, at)
+        need(piece, "an escape is unknown: %s" % words[at:at + 4])
+        end = piece.end()
+        if piece["own"]:
+            out += OWN[piece["own"]]
+        elif piece["hex"]:
+            out += bytes([int(piece["hex"], 16)])
+        elif piece["count"]:
+            end = end + 2 if piece["many"] == "\\x" else end
+            out += unescaped(words[piece.start("many"):end]) * int(piece["count"])
+        else:
+            out += piece[0].encode("ascii")
+        at = end
+    return out
+
+
+def number(word, least=0, greatest=2 ** 64 - 1):
+    need(re.fullmatch(r"-?[0-9]+", word), "a number is due, not %s" % word)
+    need(least <= int(word) <= greatest, "%s is not from %d to %d" % (word, least, greatest))
+    return int(word)
+
+
+def repeated(line):
+    """A line, or as many as it says, with n from 0."""
+    times = re.fullmatch(r"([0-9]+) times (.*)", line, re.S)
+    if not times:
+        return [line]
+    return [times[2].replace("{n}", str(n)) for n in range(int(times[1]))]
+
+
+def record(kind, payload=b""):
+    need(len(payload) < 65536 and kind < 65536, "the record is too long, or its kind too high")
+    return struct.pack("<HH", len(payload), kind) + payload
+
+
+def components(words):
+    """The components that these words say, decimals before bounds."""
+    out, count, decimals = b"", 0, None
+    for word in words:
+        bounds = re.fullmatch(r"(-?[0-9]+)\.\.(-?[0-9]+)", word)
+        if bounds:
+            need(decimals is not None, "the decimals are missing")
+            least, greatest = (number(b, -2 ** 63, 2 ** 63 - 1) for b in bounds.groups())
+            out, count = out + struct.pack("<Bqq", decimals, least, greatest), count + 1
+        else:
+            decimals = number(word, 0, 255)
+    return out, count
+
+
+def table_number(word, tables, topic):
+    """The number of the table that a reference names."""
+    if word.isdigit():
+        return number(word, 0, 65535)
+    found = [n for n, table in enumerate(tables) if table == (topic, word)]
+    need(len(found) == 1, "the topic has no table %s" % word)
+    return found[0]
+
+
+def attribute(words, tables, topic):
+    """An attribute's record: name, type, its parameters, optional."""
+    optional = words[-1] == "optional"
+    name, kind, *rest = words[:-1] if optional else words
+    need(kind in TYPES or kind == "coordinate", "the type is unknown: %s" % kind)
+    if kind == "coordinate":
+        parameters, code = components(rest)
+        need(code in (2, 3), "a coordinate has two or three components")
+    else:
+        code = TYPES[kind]
+        parameters = {"reference": lambda: struct.pack("<H", table_number(rest[0], tables, topic)),
+                      "number": lambda: components(rest)[0], "date": lambda: b"",
+                      "line": lambda: line_parameters(rest)}.get(
+                          kind, lambda: struct.pack("<H", number(rest[0], 0, 65535)))()
+    return record(5, bytes([optional, code]) + parameters + named(name))
+
+
+def line_parameters(words):
+    forms = sum(FORMS[word] for word in words if word in FORMS)
+    content, count = components([word for word in words if word not in FORMS])
+    return bytes([forms, count]) + content
+
+
+def named(word):
+    return b"" if word == '""' else unescaped(word)
+
+
+def with_usual(lines):
+    """The lines of a model with those that need not be said."""
+    first = [line[0] for line in lines[:2]]
+    if first[:1] in (["bare"], ["like"]):
+        return lines[first[0] == "bare":]
+    missing = [usual for usual in USUAL if usual[0] not in first]
+    lines = [line for line in lines if line[0] == "transfer"] + missing + [
+        line for line in lines if line[0] != "transfer"]
+    end = [] if any(line[0] in ("end", "no") for line in lines) else [("end",)]
+    return lines + end
+
+
+def model(lines, known):
+    """The bytes of a model, from its lines of words; `known` are the models before it."""
+    lines = with_usual([tuple(part.split()) for line in lines for many in repeated(line)
+                        for part in many.split("; ")])
+    tables, topic = [], 0
+    for line in lines:
+        topic += line[0] == "topic"
+        if line[0] == "table":
+            tables.append((topic, line[1]))
+    out, topic = b"", 0
+    for line in lines:
+        topic += line[0] == "topic"
+        if line[0] == "less":
+            need(number(line[1]) <= len(out), "the model is shorter")
+            out = out[:len(out) - number(line[1])]
+        else:
+            out += model_line(line, tables, topic, known)
+    return out
+
+
+def model_line(line, tables, topic, known):
+    """What a line of a model adds."""
+    word, rest = line[0], line[1:]
+    if word == "transfer":
+        return record(1, b"".join(map(unescaped, rest[1:] or USUAL[0][2:])) + named(rest[0]))
+    if word in ("model", "topic"):
+        return record(2 if word == "model" else 3, named(rest[0]))
+    if word == "table":
+        need(rest[1:] in ((), ("optional",)), "only optional may stand behind a table")
+        return record(4, bytes([len(rest) == 2]) + named(rest[0]))
+    if word == "record":
+        return record(number(rest[0], 0, 65535), unescaped(" ".join(rest[1:])))
+    if word == "bytes":
+        return unescaped(" ".join(rest))
+    if word == "like":
+        need(" ".join(rest) in known, "there is no model %s" % " ".join(rest))
+        return known[" ".join(rest)]
+    if word in ("end", "no"):
+        return record(6) if word == "end" else b""
+    need(len(line) > 1, "an attribute has a type")
+    return attribute(line, tables, topic)
