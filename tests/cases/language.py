@@ -410,6 +410,20 @@ def all_cases():
     return [case for path in files if path.name != "usual.cases" for case in cases_of(path)]
 
 
+def rooms_of(case):
+    """The rooms of a case that is read."""
+    return oracle.Rooms(*(case.rooms[which] for which in ROOMS[:5]))
+
+
+def read_cases(cases):
+    """(name, model, file, rooms) of the cases that are read, or listed."""
+    for case in cases:
+        if case.call == "read":
+            yield case.name, case.model, case.file, rooms_of(case)
+        elif case.call == "list" and len(case.model + case.file) <= oracle.LISTING_LIMIT:
+            yield (case.name,) + oracle.split_input(case.model + case.file) + (oracle.LISTING_ROOMS,)
+
+
 if __name__ == "__main__":
     for case in all_cases():
         print("%s, line %d: %s" % (*case.place, case.name))

@@ -15,3 +15,166 @@ reading text, marks, rows, cells, points, answer; for writing output, answer.
 A part is the count of its numbers (u32) and these, a byte each in text, marks and output and else eight. In what is
 expected and answered, zeros behind a part's numbers go without saying, and 2^32 - 1 as the count says that nothing is
 expected by hand."""
+
+import struct
+import sys
+
+import language
+from language import oracle
+import generated  # noqa: E402
+import reads  # noqa: E402
+import writes  # noqa: E402
+
+CALLS = {"check": 0, "unfold": 1, "read": 2, "write": 3}
+NOTHING = struct.pack("<I", 2 ** 32 - 1)
+TABLE = (("text", "B"), ("marks", "B"), ("rows", "Q"), ("cells", "q"), ("points", "q"))
+GENERATED = "made by tests/oracle: "
+
+
+def part(values, code):
+    """A part with all its numbers."""
+    if code == "B":
+        return struct.pack("<I", len(values)) + bytes(values)
+    return struct.pack("<I%d%s" % (len(values), code), len(values), *values)
+
+
+def used_part(values, code):
+    """A part without the zeros at its end; nothing where nothing is expected."""
+    if values is None:
+        return NOTHING
+    used = len(values)
+    while used and values[used - 1] == 0:
+        used -= 1
+    return part(values[:used], code)
+
+
+def code_part(answer):
+    """The one number that C gets."""
+    return part([answer[0] + 256 * answer[1]], "Q")
+
+
+def answer_part(answer, room):
+    return used_part((list(answer) + [0] * room)[:room], "Q")
+
+
+def lent_to_read(rooms, index, answer_room, seed):
+    return struct.pack("<IIIIIIIQ", rooms.text, rooms.marks, rooms.rows, rooms.cells, rooms.points, index, answer_room,
+                       seed)
+
+
+def lent_to_write(t, width, room, index, answer_room, seed):
+    return (b"".join(part(getattr(t, which), code) for which, code in TABLE)
+            + struct.pack("<QQQQIIIQ", t.objects, t.cells_used, t.points_used, width, room, index, answer_room, seed))
+
+
+def read_parts(result, answer_room):
+    """What reading leaves: of the independent implementation, or as expected by hand."""
+    return (code_part(result.answer) + b"".join(used_part(getattr(result, which), code) for which, code in TABLE)
+            + answer_part(result.answer, answer_room))
+
+
+def expected_table(expected):
+    """What is expected by hand of reading, buffer by buffer."""
+    e = expected
+    if e.answer[0]:
+        return oracle.Result(e.answer, [], [], [], [], [])
+    rows = cells = None
+    if e.rows is not None:
+        cells = [cell for row in e.rows for cell in row]
+        rows = [sum(map(len, e.rows[:n])) for n in range(len(e.rows))]
+    points = None if e.points is None else [cell for point in e.points for cell in point]
+    return oracle.Result(e.answer, e.text, e.marks, rows, cells, points)
+
+
+def unexpected(count):
+    """So many parts of which nothing is expected."""
+    return NOTHING * count
+
+
+class Prepared:
+    """The cases as they are written, and what was wrong with them."""
+
+    def __init__(self, out):
+        self.out, self.count, self.wrong = out, 0, []
+
+    def put(self, call, text, model, file, lent, expected, answered):
+        text = text.encode("latin-1", "replace")
+        self.out.write(struct.pack("<IIII", CALLS[call], len(text), len(model), len(file)) + text + bytes(model)
+                       + bytes(file) + lent + expected + answered)
+        self.count += 1
+
+    def check(self, text, model, answer=None):
+        expected = code_part(answer) if answer else unexpected(1)
+        self.put("check", text, model, b"", b"", expected, code_part(oracle.check(model)))
+
+    def unfold(self, text, model, file, room, expected=None):
+        answer, content = oracle.unfold(model, file, room)
+        by_hand = unexpected(2) if expected is None else (
+            code_part(expected.answer) + used_part(b"" if expected.answer[0] else expected.text, "B"))
+        self.put("unfold", text, model, file, struct.pack("<I", room), by_hand,
+                 code_part(answer) + used_part(content, "B"))
+
+    def read(self, text, model, file, rooms, index, seed, answer_room, expected=None):
+        by_hand = unexpected(7) if expected is None else read_parts(expected_table(expected), answer_room)
+        self.put("read", text, model, file, lent_to_read(rooms, index, answer_room, seed), by_hand,
+                 read_parts(oracle.read(model, file, rooms), answer_room))
+
+    def write(self, text, model, t, width, room, index, seed, answer_room, expected=None):
+        answer, output = oracle.write(model, t, width, room)
+        if answer[0] == 0 and not writes.is_read_again(model, bytes(output[:answer[1]]), t, width):
+            self.wrong.append(text)
+        by_hand = unexpected(3)
+        if expected is not None:
+            said = b"" if expected.answer[0] else expected.output
+            by_hand = code_part(expected.answer) + used_part(said, "B") + answer_part(expected.answer, answer_room)
+        self.put("write", text, model, b"", lent_to_write(t, width, room, index, answer_room, seed), by_hand,
+                 code_part(answer) + used_part(output, "B") + answer_part(answer, answer_room))
+
+
+def put_case(prepared, case):
+    """A case of tests/cases."""
+    text = "%s, line %d:\n%s" % (*case.place, case.source)
+    rooms = case.rooms
+    last = (rooms["index"], rooms["seed"], rooms["answer"], case.expected)
+    if case.call == "check":
+        prepared.check(text, case.model, case.expected.answer)
+    elif case.call == "unfold":
+        prepared.unfold(text, case.model, case.file, rooms["text"], case.expected)
+    elif case.call == "read":
+        prepared.read(text, case.model, case.file, language.rooms_of(case), *last)
+    elif case.call == "write":
+        prepared.write(text, case.model, case.table, case.width, rooms["output"], *last)
+
+
+def put_generated(prepared, cases):
+    """The cases that the independent implementation makes, also from those of tests/cases."""
+    for name, call, arguments in generated.generated():
+        if call in ("check", "unfold"):
+            getattr(prepared, call)(GENERATED + name, *arguments)
+    read = list(language.read_cases(cases))
+    written = [(case.name, case.model, case.table, case.width, case.rooms["output"]) for case in cases
+               if case.call == "write"]
+    for name, *arguments in reads.all_cases(read):
+        prepared.read(GENERATED + name, *arguments)
+    for name, *arguments in writes.all_cases(written, read):
+        prepared.write(GENERATED + name, *arguments)
+
+
+def main(words):
+    if len(words) != 1:
+        raise SystemExit(__doc__)
+    cases = language.all_cases()
+    with open(words[0], "wb") as out:
+        prepared = Prepared(out)
+        for case in cases:
+            put_case(prepared, case)
+        by_hand = prepared.count
+        put_generated(prepared, cases)
+    for text in prepared.wrong:
+        print("%s\nWhat is written does not read as the table.\n" % text)
+    print("prepared: %d cases of tests/cases, %d made by tests/oracle" % (by_hand, prepared.count - by_hand))
+    return 1 if prepared.wrong else 0
+
+
+if __name__ == "__main__":
+    raise SystemExit(main(sys.argv[1:]))

@@ -2,7 +2,7 @@
 import random
 
 import expected
-from expected import cases, count, oracle
+from expected import count, language, oracle, parts
 from oracle import (coordinate, date, end, enumeration, line, model_record, number, reference, table, text, topic,
                     transfer)
 
@@ -89,8 +89,8 @@ class Good(expected.Folder):
         self.answers(["check", "a.bin"], 0, out)
 
     def test_sample(self):
-        self.told(cases.SAMPLE_MODEL, SAMPLE)
-        self.assertEqual(in_words(cases.SAMPLE_MODEL), SAMPLE)
+        self.told(parts.SAMPLE_MODEL, SAMPLE)
+        self.assertEqual(in_words(parts.SAMPLE_MODEL), SAMPLE)
 
     def test_every_type(self):
         self.told(EVERY_TYPE, EVERY_TYPE_TOLD)
@@ -106,7 +106,7 @@ topic N
 """)
 
     def test_one_byte_and_one_leaf(self):
-        self.told(cases.one(text(b"X", 1), enumeration(b"E", 1)), b"""\
+        self.told(parts.one(text(b"X", 1), enumeration(b"E", 1)), b"""\
 transfer T, model M: 1 topic, 1 table, 2 attributes
 blank _, undefined @, continuation \\
 topic N
@@ -122,28 +122,28 @@ topic N
 
     def test_limits(self):
         """64 topics, 512 tables, 64 attributes, and a model of 65,536 bytes."""
-        whole = cases.model_of_size(65536)
+        whole = parts.model_of_size(65536)
         self.assertEqual(len(whole), 65536)
-        for model in (cases.many("topics", 64), cases.many("tables", 512), cases.many("attributes", 64), whole):
+        for model in (parts.many("topics", 64), parts.many("tables", 512), parts.many("attributes", 64), whole):
             self.told(model, in_words(model))
 
     def test_every_special_byte(self):
         bytes_ = [c for c in range(0x21, 0x7F) if oracle.special_byte_ok(c)]
         for n in range(len(bytes_)):
             special = bytes((bytes_ + bytes_)[n:n + 3])
-            model = cases.head(b"T", special) + topic(b"N") + table(b"A") + date(b"D") + end()
+            model = parts.head(b"T", special) + topic(b"N") + table(b"A") + date(b"D") + end()
             with self.subTest(special):
                 self.told(model, in_words(model))
 
     def test_random_models(self):
         rng = random.Random(31)
         for n in range(150):
-            model = cases.random_model(rng)
+            model = parts.random_model(rng)
             with self.subTest(n):
                 self.told(model, in_words(model))
 
     def test_a_name_with_spaces(self):
-        self.made("a model.bin", cases.SAMPLE_MODEL)
+        self.made("a model.bin", parts.SAMPLE_MODEL)
         self.answers(["check", "a model.bin"], 0, SAMPLE)
 
 
@@ -153,15 +153,15 @@ class Bad(expected.Folder):
         self.answers(["check", "a.bin"], 1, b"a.bin: refused, 2 model bad: record at byte %d\n" % byte)
 
     def test_without_its_end(self):
-        self.bad(cases.SAMPLE_MODEL[:-4], 186)
+        self.bad(parts.SAMPLE_MODEL[:-4], 186)
 
     def test_empty(self):
         self.bad(b"", 0)
 
     def test_too_long(self):
-        self.bad(cases.SAMPLE_MODEL.ljust(65537, b"\0"), 0)
-        self.bad(cases.SAMPLE_MODEL.ljust(65536, b"\0"), 190)
-        self.bad(cases.SAMPLE_MODEL.ljust(2000000, b"\0"), 0)
+        self.bad(parts.SAMPLE_MODEL.ljust(65537, b"\0"), 0)
+        self.bad(parts.SAMPLE_MODEL.ljust(65536, b"\0"), 190)
+        self.bad(parts.SAMPLE_MODEL.ljust(2000000, b"\0"), 0)
 
     def test_without_end_of_input(self):
         """A model that never ends is too long."""
@@ -169,25 +169,27 @@ class Bad(expected.Folder):
 
     def test_standard_input(self):
         self.answers(["check", "-"], 1, b"-: refused, 2 model bad: record at byte 186\n",
-                     input=cases.SAMPLE_MODEL[:-4])
+                     input=parts.SAMPLE_MODEL[:-4])
 
-    def test_vectors(self):
-        """Every model whose answer is known by hand."""
-        for name, model, answer in cases.models.VECTORS:
-            with self.subTest(name):
-                first, second = map(int, answer.split())
-                if first:
-                    self.bad(model, second)
+    def test_every_model_of_the_documents(self):
+        """Every model whose answer is derived by hand."""
+        checked = [case for case in language.all_cases() if case.call == "check"]
+        self.assertGreater(len(checked), 100)
+        for case in checked:
+            with self.subTest(case.name):
+                refusal, byte = case.expected.answer[:2]
+                if refusal:
+                    self.bad(case.model, byte)
                 else:
-                    self.made("a.bin", model)
-                    self.answers(["check", "a.bin"], 0, in_words(model))
+                    self.made("a.bin", case.model)
+                    self.answers(["check", "a.bin"], 0, in_words(case.model))
 
     def test_every_beginning_of_the_sample(self):
-        for length in range(0, len(cases.SAMPLE_MODEL)):
+        for length in range(0, len(parts.SAMPLE_MODEL)):
             with self.subTest(length):
-                number_, byte, _, _ = oracle.check(cases.SAMPLE_MODEL[:length])
+                number_, byte, _, _ = oracle.check(parts.SAMPLE_MODEL[:length])
                 self.assertEqual(number_, 2)
-                self.bad(cases.SAMPLE_MODEL[:length], byte)
+                self.bad(parts.SAMPLE_MODEL[:length], byte)
 
     def test_not_there(self):
         err = self.fails(["check", "none.bin"])

@@ -12,9 +12,10 @@ import unittest
 
 from support import ROOT, vendorfinch
 
-sys.path.insert(0, str(ROOT / "tests/oracle"))
-import cases  # noqa: E402
+sys.path[:0] = [str(ROOT / "tests/oracle"), str(ROOT / "tests/cases")]
+import language  # noqa: E402
 import oracle  # noqa: E402
+import parts  # noqa: E402
 
 # the refusals as the man page words them
 WORDS = {
@@ -51,7 +52,7 @@ class Folder(unittest.TestCase):
         self.folder = pathlib.Path(folder.name)
         # the folder's mode is 0700; tests that run the command as another user need it
         self.folder.chmod(0o755)
-        self.model = self.made("model.bin", cases.SAMPLE_MODEL)
+        self.model = self.made("model.bin", parts.SAMPLE_MODEL)
 
     def made(self, name, content):
         """A file in the folder."""
@@ -366,13 +367,13 @@ def cut_line(line, places, ends=(b"\n",), mark=b"\\"):
 
 def sample_file(n=0, line=b"", places=(), ends=(b"\n",)):
     """The sample with its line n (none for 0) replaced and cut."""
-    lines = [other + b"\n" for other in cases.SAMPLE_LINES]
+    lines = [other + b"\n" for other in parts.SAMPLE_LINES]
     if n:
         lines[n - 1] = cut_line(line, places, ends)
     return b"".join(lines)
 
 
-def bordered(size, begin=cases.SAMPLE_FILE[:5], rest=cases.SAMPLE_FILE[5:]):
+def bordered(size, begin=parts.SAMPLE_FILE[:5], rest=parts.SAMPLE_FILE[5:]):
     """The sample with a description that makes it so many bytes long."""
     need = size - len(begin) - len(rest)
     line = b"x" * 79 + b"\n"

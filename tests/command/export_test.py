@@ -10,8 +10,9 @@ import unittest
 
 import support
 
-sys.path.insert(0, str(support.ROOT / "tests/oracle"))
+sys.path[:0] = [str(support.ROOT / "tests/oracle"), str(support.ROOT / "tests/cases")]
 import exports  # noqa: E402
+import language  # noqa: E402
 import oracle  # noqa: E402
 import reads  # noqa: E402
 
@@ -182,7 +183,7 @@ class Files(Export):
 
     def test_generated(self):
         """The rows are those of a second way, which takes the lines' fields and knows nothing of cells."""
-        for name, model, file in reads.good_files():
+        for name, model, file in reads.good_files(language.read_cases(language.all_cases())):
             with self.subTest(name):
                 self.model.write_bytes(model)
                 self.file.write_bytes(file)

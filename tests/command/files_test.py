@@ -11,7 +11,7 @@ import subprocess
 import threading
 
 import expected
-from expected import LIMIT, cases, oracle, sample_file
+from expected import LIMIT, oracle, parts, sample_file
 from support import COMMAND, vendorfinch
 
 READ = b"a.itf: read, 2 objects, 18 cells, 3 points\n"
@@ -20,16 +20,16 @@ WRONG = sample_file(7, b"OBJE k1 ABCDE 10.0 20.5")
 
 def many_objects(size):
     """A model, a file of exactly so many bytes that is nearly all objects, and how many these are."""
-    model = cases.one(oracle.text(b"X", 60, 1))
-    number = (size - len(cases.frame()) - 100) // len(b"OBJE 0000000 @\n")
+    model = parts.one(oracle.text(b"X", 60, 1))
+    number = (size - len(parts.frame()) - 100) // len(b"OBJE 0000000 @\n")
     lines = [b"OBJE %07d @" % n for n in range(number)]
-    rest = size - len(cases.frame(*lines)) - len(b"OBJE x \n")
+    rest = size - len(parts.frame(*lines)) - len(b"OBJE x \n")
     assert 0 < rest
     while rest > 60:
         lines.append(b"OBJE y%d @" % rest)
         rest -= len(lines[-1]) + 1
     lines.append(b"OBJE x " + b"z" * rest)
-    return model, cases.frame(*lines), len(lines)
+    return model, parts.frame(*lines), len(lines)
 
 
 class Sizes(expected.Folder):
@@ -79,7 +79,7 @@ class Sizes(expected.Folder):
                          % name.encode())
 
     def test_a_device_without_an_end_as_model(self):
-        self.made("a.itf", cases.SAMPLE_FILE)
+        self.made("a.itf", parts.SAMPLE_FILE)
         self.answers(["read", "/dev/zero", "a.itf"], 1, b"a.itf: refused, 2 model bad: record at byte 0\n")
 
 
@@ -93,33 +93,33 @@ class Kinds(expected.Folder):
                 self.assertRegex(err, rb"none\.(itf|bin).*No such file or directory")
 
     def test_no_such_model(self):
-        self.made("a.itf", cases.SAMPLE_FILE)
+        self.made("a.itf", parts.SAMPLE_FILE)
         for command in ("read", "list", "unfold", "write", "verify"):
             with self.subTest(command):
                 self.assertRegex(self.fails([command, "none.bin", "a.itf"]), rb"none\.bin.*No such file or directory")
 
     def test_an_empty_name(self):
-        self.made("a.itf", cases.SAMPLE_FILE)
+        self.made("a.itf", parts.SAMPLE_FILE)
         self.assertIn(b"No such file", self.fails(["read", "model.bin", ""]))
         self.assertIn(b"No such file", self.fails(["read", "", "a.itf"]))
 
     def test_a_directory(self):
         (self.folder / "d").mkdir()
-        self.made("a.itf", cases.SAMPLE_FILE)
+        self.made("a.itf", parts.SAMPLE_FILE)
         for command in ("read", "list", "unfold", "write", "verify"):
             with self.subTest(command):
                 self.assertRegex(self.fails([command, "model.bin", "d"]), rb"\bd\b.*[Ii]s a directory")
                 self.assertRegex(self.fails([command, "d", "a.itf"]), rb"\bd\b.*[Ii]s a directory")
 
     def test_below_a_file(self):
-        self.made("a.itf", cases.SAMPLE_FILE)
+        self.made("a.itf", parts.SAMPLE_FILE)
         self.assertIn(b"Not a directory", self.fails(["read", "model.bin", "a.itf/b.itf"]))
 
     def test_a_name_too_long(self):
         self.assertIn(b"too long", self.fails(["read", "model.bin", "x" * 300]))
 
     def test_no_permission(self):
-        self.made("a.itf", cases.SAMPLE_FILE).chmod(0)
+        self.made("a.itf", parts.SAMPLE_FILE).chmod(0)
         more = self.unprivileged()
         self.assertRegex(self.fails(["read", "model.bin", "a.itf"], **more), rb"a\.itf.*Permission denied")
         status, out, err = vendorfinch("read", "--json", "model.bin", "a.itf", cwd=self.folder, **more)
@@ -128,10 +128,10 @@ class Kinds(expected.Folder):
 
     def test_a_fifo(self):
         for what, content, words, out in (
-                ("as file", cases.SAMPLE_FILE, ["list", "model.bin", "pipe"], cases.SAMPLE_ANSWER.encode()),
-                ("as model", cases.SAMPLE_MODEL, ["read", "pipe", "a.itf"], READ)):
+                ("as file", parts.SAMPLE_FILE, ["list", "model.bin", "pipe"], parts.SAMPLE_ANSWER.encode()),
+                ("as model", parts.SAMPLE_MODEL, ["read", "pipe", "a.itf"], READ)):
             with self.subTest(what):
-                self.made("a.itf", cases.SAMPLE_FILE)
+                self.made("a.itf", parts.SAMPLE_FILE)
                 os.mkfifo(self.folder / "pipe")
                 # byte by byte and with a pause between: a read gives less than there will be
                 writer = threading.Thread(target=self.trickle, args=(self.folder / "pipe", content))
@@ -157,7 +157,7 @@ class Kinds(expected.Folder):
 
     def test_standard_input_closed(self):
         """`-` cannot be read then; other names are not disturbed."""
-        self.made("a.itf", cases.SAMPLE_FILE)
+        self.made("a.itf", parts.SAMPLE_FILE)
 
         def closed():
             os.close(0)
@@ -166,11 +166,11 @@ class Kinds(expected.Folder):
 
     def test_a_file_that_changes_nothing(self):
         """Reading leaves files as they were."""
-        path = self.made("a.itf", cases.SAMPLE_FILE)
+        path = self.made("a.itf", parts.SAMPLE_FILE)
         path.chmod(0o444)
         self.answers(["verify", "model.bin", "a.itf"], 0,
                      b"a.itf: same, 2 objects, 18 cells, 3 points, 169 bytes written\n")
-        self.assertEqual(path.read_bytes(), cases.SAMPLE_FILE)
+        self.assertEqual(path.read_bytes(), parts.SAMPLE_FILE)
         self.assertEqual(sorted(p.name for p in self.folder.iterdir()), ["a.itf", "model.bin"])
 
 
@@ -178,10 +178,10 @@ class Names(expected.Folder):
     def test_spaces_and_letters(self):
         for name in ("two words.itf", " .itf", "Gr\u00fc\u00dfe.itf", "a'b\"c.itf", "%s%n.itf", "\u6f22.itf"):
             with self.subTest(name):
-                self.made(name, cases.SAMPLE_FILE)
+                self.made(name, parts.SAMPLE_FILE)
                 self.answers(["read", "model.bin", name], 0, READ.replace(b"a.itf", name.encode()))
                 self.made(name, WRONG)
-                self.answers(["read", "model.bin", name], 1, expected.told(cases.SAMPLE_MODEL, WRONG, name))
+                self.answers(["read", "model.bin", name], 1, expected.told(parts.SAMPLE_MODEL, WRONG, name))
 
     def test_control_bytes(self):
         """A newline or an escape in a name: text tells it somehow, JSON exactly and in one line."""
@@ -189,7 +189,7 @@ class Names(expected.Folder):
             with self.subTest(name):
                 path = os.fsencode(self.folder) + b"/" + name
                 with open(path, "wb") as file:
-                    file.write(cases.SAMPLE_FILE)
+                    file.write(parts.SAMPLE_FILE)
                 status, out, err = vendorfinch("read", "model.bin", name, cwd=self.folder)
                 self.assertEqual((status, err), (0, b""))
                 self.assertTrue(out.endswith(b".itf: read, 2 objects, 18 cells, 3 points\n"), out)
@@ -229,7 +229,7 @@ class Names(expected.Folder):
     def test_the_longest_name(self):
         name = "n" * 251 + ".itf"
         self.made(name, WRONG)
-        self.answers(["read", "model.bin", name], 1, expected.told(cases.SAMPLE_MODEL, WRONG, name))
+        self.answers(["read", "model.bin", name], 1, expected.told(parts.SAMPLE_MODEL, WRONG, name))
 
 
 class Many(expected.Folder):
@@ -243,15 +243,15 @@ class Many(expected.Folder):
             name = "%02d.itf" % rng.randrange(100)
             while name in self.files:
                 name = "%02d.itf" % rng.randrange(100)
-            file = {7: WRONG, 20: b"", 39: cases.SAMPLE_FILE[:-1]}.get(n)
+            file = {7: WRONG, 20: b"", 39: parts.SAMPLE_FILE[:-1]}.get(n)
             # some large ones, so that files are not done in the order in which they were begun
             if file is None:
                 file = expected.bordered(rng.choice((1000, 1000, 1000, 400000)))
             self.names.append(name)
             self.files[name] = file
             self.made(name, file)
-        self.told = b"".join(expected.told(cases.SAMPLE_MODEL, self.files[name], name) for name in self.names)
-        self.objects = [expected.as_json(cases.SAMPLE_MODEL, self.files[name], name) for name in self.names]
+        self.told = b"".join(expected.told(parts.SAMPLE_MODEL, self.files[name], name) for name in self.names)
+        self.objects = [expected.as_json(parts.SAMPLE_MODEL, self.files[name], name) for name in self.names]
 
     def test_in_the_order_of_their_names(self):
         for jobs in ("1", "2", "7", "256"):
@@ -283,7 +283,7 @@ class Many(expected.Folder):
     def test_verify(self):
         lines = []
         for name in self.names:
-            told = expected.told(cases.SAMPLE_MODEL, self.files[name], name)
+            told = expected.told(parts.SAMPLE_MODEL, self.files[name], name)
             lines.append(told.replace(b": read", b": same").replace(b"points\n", b"points, 169 bytes written\n"))
         for jobs in ("1", "2", "7"):
             with self.subTest(jobs):
@@ -294,11 +294,11 @@ class Many(expected.Folder):
 
     def test_one_file_has_no_summary(self):
         self.answers(["read", "model.bin", self.names[0]], 0,
-                     expected.told(cases.SAMPLE_MODEL, self.files[self.names[0]], self.names[0]))
+                     expected.told(parts.SAMPLE_MODEL, self.files[self.names[0]], self.names[0]))
 
     def test_two_files_have_one(self):
         name = self.names[0]
-        told = expected.told(cases.SAMPLE_MODEL, self.files[name], name)
+        told = expected.told(parts.SAMPLE_MODEL, self.files[name], name)
         self.answers(["read", "model.bin", name, name], 0, 2 * told + b"2 files: 2 read, 0 refused, 0 not read\n")
 
     def test_none_read(self):
@@ -308,7 +308,7 @@ class Many(expected.Folder):
 
     def test_no_model(self):
         """Every file is refused with 2, the wrong ones too."""
-        self.made("bad.bin", cases.SAMPLE_MODEL[:-4])
+        self.made("bad.bin", parts.SAMPLE_MODEL[:-4])
         told = b"".join(b"%s: refused, 2 model bad: record at byte 186\n" % name.encode() for name in self.names)
         self.answers(["read", "bad.bin", *self.names], 1, told + b"40 files: 0 read, 40 refused, 0 not read\n")
         status, out, err = vendorfinch("read", "--json", "bad.bin", *self.names, cwd=self.folder)
@@ -318,7 +318,7 @@ class Many(expected.Folder):
                           for name in self.names])
 
     def test_more_jobs_than_files(self):
-        told = b"".join(expected.told(cases.SAMPLE_MODEL, self.files[name], name) for name in self.names[:3])
+        told = b"".join(expected.told(parts.SAMPLE_MODEL, self.files[name], name) for name in self.names[:3])
         self.answers(["read", "--jobs", "200", "model.bin", *self.names[:3]], 0,
                      told + b"3 files: 3 read, 0 refused, 0 not read\n")
 
@@ -375,7 +375,7 @@ class StandardOutput(expected.Folder):
 
     def setUp(self):
         super().setUp()
-        self.made("a.itf", cases.SAMPLE_FILE)
+        self.made("a.itf", parts.SAMPLE_FILE)
         self.made("wrong.itf", WRONG)
         # a listing far longer than any pipe or buffer
         model, file, self.number = many_objects(3000000)
@@ -407,15 +407,15 @@ class StandardOutput(expected.Folder):
                 status, _, err = vendorfinch(*words, cwd=self.folder, stdout=None, preexec_fn=closed)
                 self.assertEqual(status, 2)
                 self.assertIn(b"Bad file descriptor", err)
-        self.assertEqual((self.folder / "a.itf").read_bytes(), cases.SAMPLE_FILE)
-        self.assertEqual((self.folder / "model.bin").read_bytes(), cases.SAMPLE_MODEL)
+        self.assertEqual((self.folder / "a.itf").read_bytes(), parts.SAMPLE_FILE)
+        self.assertEqual((self.folder / "model.bin").read_bytes(), parts.SAMPLE_MODEL)
 
     def test_closed_and_not_needed(self):
         """What is written to OUT does not get what was meant for standard output or standard error."""
         def closed():
             os.close(1)
             os.close(2)
-        for file, status, out in (("a.itf", 0, cases.SAMPLE_FILE), ("wrong.itf", 1, b"before")):
+        for file, status, out in (("a.itf", 0, parts.SAMPLE_FILE), ("wrong.itf", 1, b"before")):
             self.made("out.itf", b"before")
             got, _, _ = vendorfinch("write", "-o", "out.itf", "model.bin", file, cwd=self.folder, stdout=None,
                                     stderr=None, preexec_fn=closed)
@@ -502,7 +502,7 @@ class Memory(expected.Folder):
         self.fails(["write", "-o", "out.itf", "m.bin", "a.itf"], preexec_fn=more["preexec_fn"])
         self.assertEqual((self.folder / "out.itf").read_bytes(), b"before")
         # a small file among large ones has room enough
-        self.made("small.itf", cases.frame(b"OBJE a @"))
+        self.made("small.itf", parts.frame(b"OBJE a @"))
         status, out, err = vendorfinch("read", "m.bin", "a.itf", "small.itf", "a.itf", **more)
         self.assertEqual((status, out), (2, b"small.itf: read, 1 object, 5 cells, 0 points\n"
                                             b"3 files: 1 read, 0 refused, 2 not read\n"))
@@ -532,7 +532,7 @@ class Memory(expected.Folder):
 
     def test_threads_that_cannot_be_started(self):
         """Each wants a stack: as many as asked for do not fit, and the files are answered all the same."""
-        self.made("a.itf", cases.SAMPLE_FILE)
+        self.made("a.itf", parts.SAMPLE_FILE)
         more = self.limited(150000000)
         status, out, err = vendorfinch("read", "--jobs", "256", "model.bin", *["a.itf"] * 300, **more)
         self.assertEqual((status, out, err), (0, 300 * READ + b"300 files: 300 read, 0 refused, 0 not read\n", b""))

@@ -14,17 +14,17 @@ import tempfile
 import threading
 
 import expected
-from expected import cases, oracle, sample_file
+from expected import oracle, parts, sample_file
 from support import vendorfinch
 
 WRONG = sample_file(7, b"OBJE k1 ABCDE 10.0 20.5")
-NARROW = expected.written(cases.SAMPLE_MODEL, cases.SAMPLE_FILE, 16)
+NARROW = expected.written(parts.SAMPLE_MODEL, parts.SAMPLE_FILE, 16)
 
 
 class Out(expected.Folder):
     def setUp(self):
         super().setUp()
-        self.made("a.itf", cases.SAMPLE_FILE)
+        self.made("a.itf", parts.SAMPLE_FILE)
         self.made("wrong.itf", WRONG)
         self.before = self.names()
 
@@ -95,11 +95,11 @@ class WriteToFile(Out):
 
     def test_what_was_read_is_not_changed_otherwise(self):
         self.writes("out.itf")
-        self.assertEqual((self.content("a.itf"), self.content("model.bin")), (cases.SAMPLE_FILE, cases.SAMPLE_MODEL))
+        self.assertEqual((self.content("a.itf"), self.content("model.bin")), (parts.SAMPLE_FILE, parts.SAMPLE_MODEL))
 
     def test_two_at_a_time(self):
         """Both write the same OUT; it is one of theirs, whole."""
-        wide = expected.written(cases.SAMPLE_MODEL, cases.SAMPLE_FILE, 80)
+        wide = expected.written(parts.SAMPLE_MODEL, parts.SAMPLE_FILE, 80)
 
         def run(width):
             for _ in range(20):
@@ -119,7 +119,7 @@ class WriteToFile(Out):
 
 class WriteRefused(Out):
     def test_nothing_is_made(self):
-        told = expected.told(cases.SAMPLE_MODEL, WRONG, "wrong.itf")
+        told = expected.told(parts.SAMPLE_MODEL, WRONG, "wrong.itf")
         self.answers(["write", "-o", "out.itf", "model.bin", "wrong.itf"], 1, b"", told)
         self.assertEqual(self.names(), self.before)
 
@@ -175,7 +175,7 @@ class WriteRefused(Out):
             self.assertIn(b"Permission denied", self.fails(["write", "-o", "d/new.itf", "model.bin", "a.itf"], **more))
             status, out, _ = vendorfinch("write", "-o", "d/out.itf", "model.bin", "a.itf", cwd=self.folder, **more)
             self.assertIn((status, out, self.content("d/out.itf")),
-                          ((2, b"", b"before"), (0, b"", cases.SAMPLE_FILE)))
+                          ((2, b"", b"before"), (0, b"", parts.SAMPLE_FILE)))
             self.assertEqual(os.listdir(folder), ["out.itf"])
         finally:
             folder.chmod(0o755)
@@ -186,9 +186,9 @@ class DiskFull(Out):
 
     def setUp(self):
         super().setUp()
-        model = cases.one(oracle.text(b"X", 60, 1))
+        model = parts.one(oracle.text(b"X", 60, 1))
         self.made("m.bin", model)
-        self.made("large.itf", cases.frame(*[b"OBJE %06d @" % n for n in range(200000)]))
+        self.made("large.itf", parts.frame(*[b"OBJE %06d @" % n for n in range(200000)]))
 
     def test_a_limit_for_files(self):
         """A limit stands in for a full disk where none can be made."""
@@ -223,7 +223,7 @@ class DiskFull(Out):
             self.assertEqual(os.listdir(disk), ["out.itf"])
             # what fits is written
             self.answers(["write", "-o", "disk/out.itf", "model.bin", "a.itf"], 0, b"")
-            self.assertEqual((disk / "out.itf").read_bytes(), cases.SAMPLE_FILE)
+            self.assertEqual((disk / "out.itf").read_bytes(), parts.SAMPLE_FILE)
         finally:
             subprocess.run(["umount", str(disk)], check=True)
 
@@ -286,7 +286,7 @@ class Links(Out):
         self.assertTrue((self.folder / "stdout").is_symlink())
         self.assertEqual(status, 2)
         self.assertNotEqual(err, b"")
-        self.assertEqual((self.content("a.itf"), self.content("model.bin")), (cases.SAMPLE_FILE, cases.SAMPLE_MODEL))
+        self.assertEqual((self.content("a.itf"), self.content("model.bin")), (parts.SAMPLE_FILE, parts.SAMPLE_MODEL))
 
     def test_a_link_to_standard_input_that_is_closed(self):
         """It names nothing, least of all the model or the file that was opened meanwhile."""
@@ -296,7 +296,7 @@ class Links(Out):
             os.close(0)
         status, _, _ = vendorfinch("write", "--width", "16", "-o", "stdin", "model.bin", "a.itf", cwd=self.folder,
                                    preexec_fn=closed)
-        self.assertEqual((self.content("a.itf"), self.content("model.bin")), (cases.SAMPLE_FILE, cases.SAMPLE_MODEL))
+        self.assertEqual((self.content("a.itf"), self.content("model.bin")), (parts.SAMPLE_FILE, parts.SAMPLE_MODEL))
         self.assertTrue((self.folder / "stdin").is_symlink())
         self.assertEqual(status, 2)
 
@@ -352,8 +352,8 @@ class Streams(Out):
         self.assertEqual(self.names(), self.before)
 
     def test_the_default_width(self):
-        self.made("long.itf", cases.frame(b"OBJE a " + b"x" * 200))
-        model = cases.one(oracle.text(b"X", 300))
+        self.made("long.itf", parts.frame(b"OBJE a " + b"x" * 200))
+        model = parts.one(oracle.text(b"X", 300))
         self.made("m.bin", model)
         out = expected.written(model, self.content("long.itf"), 80)
         self.assertEqual(max(map(len, out.split(b"\n"))), 80)
@@ -434,14 +434,14 @@ class Streams(Out):
 
     def test_standard_input_and_output(self):
         """As a filter."""
-        self.answers(["write", "--width=16", "model.bin", "-", "-o", "-"], 0, NARROW, input=cases.SAMPLE_FILE)
+        self.answers(["write", "--width=16", "model.bin", "-", "-o", "-"], 0, NARROW, input=parts.SAMPLE_FILE)
 
 
 def large_file(seed, number):
     """A model with attributes of every type, and a file of its grammar with so many objects."""
     rng = random.Random(seed)
     plan = [(3, 0, 10 ** 9), (3, -5, 10 ** 9), (1, -9000, 9000)]
-    model = (cases.head() + oracle.topic(b"N") + oracle.table(b"A") + oracle.text(b"X", 40)
+    model = (parts.head() + oracle.topic(b"N") + oracle.table(b"A") + oracle.text(b"X", 40)
              + oracle.reference(b"R", 1, 1) + oracle.coordinate(b"P", plan) + oracle.line(b"L", 3, plan[:2], 1)
              + oracle.table(b"B", 1) + oracle.date(b"D", 1) + oracle.enumeration(b"E", 12) + oracle.reference(b"S", 0)
              + oracle.coordinate(b"Q", plan[:2], 1) + oracle.number(b"Z", (9, -10 ** 18 + 1, 10 ** 18 - 1), 1)
@@ -454,9 +454,9 @@ def large_file(seed, number):
     for n, table in enumerate(m.tables):
         lines.append(b"TABL " + table.name)
         for name in identifications[n]:
-            lines += cases.random_object(rng, m, table, name, identifications)
+            lines += parts.random_object(rng, m, table, name, identifications)
         lines.append(b"ETAB")
-    return model, cases.cut(rng, b"\\", lines + [b"ETOP", b"EMOD", b"ENDE"], 0.05)
+    return model, parts.cut(rng, b"\\", lines + [b"ETOP", b"EMOD", b"ENDE"], 0.05)
 
 
 class Tables(expected.Folder):
@@ -473,7 +473,7 @@ class Tables(expected.Folder):
         self.answers(["verify", "--width", str(width), "m.bin", "a.itf"], 0, same.encode())
 
     def test_the_sample(self):
-        self.held(cases.SAMPLE_MODEL, cases.SAMPLE_FILE, 80)
+        self.held(parts.SAMPLE_MODEL, parts.SAMPLE_FILE, 80)
         self.answers(["list", "m.bin", "a.itf"], 0, b"""\
 0 2 18 3
 0 51 2 4 54 1 100 1 205
@@ -486,27 +486,27 @@ class Tables(expected.Folder):
                      b"a.itf: same, 2 objects, 18 cells, 3 points, 169 bytes written\n")
         self.answers(["verify", "--json", "m.bin", "a.itf"], 0,
                      b'{"file": "a.itf", "status": "same", "objects": 2, "cells": 18, "points": 3, "written": 169}\n')
-        self.answers(["unfold", "m.bin", "a.itf"], 0, cases.SAMPLE_FILE)
+        self.answers(["unfold", "m.bin", "a.itf"], 0, parts.SAMPLE_FILE)
 
     def test_widths(self):
         for width in (16, 17, 20, 21, 22, 79, 81, 65535):
             with self.subTest(width):
-                self.held(cases.SAMPLE_MODEL, cases.SAMPLE_FILE, width)
+                self.held(parts.SAMPLE_MODEL, parts.SAMPLE_FILE, width)
 
     def test_one_object(self):
-        self.made("m.bin", cases.one(cases.L_))
-        self.made("a.itf", cases.frame(b"OBJE a", b"ELIN"))
+        self.made("m.bin", parts.one(parts.L_))
+        self.made("a.itf", parts.frame(b"OBJE a", b"ELIN"))
         self.answers(["read", "m.bin", "a.itf"], 0, b"a.itf: read, 1 object, 5 cells, 0 points\n")
-        self.made("a.itf", cases.NO_TOPICS_FILE)
+        self.made("a.itf", parts.NO_TOPICS_FILE)
         self.answers(["read", "m.bin", "a.itf"], 0, b"a.itf: read, 0 objects, 0 cells, 0 points\n")
-        self.held(cases.one(cases.L_), cases.NO_TOPICS_FILE, 80)
+        self.held(parts.one(parts.L_), parts.NO_TOPICS_FILE, 80)
 
     def test_random_models(self):
         rng = random.Random(1798)
         for n in range(80):
-            model = cases.random_model(rng)
+            model = parts.random_model(rng)
             m = oracle.decode(model)
-            file = cases.cut(rng, bytes([m.mark]), cases.random_lines(rng, m), rng.choice((0, 0.2, 0.6)))
+            file = parts.cut(rng, bytes([m.mark]), parts.random_lines(rng, m), rng.choice((0, 0.2, 0.6)))
             with self.subTest(n):
                 self.held(model, file, rng.choice((16, 17, 33, 80, 1000)))
 
@@ -520,15 +520,15 @@ class Tables(expected.Folder):
         """Random files of one model, right and wrong, verified together."""
         rng = random.Random(1291)
         for n in range(12):
-            model = cases.random_model(rng)
+            model = parts.random_model(rng)
             m = oracle.decode(model)
             special = bytes([m.blank, m.undefined, m.mark])
             self.made("m.bin", model)
             names, answers = [], []
             for k in range(30):
-                file = cases.file_of(cases.random_lines(rng, m))
+                file = parts.file_of(parts.random_lines(rng, m))
                 if rng.random() < 0.5:
-                    file = cases.random_damage(rng, file, special)
+                    file = parts.random_damage(rng, file, special)
                 names.append("%d.itf" % k)
                 self.made(names[-1], file)
                 answer = expected.as_json(model, file, names[-1])
@@ -547,7 +547,7 @@ class Tables(expected.Folder):
         for file in (b"", b"\n", b"\r\n", b"a\\\nCONT b\r\n\n \t\xa0\xff\n", b"\\\nCONT \\\nCONT \n", b"CONT x\n"):
             with self.subTest(file):
                 self.made("a.itf", file)
-                self.answers(["unfold", "model.bin", "a.itf"], 0, expected.unfolded(cases.SAMPLE_MODEL, file))
+                self.answers(["unfold", "model.bin", "a.itf"], 0, expected.unfolded(parts.SAMPLE_MODEL, file))
         self.made("a.itf", b"a\\\nCONT b\r\n")
         self.answers(["unfold", "model.bin", "a.itf"], 0, b"ab\n")
 

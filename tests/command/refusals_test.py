@@ -3,10 +3,10 @@ import json
 import random
 
 import expected
-from expected import LIMIT, cases, cut_line, oracle, sample_file
+from expected import LIMIT, cut_line, language, oracle, parts, sample_file
 from support import vendorfinch
 
-SAMPLE = cases.SAMPLE_MODEL
+SAMPLE = parts.SAMPLE_MODEL
 # what is refused, the file, what is said behind "NAME: refused, ", the shown line, its marks, and what JSON has beside
 # these; its text, column and length are those of the shown line where it does not say others
 SAID = [
@@ -106,7 +106,7 @@ SAID = [
      "10 mandatory table skipped: line 6, field 2 (physical line 6)",
      "TABL Leitung",
      "     ^^^^^^^", {"line": 6, "field": 2, "physical": [6, 6]}),
-    ("10 at ETOP", cases.file_of(cases.SAMPLE_LINES[:8] + [b"ETOP", b"EMOD", b"ENDE"]),
+    ("10 at ETOP", parts.file_of(parts.SAMPLE_LINES[:8] + [b"ETOP", b"EMOD", b"ENDE"]),
      "10 mandatory table skipped: line 9, field 1 (physical line 9)",
      "ETOP",
      "^^^^", {"line": 9, "field": 1, "physical": [9, 9]}),
@@ -134,7 +134,7 @@ SAID = [
      "12 undefined where not allowed, mixed coordinate: line 7, field 4 (physical line 7)",
      "OBJE k1 A_1 @@",
      "            ^^", {"line": 7, "field": 4, "physical": [7, 7]}),
-    ("12 a line", cases.file_of(cases.SAMPLE_LINES[:10] + cases.SAMPLE_LINES[13:]),
+    ("12 a line", parts.file_of(parts.SAMPLE_LINES[:10] + parts.SAMPLE_LINES[13:]),
      "12 undefined where not allowed, mixed coordinate: line 11, field 1 (physical line 11)",
      "ELIN",
      "^^^^", {"line": 11, "field": 1, "physical": [11, 11]}),
@@ -260,38 +260,38 @@ SAID = [
 ]
 # refusals under other models
 FORMS = [
-    ("18 an arc among straights", cases.one(cases.L1), cases.frame(b"OBJE a", b"STPT 1.0 1.0", b"ARCP 2.0 2.0",
+    ("18 an arc among straights", parts.one(parts.L1), parts.frame(b"OBJE a", b"STPT 1.0 1.0", b"ARCP 2.0 2.0",
                                                                    b"LIPT 3.0 3.0", b"ELIN"),
      "18 straight or arc not in the forms: line 9, field 1 (physical line 9)",
      "ARCP 2.0 2.0",
      "^^^^", {"line": 9, "field": 1, "physical": [9, 9]}),
-    ("18 a straight among arcs", cases.one(cases.L2), cases.frame(b"OBJE a", b"STPT 1.0 1.0", b"LIPT 3.0 3.0",
+    ("18 a straight among arcs", parts.one(parts.L2), parts.frame(b"OBJE a", b"STPT 1.0 1.0", b"LIPT 3.0 3.0",
                                                                   b"ELIN"),
      "18 straight or arc not in the forms: line 9, field 1 (physical line 9)",
      "LIPT 3.0 3.0",
      "^^^^", {"line": 9, "field": 1, "physical": [9, 9]}),
-    ("12 a mixed coordinate", cases.one(cases.P_), cases.frame(b"OBJE a 1.0 @"),
+    ("12 a mixed coordinate", parts.one(parts.P_), parts.frame(b"OBJE a 1.0 @"),
      "12 undefined where not allowed, mixed coordinate: line 7, field 4 (physical line 7)",
      "OBJE a 1.0 @",
      "           ^", {"line": 7, "field": 4, "physical": [7, 7]}),
-    ("12 two undefined bytes in a coordinate", cases.one(cases.P_), cases.frame(b"OBJE a 1.0 @@"),
+    ("12 two undefined bytes in a coordinate", parts.one(parts.P_), parts.frame(b"OBJE a 1.0 @@"),
      "12 undefined where not allowed, mixed coordinate: line 7, field 4 (physical line 7)",
      "OBJE a 1.0 @@",
      "           ^^", {"line": 7, "field": 4, "physical": [7, 7]}),
-    ("14 a day that there is not", cases.one(cases.D), cases.frame(b"OBJE a 19990229"),
+    ("14 a day that there is not", parts.one(parts.D), parts.frame(b"OBJE a 19990229"),
      "14 outside its domain, text too long: line 7, field 3 (physical line 7)",
      "OBJE a 19990229",
      "       ^^^^^^^^", {"line": 7, "field": 3, "physical": [7, 7]}),
-    ("14 a leaf that there is not", cases.one(cases.E), cases.frame(b"OBJE a 3"),
+    ("14 a leaf that there is not", parts.one(parts.E), parts.frame(b"OBJE a 3"),
      "14 outside its domain, text too long: line 7, field 3 (physical line 7)",
      "OBJE a 3",
      "       ^", {"line": 7, "field": 3, "physical": [7, 7]}),
-    ("17 the second of two references", cases.one(cases.R_, oracle.reference(b"S", 0, 1)),
-     cases.frame(b"OBJE a @ a", b"OBJE b a \xe9", b"OBJE c x y"),
+    ("17 the second of two references", parts.one(parts.R_, oracle.reference(b"S", 0, 1)),
+     parts.frame(b"OBJE a @ a", b"OBJE b a \xe9", b"OBJE c x y"),
      "17 reference names no object of its table: object 1, line 8, field 4 (physical line 8)",
      "OBJE b a \u00e9",
      "         ^", {"line": 8, "field": 4, "physical": [8, 8], "object": 1}),
-    ("2 under a bad model", SAMPLE[:-4], cases.SAMPLE_FILE, "2 model bad: record at byte 186", None, None,
+    ("2 under a bad model", SAMPLE[:-4], parts.SAMPLE_FILE, "2 model bad: record at byte 186", None, None,
      {"byte": 186}),
     ("2 before a fault of the file", b"", b"\x01", "2 model bad: record at byte 0", None, None, {"byte": 0}),
 ]
@@ -402,7 +402,7 @@ class OtherCommands(expected.Folder):
                 self.assertEqual(json.loads(out), as_json(said, line, marks, numbers))
 
     def test_widths(self):
-        self.made("a.itf", cases.SAMPLE_FILE)
+        self.made("a.itf", parts.SAMPLE_FILE)
         told = b"a.itf: refused, 20 writing: width not 16 to 65,535\n"
         for width in ("0", "1", "15", "65536", "99999999999999999999", "18446744073709551632", "4294967376"):
             with self.subTest(width):
@@ -422,9 +422,9 @@ class OtherCommands(expected.Folder):
 
     def test_a_table_too_long_to_be_written(self):
         """60 undefined fields for two bytes: what was read is above 16 MiB when it is written."""
-        model = cases.one(*[oracle.date(b"D%d" % n, 1) for n in range(60)])
+        model = parts.one(*[oracle.date(b"D%d" % n, 1) for n in range(60)])
         self.made("m.bin", model)
-        file = cases.frame(*[b"OBJE %07d @@" % n for n in range(80000)])
+        file = parts.frame(*[b"OBJE %07d @@" % n for n in range(80000)])
         self.made("a.itf", file)
         line = len(oracle.cut_line(0x5C, 16, b"OBJE 0000000" + b" @" * 60))
         self.assertGreater(80000 * line, LIMIT)
@@ -443,7 +443,7 @@ class OtherCommands(expected.Folder):
 
 def texts(number):
     """A model of one table of so many texts."""
-    return cases.one(*[oracle.text(b"X%d" % n, 1000) for n in range(number)])
+    return parts.one(*[oracle.text(b"X%d" % n, 1000) for n in range(number)])
 
 
 class LongLines(expected.Folder):
@@ -473,21 +473,21 @@ class LongLines(expected.Folder):
         values[31] = b"%06d" % 217 + b"v" * 500 + b"\xd7" + b"v" * 432
         line = b"OBJE a " + b" ".join(values)
         self.assertGreater(len(line), 60000)
-        text, column, length = self.shown(texts(64), cases.frame(line))
+        text, column, length = self.shown(texts(64), parts.frame(line))
         self.assertTrue(text.startswith("...") and text.endswith("..."), text)
         self.assertIn("000217vvv", text)
         self.assertEqual(text[column:column + 9], "000217vvv")
 
     def test_a_short_field_in_the_middle(self):
         line = b"OBJE a " + b" ".join(b"n%04d" % n for n in range(10000))
-        model = cases.one(cases.D)
-        text, column, length = self.shown(model, cases.frame(line.replace(b"n0000", b"20260101")))
+        model = parts.one(parts.D)
+        text, column, length = self.shown(model, parts.frame(line.replace(b"n0000", b"20260101")))
         self.assertEqual(text[column:column + length], "n0001")
         self.assertTrue(text.endswith("...") and not text.startswith("..."), text)
         model = texts(30)
         values = [b"%04d" % n + b"v" * 900 for n in range(30)]
         values[14] = b"a\xf7b"
-        text, column, length = self.shown(model, cases.frame(b"OBJE a " + b" ".join(values)))
+        text, column, length = self.shown(model, parts.frame(b"OBJE a " + b" ".join(values)))
         self.assertEqual(text[column:column + length], "a\u00f7b")
         self.assertTrue(text.startswith("...") and text.endswith("..."), text)
 
@@ -495,13 +495,13 @@ class LongLines(expected.Folder):
         values = [b"%06d" % n + b"v" * 990 for n in range(63)]
         line = b"OBJE a " + b" ".join(values) + b" a\xd7"
         self.assertGreater(len(line), 60000)
-        text, column, length = self.shown(texts(64), cases.frame(line))
+        text, column, length = self.shown(texts(64), parts.frame(line))
         self.assertEqual(text[column:], "a\u00d7")
         self.assertTrue(text.startswith("..."), text)
 
     def test_missing_at_the_end(self):
         values = [b"%06d" % n + b"v" * 990 for n in range(63)]
-        text, column, length = self.shown(texts(64), cases.frame(b"OBJE a " + b" ".join(values)))
+        text, column, length = self.shown(texts(64), parts.frame(b"OBJE a " + b" ".join(values)))
         self.assertEqual((column, length), (len(text) + 1, 1))
         self.assertTrue(text.startswith("...") and text.endswith("vvvvv"), text)
 
@@ -513,7 +513,7 @@ class LongLines(expected.Folder):
     def test_cut_to_80_columns(self):
         values = [b"%06d" % n + b"v" * 990 for n in range(63)]
         line = b"OBJE a " + b" ".join(values) + b" a\xd7"
-        file = cases.frame().replace(b"ETAB\n", cut_line(line, range(80, len(line), 75)) + b"ETAB\n", 1)
+        file = parts.frame().replace(b"ETAB\n", cut_line(line, range(80, len(line), 75)) + b"ETAB\n", 1)
         refused = expected.refused(texts(64), file)
         self.assertGreater(refused.parts["physical"][1], 800)
         text, column, length = self.shown(texts(64), file)
@@ -522,23 +522,23 @@ class LongLines(expected.Folder):
     def test_of_latin_letters(self):
         """Columns are of characters, not of the bytes of UTF-8."""
         line = b"OBJE \xe9 " + b"\xe4" * 30000 + b" 1O.0 " + b"\xfc" * 30000
-        model = cases.one(oracle.text(b"X", 65535), oracle.number(b"Z", (1, 0, 999)), oracle.text(b"Y", 65535))
-        text, column, length = self.shown(model, cases.frame(line))
+        model = parts.one(oracle.text(b"X", 65535), oracle.number(b"Z", (1, 0, 999)), oracle.text(b"Y", 65535))
+        text, column, length = self.shown(model, parts.frame(line))
         self.assertEqual(text[column:column + length], "1O.0")
         self.assertTrue(text.startswith("...") and text.endswith("..."), text)
 
     def test_a_field_longer_than_what_is_shown(self):
         line = b"OBJE a b" + b"z" * 60000
-        text, column, length = self.shown(cases.one(oracle.text(b"X", 4)), cases.frame(line))
+        text, column, length = self.shown(parts.one(oracle.text(b"X", 4)), parts.frame(line))
         self.assertEqual(text[column:column + 4], "bzzz")
         self.assertGreater(length, 20)
 
     def test_a_byte_not_permitted(self):
         line = b"OBJE a " + b"v" * 30000 + b"\x01" + b"w" * 30000
-        text, column, length = self.shown(cases.one(cases.D), cases.frame(line))
+        text, column, length = self.shown(parts.one(parts.D), parts.frame(line))
         self.assertEqual(text[column:column + length], "\\x01")
         self.assertTrue(text.startswith("...v") and text.endswith("w..."), text)
-        text, column, length = self.shown(cases.one(cases.D), cases.frame(b"OBJE a " + b"\x02" * 60000))
+        text, column, length = self.shown(parts.one(parts.D), parts.frame(b"OBJE a " + b"\x02" * 60000))
         self.assertEqual((column, text[column:column + length]), (7, "\\x02"))
 
     def test_no_end(self):
@@ -557,10 +557,10 @@ class LongLines(expected.Folder):
             for at in (0, length // 2, length - 5):
                 with self.subTest([length, at]):
                     line = b"a" * at + b" b\xd7c " + b"d" * (length - at - 5)
-                    model = cases.one(oracle.text(b"X", 2000), oracle.text(b"Y", 4), oracle.text(b"Z", 2000))
+                    model = parts.one(oracle.text(b"X", 2000), oracle.text(b"Y", 4), oracle.text(b"Z", 2000))
                     if at == 0:
-                        model = cases.one(oracle.text(b"Y", 4), oracle.text(b"Z", 2000))
-                    text, column, marks = self.shown(model, cases.frame(b"OBJE a " + line))
+                        model = parts.one(oracle.text(b"Y", 4), oracle.text(b"Z", 2000))
+                    text, column, marks = self.shown(model, parts.frame(b"OBJE a " + line))
                     self.assertEqual(text[column:column + marks], "b\u00d7c")
                     if length + 7 <= expected.SHOWN_WHOLE:
                         self.assertEqual(text.split(), ("OBJE a " + line.decode("latin-1")).split())
@@ -575,15 +575,15 @@ class Property(expected.Folder):
         mark, special = bytes([m.mark]), bytes([m.blank, m.undefined, m.mark])
         out = []
         while len(out) < number:
-            lines = cases.random_lines(rng, m)
+            lines = parts.random_lines(rng, m)
             often, cr = rng.choice((0, 0.2, 0.5, 0.8)), rng.choice((0, 0.3, 1))
             if rng.random() < 0.7:
-                damaged = cases.random_damage(rng, cases.file_of(lines), special)
+                damaged = parts.random_damage(rng, parts.file_of(lines), special)
                 lines = damaged.split(b"\n")
                 last = lines.pop()
-                file = cases.cut(rng, mark, lines, often, cr) + last
+                file = parts.cut(rng, mark, lines, often, cr) + last
             else:
-                file = cases.random_damage(rng, cases.cut(rng, mark, lines, often, cr), special)
+                file = parts.random_damage(rng, parts.cut(rng, mark, lines, often, cr), special)
             out.append(file)
         return out
 
@@ -628,27 +628,26 @@ class Property(expected.Folder):
         refused = 0
         for n in range(60):
             with self.subTest(n):
-                model = cases.random_model(rng)
+                model = parts.random_model(rng)
                 refused += self.held(model, self.files(rng, model, 40))
         self.assertGreater(refused, 1000)
 
     def test_the_sample_and_a_rich_file(self):
         rng = random.Random(1874)
-        for model, lines in ((SAMPLE, cases.SAMPLE_LINES), (cases.RICH_MODEL, cases.RICH_LINES)):
+        for model, lines in ((SAMPLE, parts.SAMPLE_LINES), (parts.RICH_MODEL, parts.RICH_LINES)):
             files = []
             while len(files) < 600:
-                damaged = cases.random_damage(rng, cases.file_of(lines), b"_@\\").split(b"\n")
+                damaged = parts.random_damage(rng, parts.file_of(lines), b"_@\\").split(b"\n")
                 last = damaged.pop()
-                files.append(cases.cut(rng, b"\\", damaged, rng.choice((0.1, 0.5, 0.9))) + last)
+                files.append(parts.cut(rng, b"\\", damaged, rng.choice((0.1, 0.5, 0.9))) + last)
             self.assertGreater(self.held(model, files), 400)
 
     def test_every_case_of_the_documents(self):
         """Every reading of the rules, under its model."""
         by_model = {}
-        for name, call, arguments, _ in cases.known():
-            if call == "listing" and len(arguments[0]) <= oracle.LISTING_LIMIT:
-                model, file = oracle.split_input(arguments[0])
-                by_model.setdefault(model, []).append(file)
+        for case in language.all_cases():
+            if case.call == "read" and oracle.check(case.model)[0] == 0:
+                by_model.setdefault(case.model, []).append(case.file)
         self.assertGreater(sum(map(len, by_model.values())), 300)
         for model, files in by_model.items():
             with self.subTest(model):
@@ -656,9 +655,9 @@ class Property(expected.Folder):
 
     def test_every_byte_of_the_sample_changed(self):
         files = []
-        for at in range(len(cases.SAMPLE_FILE)):
+        for at in range(len(parts.SAMPLE_FILE)):
             for byte in b"\x01@\\\n \xe9":
-                changed = bytearray(cases.SAMPLE_FILE)
+                changed = bytearray(parts.SAMPLE_FILE)
                 changed[at] = byte
                 files.append(bytes(changed))
         self.assertGreater(self.held(SAMPLE, files), 600)

@@ -4,7 +4,7 @@ import os
 import resource
 
 import expected
-from expected import cases, oracle, sample_file
+from expected import oracle, parts, sample_file
 from support import vendorfinch
 
 WIDE = [(0, 0, 9), (0, 0, 9), (0, 0, 9)]
@@ -14,8 +14,8 @@ class Memory(expected.Folder):
     def test_every_amount_of_a_refusal(self):
         """A refusal is told with its place, or not at all."""
         objects = [b"OBJE %06d @" % n for n in range(300000)] + [b"OBJE last nobody"]
-        self.made("m.bin", cases.one(oracle.reference(b"X", 0, 1)))
-        self.made("a.itf", cases.frame(*objects))
+        self.made("m.bin", parts.one(oracle.reference(b"X", 0, 1)))
+        self.made("a.itf", parts.frame(*objects))
         whole = vendorfinch("read", "m.bin", "a.itf", cwd=self.folder)
         self.assertEqual(whole[0], 1)
         self.assertIn(b"object 300000, line 300007, field 3 (physical line 300007)\n", whole[1])
@@ -31,7 +31,7 @@ class Memory(expected.Folder):
     def test_json_is_whole(self):
         """A report for which there is no memory is an error object, and the next file's is whole."""
         self.made("a.itf", b"SCNT\n////\nMTID " + b"\x82" * 12000000 + b"\n")
-        self.made("b.itf", cases.SAMPLE_FILE)
+        self.made("b.itf", parts.SAMPLE_FILE)
         seen = set()
         for size in range(40000000, 240000000, 20000000):
             status, out, _ = vendorfinch("read", "--json", "model.bin", "a.itf", "b.itf", **self.limited(size))
@@ -44,8 +44,8 @@ class Memory(expected.Folder):
     def test_a_refused_file_costs_little(self):
         """Objects without fields under a table of the longest row: refused at the first, in little memory."""
         table = b"".join(oracle.coordinate(b"X%d" % n, WIDE) for n in range(64))
-        self.made("m.bin", cases.one(table))
-        self.made("a.itf", cases.frame(*[b"OBJE "] * 1000000))
+        self.made("m.bin", parts.one(table))
+        self.made("a.itf", parts.frame(*[b"OBJE "] * 1000000))
         status, out, _ = vendorfinch("read", "m.bin", "a.itf", **self.limited(150000000))
         self.assertEqual(status, 1)
         self.assertIn(b"refused, 11 field missing or extra: line 7, field 2 (physical line 7)", out)
@@ -56,7 +56,7 @@ class Signals(expected.Folder):
         """Its signal does not end the command: the call fails, and no part is left."""
         def limited():
             resource.setrlimit(resource.RLIMIT_FSIZE, (10, 10))
-        self.made("a.itf", cases.SAMPLE_FILE)
+        self.made("a.itf", parts.SAMPLE_FILE)
         before = sorted(os.listdir(self.folder))
         self.assertIn(b"File too large", self.fails(["write", "-o", "out.itf", "model.bin", "a.itf"],
                                                     preexec_fn=limited))
@@ -64,7 +64,7 @@ class Signals(expected.Folder):
 
     def test_nobody_reads_the_errors(self):
         """An export that fails with standard error closed at its other end leaves no part."""
-        self.made("a.itf", cases.SAMPLE_FILE)
+        self.made("a.itf", parts.SAMPLE_FILE)
         (self.folder / "d").mkdir()
         (self.folder / "d/Netz.Leitung.csv").mkdir()
         reader, writer = os.pipe()
@@ -106,8 +106,8 @@ class Terminals(expected.Folder):
 class Words(expected.Folder):
     def test_help_as_a_name(self):
         """A word that belongs to an option is no option."""
-        self.made("a.itf", cases.SAMPLE_FILE)
+        self.made("a.itf", parts.SAMPLE_FILE)
         self.answers(["write", "model.bin", "a.itf", "-o", "-h"], 0, b"")
-        self.assertEqual((self.folder / "-h").read_bytes(), cases.SAMPLE_FILE)
+        self.assertEqual((self.folder / "-h").read_bytes(), parts.SAMPLE_FILE)
         status, out, _ = vendorfinch("write", "-h", cwd=self.folder)
         self.assertEqual((status, out[:12]), (0, b"vendorfinch:"))

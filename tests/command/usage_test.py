@@ -1,6 +1,6 @@
 """Words behind the command: help, version, options wherever they stand, and what is no use of it."""
 import expected
-from expected import cases
+from expected import parts
 from support import vendorfinch
 
 COMMANDS = ("check", "read", "list", "unfold", "write", "verify", "export")
@@ -11,9 +11,9 @@ SAME = b"file.itf: same, 2 objects, 18 cells, 3 points, 169 bytes written\n"
 class Usage(expected.Folder):
     def setUp(self):
         super().setUp()
-        self.made("file.itf", cases.SAMPLE_FILE)
-        self.made("-x.itf", cases.SAMPLE_FILE)
-        self.made("-m.bin", cases.SAMPLE_MODEL)
+        self.made("file.itf", parts.SAMPLE_FILE)
+        self.made("-x.itf", parts.SAMPLE_FILE)
+        self.made("-m.bin", parts.SAMPLE_MODEL)
 
 
 class Help(Usage):
@@ -122,7 +122,7 @@ class BadUsage(Usage):
                       ["verify", "-", "-"], ["export", "--csv", "d", "-", "-"], ["read", "model.bin", "-", "-"],
                       ["read", "-", "file.itf", "-"]):
             with self.subTest(words):
-                self.fails(words, input=cases.SAMPLE_MODEL)
+                self.fails(words, input=parts.SAMPLE_MODEL)
 
     def test_bad_usage_changes_no_output(self):
         self.made("out.itf", b"before")
@@ -140,8 +140,8 @@ class Options(Usage):
                     self.answers(words, 0, READ)
 
     def test_width(self):
-        narrow = expected.written(cases.SAMPLE_MODEL, cases.SAMPLE_FILE, 16)
-        self.assertNotEqual(narrow, cases.SAMPLE_FILE)
+        narrow = expected.written(parts.SAMPLE_MODEL, parts.SAMPLE_FILE, 16)
+        self.assertNotEqual(narrow, parts.SAMPLE_FILE)
         for option in (["--width", "16"], ["--width=16"], ["--width", "016"]):
             for words in (["write", *option, "model.bin", "file.itf"], ["write", "model.bin", *option, "file.itf"],
                           ["write", "model.bin", "file.itf", *option]):
@@ -154,13 +154,13 @@ class Options(Usage):
                           ["write", "model.bin", "file.itf", *option]):
                 with self.subTest(words):
                     self.answers(words, 0, b"")
-                    self.assertEqual((self.folder / "OUT").read_bytes(), cases.SAMPLE_FILE)
+                    self.assertEqual((self.folder / "OUT").read_bytes(), parts.SAMPLE_FILE)
                     (self.folder / "OUT").unlink()
 
     def test_several_options(self):
         self.answers(["verify", "-j2", "model.bin", "--width=80", "file.itf", "--jobs", "1"], 0, SAME)
         self.answers(["write", "--width", "16", "-oOUT", "model.bin", "--width=80", "file.itf"], 0, b"")
-        self.assertEqual((self.folder / "OUT").read_bytes(), cases.SAMPLE_FILE, "the last width is taken")
+        self.assertEqual((self.folder / "OUT").read_bytes(), parts.SAMPLE_FILE, "the last width is taken")
 
     def test_json_wherever_it_stands(self):
         line = b'{"file": "file.itf", "status": "read", "objects": 2, "cells": 18, "points": 3}\n'
@@ -173,47 +173,47 @@ class Options(Usage):
         self.answers(["read", "model.bin", "--", "-x.itf"], 0, READ.replace(b"file", b"-x"))
         self.answers(["read", "--", "-m.bin", "-x.itf"], 0, READ.replace(b"file", b"-x"))
         self.answers(["read", "--jobs", "2", "--", "model.bin", "-x.itf"], 0, READ.replace(b"file", b"-x"))
-        self.answers(["list", "--", "-m.bin", "-x.itf"], 0, cases.SAMPLE_ANSWER.encode())
+        self.answers(["list", "--", "-m.bin", "-x.itf"], 0, parts.SAMPLE_ANSWER.encode())
         self.assertIn(b"--json", self.fails(["list", "--", "model.bin", "--json"]))
 
     def test_a_value_that_begins_with_a_dash(self):
         self.answers(["write", "-o", "-out.itf", "model.bin", "file.itf"], 0, b"")
-        self.assertEqual((self.folder / "-out.itf").read_bytes(), cases.SAMPLE_FILE)
+        self.assertEqual((self.folder / "-out.itf").read_bytes(), parts.SAMPLE_FILE)
 
 
 class StandardInput(Usage):
     def test_the_file(self):
-        for words, out in ((["list", "model.bin", "-"], cases.SAMPLE_ANSWER.encode()),
-                           (["unfold", "model.bin", "-"], cases.SAMPLE_FILE),
-                           (["write", "model.bin", "-"], cases.SAMPLE_FILE),
+        for words, out in ((["list", "model.bin", "-"], parts.SAMPLE_ANSWER.encode()),
+                           (["unfold", "model.bin", "-"], parts.SAMPLE_FILE),
+                           (["write", "model.bin", "-"], parts.SAMPLE_FILE),
                            (["read", "model.bin", "-"], READ.replace(b"file.itf", b"-")),
                            (["read", "model.bin", "--", "-"], READ.replace(b"file.itf", b"-")),
                            (["verify", "model.bin", "-"], SAME.replace(b"file.itf", b"-"))):
             with self.subTest(words):
-                self.answers(words, 0, out, input=cases.SAMPLE_FILE)
+                self.answers(words, 0, out, input=parts.SAMPLE_FILE)
 
     def test_the_model(self):
         checked = vendorfinch("check", "model.bin", cwd=self.folder)[1]
         self.assertIn(b"topic Netz", checked)
-        for words, out in ((["check", "-"], checked), (["list", "-", "file.itf"], cases.SAMPLE_ANSWER.encode()),
-                           (["read", "-", "file.itf"], READ), (["write", "-", "file.itf"], cases.SAMPLE_FILE),
-                           (["verify", "--", "-", "file.itf"], SAME), (["unfold", "-", "file.itf"], cases.SAMPLE_FILE)):
+        for words, out in ((["check", "-"], checked), (["list", "-", "file.itf"], parts.SAMPLE_ANSWER.encode()),
+                           (["read", "-", "file.itf"], READ), (["write", "-", "file.itf"], parts.SAMPLE_FILE),
+                           (["verify", "--", "-", "file.itf"], SAME), (["unfold", "-", "file.itf"], parts.SAMPLE_FILE)):
             with self.subTest(words):
-                self.answers(words, 0, out, input=cases.SAMPLE_MODEL)
+                self.answers(words, 0, out, input=parts.SAMPLE_MODEL)
 
     def test_among_several_files(self):
         out = READ + READ.replace(b"file.itf", b"-") + b"2 files: 2 read, 0 refused, 0 not read\n"
-        self.answers(["read", "model.bin", "file.itf", "-"], 0, out, input=cases.SAMPLE_FILE)
-        self.answers(["read", "-j2", "model.bin", "file.itf", "-"], 0, out, input=cases.SAMPLE_FILE)
+        self.answers(["read", "model.bin", "file.itf", "-"], 0, out, input=parts.SAMPLE_FILE)
+        self.answers(["read", "-j2", "model.bin", "file.itf", "-"], 0, out, input=parts.SAMPLE_FILE)
 
     def test_refused(self):
-        file = cases.sample_with(7, b"OBJE k1 ABCDE 10.0 20.5")
-        self.answers(["read", "model.bin", "-"], 1, expected.told(cases.SAMPLE_MODEL, file, "-"), input=file)
+        file = parts.sample_with(7, b"OBJE k1 ABCDE 10.0 20.5")
+        self.answers(["read", "model.bin", "-"], 1, expected.told(parts.SAMPLE_MODEL, file, "-"), input=file)
 
     def test_in_json(self):
         out = b'{"file": "-", "status": "read", "objects": 2, "cells": 18, "points": 3}\n'
-        self.answers(["read", "--json", "model.bin", "-"], 0, out, input=cases.SAMPLE_FILE)
+        self.answers(["read", "--json", "model.bin", "-"], 0, out, input=parts.SAMPLE_FILE)
 
     def test_a_file_in_the_folder_named_dash(self):
-        self.made("-", cases.SAMPLE_FILE)
+        self.made("-", parts.SAMPLE_FILE)
         self.answers(["read", "model.bin", "./-"], 0, READ.replace(b"file.itf", b"./-"), input=b"")

@@ -1,10 +1,12 @@
-"""Cases of reading for the proved library: (name, model, file, rooms, index length, seed, answer room). Always the same
-cases in the same order."""
+"""Cases of reading beside those of tests/cases, from these and generated ones: (name, model, file, rooms, index length,
+seed, answer room). Always the same cases in the same order. `known` are the cases of tests/cases that are read: (name,
+model, file, rooms)."""
 
 import random
 
-import cases
+import generated
 import oracle as o
+import parts
 
 SEEDS = (0, 1, 663608941, 2 ** 30, 2 ** 32 - 1, 2 ** 63, 2 ** 64 - 1)
 ENOUGH = o.Rooms(1000, 10, 20, 200, 80)
@@ -15,17 +17,18 @@ def index_lengths(rooms):
     return (0, 1, rooms.rows, rooms.rows + 1, 3 * rooms.rows + 1)
 
 
-def good_files():
-    """Models with a file that is read: the sample, its neighbours that are accepted, 000's example, and random ones."""
-    for source in (cases.neighbours, cases.printed_example):
-        for name, model, file, answer in source():
-            if answer.startswith("0 "):
-                yield name, model, file
+def good_files(known):
+    """Models with a file that is read: the known ones, and random ones."""
+    seen = set()
+    for name, model, file, rooms in known:
+        if (model, file) not in seen and o.read(model, file, o.LISTING_ROOMS).answer[0] == 0:
+            yield name, model, file
+        seen.add((model, file))
     rng = random.Random(1895)
     for n in range(120):
-        model = cases.random_model(rng)
+        model = parts.random_model(rng)
         m = o.decode(model)
-        yield "good %d" % n, model, cases.cut(rng, bytes([m.mark]), cases.random_lines(rng, m),
+        yield "good %d" % n, model, parts.cut(rng, bytes([m.mark]), parts.random_lines(rng, m),
                                               rng.choice((0, 0.2, 0.5)), rng.choice((0, 0.3)))
 
 
@@ -37,9 +40,9 @@ def just_enough(model, file):
                    r.answer[2], 4 * r.answer[3])
 
 
-def rooms_just_enough():
+def rooms_just_enough(known):
     """Each room just enough and one less, and three more cells for points, which are no room for one."""
-    for name, model, file in good_files():
+    for name, model, file in good_files(known):
         least = just_enough(model, file)
         yield name + ", just enough", model, file, least
         for which in ("text", "marks", "rows", "cells", "points"):
@@ -53,7 +56,7 @@ def rooms_just_enough():
 
 def changed_samples():
     """The sample with each byte changed, left out and doubled; with lines left out, doubled and swapped."""
-    file, lines = cases.SAMPLE_FILE, cases.SAMPLE_LINES
+    file, lines = parts.SAMPLE_FILE, parts.SAMPLE_LINES
     for at, byte in enumerate(file):
         others = {*b"\x00\t\n\r @\\k1.-/CO", (byte + 1) % 256, (byte - 1) % 256, byte ^ 0x20, 0xA0, 0xE4}
         for other in sorted(others - {byte}):
@@ -61,12 +64,12 @@ def changed_samples():
         yield "byte %d left out" % at, file[:at] + file[at + 1:]
         yield "byte %d doubled" % at, file[:at + 1] + file[at:]
     for n in range(len(lines)):
-        yield "line %d left out" % (n + 1), cases.file_of(lines[:n] + lines[n + 1:])
-        yield "line %d doubled" % (n + 1), cases.file_of(lines[:n + 1] + lines[n:])
+        yield "line %d left out" % (n + 1), parts.file_of(lines[:n] + lines[n + 1:])
+        yield "line %d doubled" % (n + 1), parts.file_of(lines[:n + 1] + lines[n:])
         for k in range(n):
             swapped = list(lines)
             swapped[k], swapped[n] = lines[n], lines[k]
-            yield "lines %d and %d swapped" % (k + 1, n + 1), cases.file_of(swapped)
+            yield "lines %d and %d swapped" % (k + 1, n + 1), parts.file_of(swapped)
     for at in range(len(file)):
         if file[at:at + 1] != b"\n":
             yield "cut before byte %d" % at, file[:at] + b"\\\nCONT " + file[at:]
@@ -78,30 +81,27 @@ def many_objects(count):
     rng = random.Random(count)
     names = [b"o%d" % n for n in range(count)]
     rng.shuffle(names)
-    return cases.one(cases.R_), cases.frame(*[b"OBJE %s %s" % (name, rng.choice(names)) for name in names])
+    return parts.one(parts.R_), parts.frame(*[b"OBJE %s %s" % (name, rng.choice(names)) for name in names])
 
 
-def plain_cases():
+def plain_cases(known):
     """(name, model, file, rooms)"""
-    known = [case[:3] for case in cases.known()]
-    for name, call, arguments in [*known, *cases.generated(), *cases.large()]:
+    yield from known
+    for name, call, arguments in generated.generated():
         if call == "read":
             yield (name,) + arguments
-        elif call == "listing" and len(arguments[0]) <= o.LISTING_LIMIT:
+        elif call == "listing":
             yield (name,) + o.split_input(arguments[0]) + (o.LISTING_ROOMS,)
-    yield from rooms_just_enough()
+    yield from rooms_just_enough(known)
     for name, file in changed_samples():
-        yield name, cases.SAMPLE_MODEL, file, ENOUGH
+        yield name, parts.SAMPLE_MODEL, file, ENOUGH
 
 
-def all_cases():
+def all_cases(known):
     rng = random.Random(1945)
-    for name, model, file, rooms in plain_cases():
+    for name, model, file, rooms in plain_cases(known):
         yield (name, model, file, rooms, rng.choice(index_lengths(rooms)), rng.choice(SEEDS),
                rng.choice((4, 4, 4, 0, 1, 2, 3, 7)))
-    for name, model, file, _ in cases.identification_readings():
-        for index in index_lengths(ENOUGH):
-            yield "%s, index %d" % (name, index), model, file, ENOUGH, index, 0, 4
     for count in (1, 2, 50, 1000):
         model, file = many_objects(count)
         rooms = just_enough(model, file)

@@ -1,10 +1,12 @@
-"""Cases of writing for the proved library: (name, model, table, width, room, index length, seed, answer room). Always
-the same cases in the same order."""
+"""Cases of writing beside those of tests/cases, from these and generated ones: (name, model, table, width, room, index
+length, seed, answer room). Always the same cases in the same order. `known` are the cases of tests/cases that are
+written, (name, model, table, width, room), and `read` those that are read, (name, model, file, rooms)."""
 
 import random
 
-import cases
+import generated
 import oracle as o
+import parts
 import reads
 
 WIDTHS = (16, 17, 20, 33, 80, 65535)
@@ -71,22 +73,16 @@ def damages(rng, m, t):
         (cell, length), new = rng.choice(places), t.copy()
         new.cells[cell] = rng.choice((-1, 0, len(t.text) - length, len(t.text) - length + 1, 2 ** 63 - 1, -2 ** 63))
         yield "start in cell %d is %d" % (cell, new.cells[cell]), new
-    new = cases.with_wrong_day(rng, m, t)
+    new = parts.with_wrong_day(rng, m, t)
     if new:
         yield "a wrong day", new
 
 
-def tables_read():
-    """(name, model, table): the sample, its neighbours that are read, 000's example, and random ones."""
-    for name, model, file in reads.good_files():
-        yield name, model, cases.lent_of(model, file)
-
-
-def tables_written(rng):
+def tables_written(rng, read):
     """Each table at several widths: into a room just enough, one byte less and some more; moved in its text, with room
     behind its counts, and damaged."""
-    for name, model, t in tables_read():
-        m = o.decode(model)
+    for name, model, file in reads.good_files(read):
+        m, t = o.decode(model), parts.lent_of(model, file)
         for width in rng.sample(WIDTHS, 2):
             size = o.write(model, t, width, 1 << 16)[0][1]
             yield "%s, width %d, just enough" % (name, width), model, t, width, size
@@ -102,17 +98,17 @@ def tables_written(rng):
 
 def sample_widths():
     """The sample at every width up to where no line is cut, at the borders, and under a bad model."""
-    t = cases.lent_of(cases.SAMPLE_MODEL, cases.SAMPLE_FILE)
+    t = parts.lent_of(parts.SAMPLE_MODEL, parts.SAMPLE_FILE)
     for width in (*range(24), 65534, 65535, 65536, 2 ** 32, 2 ** 32 + 16, 2 ** 63, 2 ** 64 - 1):
         for room in (0, 168, 169, 175, 176, 200):
-            yield "the sample, width %d, room %d" % (width, room), cases.SAMPLE_MODEL, t, width, room
-    for length in range(0, len(cases.SAMPLE_MODEL), 7):
-        yield "the sample under a model of %d bytes" % length, cases.SAMPLE_MODEL[:length], t, 80, 200
+            yield "the sample, width %d, room %d" % (width, room), parts.SAMPLE_MODEL, t, width, room
+    for length in range(0, len(parts.SAMPLE_MODEL), 7):
+        yield "the sample under a model of %d bytes" % length, parts.SAMPLE_MODEL[:length], t, 80, 200
 
 
 def many_objects(count):
     model, file = reads.many_objects(count)
-    return model, cases.lent_of(model, file)
+    return model, parts.lent_of(model, file)
 
 
 def index_lengths(t):
@@ -120,18 +116,43 @@ def index_lengths(t):
     return (0, 1, len(t.rows), len(t.rows) + 1, 3 * len(t.rows) + 1)
 
 
-def all_cases(others):
-    """The others (name, model, table, width, room), and these."""
+def plain_cases(rng, known, read):
+    """(name, model, table, width, room)"""
+    yield from known
+    for name, call, arguments in generated.generated():
+        if call == "write":
+            yield (name,) + arguments
+    yield from tables_written(rng, read)
+    yield from sample_widths()
+
+
+def all_cases(known, read):
     rng = random.Random(1912)
-    for name, model, t, width, room in [*others, *tables_written(rng), *sample_widths()]:
+    for name, model, t, width, room in plain_cases(rng, known, read):
         yield (name, model, t, width, room, rng.choice(index_lengths(t)), rng.choice(reads.SEEDS),
                rng.choice((4, 4, 4, 0, 1, 2, 3, 7)))
-    for name, model, t, width, room, _ in cases.identification_tables():
-        for index in index_lengths(t):
-            yield "%s, index %d" % (name, index), model, t, width, room, index, 0, 4
     for count in (1, 2, 50, 1000):
         model, t = many_objects(count)
         size = o.write(model, t, 80, 1 << 20)[0][1]
         for seed in reads.SEEDS if count < 1000 else reads.SEEDS[:2]:
             for index in index_lengths(t):
                 yield "%d objects, index %d, seed %d" % (count, index, seed), model, t, 80, size, index, seed, 4
+
+
+def is_read_again(model, file, lent, width):
+    """Whether a written file reads as the table (starts aside), and its table is written as that file again."""
+    m = o.decode(model)
+    again = parts.lent_of(model, file)
+    counts = ("objects", "cells_used", "points_used")
+    if any(getattr(again, n) != getattr(lent, n) for n in counts) or again.rows != lent.rows[:lent.objects]:
+        return False
+    cells, points = lent.cells[:lent.cells_used], lent.points[:4 * lent.points_used]
+    if o.without_starts(m, again.rows, again.cells) != o.without_starts(m, again.rows, cells):
+        return False
+    if again.points != points or again.marks != lent.marks[:len(again.marks)]:
+        return False
+    texts = [[bytes(t.text[c[r + 1]:c[r + 1] + c[r + 2]]) for r in again.rows]
+             for t, c in ((again, again.cells), (lent, cells))]
+    if texts[0] != texts[1] or any(len(line) > width for line in file.split(b"\n")):
+        return False
+    return o.write(model, again, width, len(file)) == ((0, len(file), 0, 0), list(file))
