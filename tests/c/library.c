@@ -445,6 +445,6 @@ int main(int count, char **names)
     refuse_writing();
     write_counts();
     write_large();
-    printf("host: %d compared, %d wrong\n", compared, wrong);
+    printf("library: %d compared, %d wrong\n", compared, wrong);
     return wrong != 0;
 }
