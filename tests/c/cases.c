@@ -549,6 +549,7 @@ int main(int count, char **names)
     if (wrong > MOST_SHOWN)
         printf("%zu more cases are wrong.\n", wrong - MOST_SHOWN);
     printf("cases: %zu of the check, %zu of unfolding, %zu of reading, %zu of writing; "
-           "%zu with an expectation by hand; %zu wrong\n", of_call[CHECK], of_call[UNFOLD], of_call[READ], of_call[WRITE], by_hand, wrong);
+           "%zu with an expectation by hand; %zu wrong\n",
+           of_call[CHECK], of_call[UNFOLD], of_call[READ], of_call[WRITE], by_hand, wrong);
     return wrong || !of_call[CHECK] || !of_call[UNFOLD] || !of_call[READ] || !of_call[WRITE] || !by_hand;
 }
