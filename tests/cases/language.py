@@ -350,7 +350,7 @@ def said_values(path, block, known):
     for at, line in value_lines(lines):
         try:
             if line.startswith("from "):
-                sentences += said_sentences(line[5:])
+                sentences = sentences + said_sentences(line[5:])
                 continue
             case = Case((place(path), at), "%s: %s" % (kind, " ".join(line.split())), "  %s\n    %s" % (head, line),
                         sentences, model=model, rooms=dict(known.rooms))
