@@ -17,8 +17,10 @@ ROOMS = ("text", "marks", "rows", "cells", "points", "output", "index", "answer"
 LINE = re.compile(r"(?:(?P<first>[0-9]+)(?:-(?P<last>[0-9]+))? |\+(?P<before>[0-9]+) )?(?P<times>[0-9]+ times )?"
                   r"\|(?: (?P<content>.*))?")
 LEFT_OUT = re.compile(r"([0-9]+)(?:-([0-9]+))? -")
-CALL = re.compile(r"(?:(?P<check>check)|(?P<call>unfold|read|write|list)(?: (?P<file>.+?))? against) (?P<model>.+)")
+CALL = re.compile(r"(?:(?P<check>check)|(?P<call>unfold|read|write|list)(?: (?P<file>.+?))? against)"
+                  r"(?: (?P<model>.+))?")
 CHANGE = re.compile(r"(text|marks|rows|cells|points) ([0-9]+) is (.+)")
+BEHIND_MODEL = ("rooms", "answer")
 RANGE = re.compile(r"\\x([0-9a-f]{2})\.\.\\x([0-9a-f]{2})")
 
 
@@ -97,12 +99,16 @@ class Body:
         self.case, self.known, self.cases = case, known, cases
         self.base = None
         self.own, self.edits, self.changes = [], [], []
+        self.model_words, self.in_model = None, False
         self.counts, self.into = None, None
 
     def line(self, line):
         word = line.split(" ")[0]
         method = getattr(self, "word_" + word, None)
-        if CHANGE.fullmatch(line):
+        self.in_model = self.in_model and not (word in BEHIND_MODEL or LINE.fullmatch(line) or LEFT_OUT.fullmatch(line))
+        if self.in_model:
+            self.model_words.append(line)
+        elif CHANGE.fullmatch(line):
             self.changes.append(CHANGE.fullmatch(line).groups())
         elif CALL.fullmatch(line):
             self.call(CALL.fullmatch(line))
@@ -118,7 +124,10 @@ class Body:
     def call(self, said):
         need(not self.case.call, "there is a call already")
         self.case.call = said["check"] or said["call"]
-        self.case.model = self.known.of("models", said["model"])
+        if said["model"]:
+            self.case.model = self.known.of("models", said["model"])
+        else:
+            self.model_words, self.in_model = [], True
         if said["file"]:
             self.base = self.known.of("files", said["file"])
 
@@ -200,6 +209,9 @@ class Body:
     def finish(self):
         need(self.case.call, "there is no call")
         need(self.case.expected.answer, "there is no answer")
+        if self.model_words is not None:
+            need(self.model_words, "there is no model")
+            self.case.model = words.model(self.model_words, self.known.models)
         self.case.file = self.file_content()
         self.case.rooms = self.case.rooms or dict(self.known.rooms)
         if self.case.call == "write":
@@ -338,7 +350,7 @@ def said_values(path, block, known):
     for at, line in value_lines(lines):
         try:
             if line.startswith("from "):
-                sentences += said_sentences(line[5:])
+                sentences = sentences + said_sentences(line[5:])
                 continue
             case = Case((place(path), at), "%s: %s" % (kind, " ".join(line.split())), "  %s\n    %s" % (head, line),
                         sentences, model=model, rooms=dict(known.rooms))

@@ -85,10 +85,12 @@ def attribute(words, tables, topic):
     """An attribute's record: name, type, its parameters, optional."""
     optional = words[-1] == "optional"
     name, kind, *rest = words[:-1] if optional else words
-    need(kind in TYPES or kind == "coordinate", "the type is unknown: %s" % kind)
+    need(kind in TYPES or kind in ("coordinate", "type"), "the type is unknown: %s" % kind)
     if kind == "coordinate":
         parameters, code = components(rest)
         need(code in (2, 3), "a coordinate has two or three components")
+    elif kind == "type":
+        parameters, code = any_parameters(rest[1:]), number(rest[0], 0, 255)
     else:
         code = TYPES[kind]
         parameters = {"reference": lambda: struct.pack("<H", table_number(rest[0], tables, topic)),
@@ -96,6 +98,12 @@ def attribute(words, tables, topic):
                       "line": lambda: line_parameters(rest)}.get(
                           kind, lambda: struct.pack("<H", number(rest[0], 0, 65535)))()
     return record(5, bytes([optional, code]) + parameters + named(name))
+
+
+def any_parameters(words):
+    """The parameters of an attribute of any type: bytes, each an escape, then components."""
+    count = [word.startswith("\\") for word in words + ["0"]].index(False)
+    return b"".join(map(unescaped, words[:count])) + components(words[count:])[0]
 
 
 def line_parameters(words):
