@@ -57,10 +57,10 @@ class File:
 
 
 class Known:
-    """The models, files and rooms that blocks have said."""
+    """The models, files and rooms that blocks have said, and by which model a table is read where a model is bad."""
 
     def __init__(self):
-        self.models, self.files, self.rooms = {}, {}, {}
+        self.models, self.readers, self.files, self.rooms = {}, {}, {}, {}
 
     def of(self, what, name):
         need(name in getattr(self, what), "there is no %s %s" % (what[:-1], name))
@@ -70,8 +70,8 @@ class Known:
 def content_lines(line):
     """The lines that a line behind | says, each with its end."""
     content = line["content"] or ""
-    return [unescaped(one[:-2]) if one.endswith("\\c") else unescaped(one) + b"\n"
-            for one in words.repeated((line["times"] or "") + content)]
+    lines = words.repeated(line["times"] + content) if line["times"] else [content]
+    return [unescaped(one[:-2]) if one.endswith("\\c") else unescaped(one) + b"\n" for one in lines]
 
 
 def rooms_said(line, usual):
@@ -95,7 +95,7 @@ class Body:
 
     def __init__(self, case, known, cases):
         self.case, self.known, self.cases = case, known, cases
-        self.base = None
+        self.base, self.reader = None, None
         self.own, self.edits, self.changes = [], [], []
         self.counts, self.into = None, None
 
@@ -119,6 +119,7 @@ class Body:
         need(not self.case.call, "there is a call already")
         self.case.call = said["check"] or said["call"]
         self.case.model = self.known.of("models", said["model"])
+        self.reader = self.known.readers[said["model"]]
         if said["file"]:
             self.base = self.known.of("files", said["file"])
 
@@ -203,22 +204,23 @@ class Body:
         self.case.file = self.file_content()
         self.case.rooms = self.case.rooms or dict(self.known.rooms)
         if self.case.call == "write":
-            self.case.table = lent_table(self.case, self.changes, self.counts)
+            self.case.table = lent_table(self.case, self.reader, self.changes, self.counts)
         else:
             need(not self.changes and not self.counts, "only a table that is written is changed")
         complete(self.case)
 
 
-def lent_table(case, changes, counts):
+def lent_table(case, reader, changes, counts):
     """The table that reading the file gives, with its changes, as much of it as is lent."""
     rooms = case.rooms
     large = oracle.Rooms(max(len(case.file), rooms["text"]), max(576, rooms["marks"]), max(2000, rooms["rows"]),
                          max(20000, rooms["cells"]), max(20000, rooms["points"]))
-    result = oracle.read(case.model, case.file, large)
+    result = oracle.read(reader, case.file, large)
     need(result.answer[0] == 0, "the file is refused: %d %d %d %d" % result.answer)
     for which, at, said in changes:
         values = list(unescaped(said)) if which == "text" else [
             number(word, *CELL) if which in ("cells", "points") else number(word) for word in said.split()]
+        need(int(at) + len(values) <= len(getattr(result, which)), "the table has no such place")
         getattr(result, which)[int(at):int(at) + len(values)] = values
     lent = [list(getattr(result, which))[:rooms[which]] for which in ("text", "marks", "rows", "cells", "points")]
     return oracle.Lent(*lent, *(counts or result.answer[1:]))
@@ -362,6 +364,12 @@ def said_file(lines):
     return file
 
 
+def reader_of(known, name, lines):
+    """The model by which tables of this one are read: itself, or where it is bad the one that it is like."""
+    like = [line[5:] for line in lines if line.startswith("like ")]
+    return known.readers[like[0]] if like and oracle.check(known.models[name])[0] else known.models[name]
+
+
 def said_block(path, block, known, cases):
     """Takes up a block: what it makes known, or its cases."""
     _, head, lines = block
@@ -372,6 +380,7 @@ def said_block(path, block, known, cases):
     elif word == "model":
         need(name not in known.models, "the model is there already")
         known.models[name] = words.model([line for _, line in lines], known.models)
+        known.readers[name] = reader_of(known, name, [line for _, line in lines])
     elif word == "file":
         need(name not in known.files, "the file is there already")
         known.files[name] = said_file(lines)
