@@ -90,14 +90,48 @@ def said_sentences(rest):
     return [part.strip() for part in re.findall(r'"[^"]*"|[^;"]+', rest) if part.strip(" ;")]
 
 
+class Lines:
+    """The lines of a file with their changes, or lines of their own."""
+
+    def __init__(self, base=None):
+        self.base, self.own, self.edits = base, [], []
+
+    def line(self, line):
+        content = content_lines(line)
+        if line["before"]:
+            self.edits.append((int(line["before"]), int(line["before"]), content))
+        elif line["first"]:
+            self.edits.append((int(line["first"]), int(line["last"] or line["first"]) + 1, content))
+        else:
+            (self.edits[-1][2] if self.edits else self.own).extend(content)
+
+    def left_out(self, first, last):
+        self.edits.append((int(first), int(last or first) + 1, []))
+
+    def content(self):
+        """The bytes that the lines make."""
+        lines = self.base.lines if self.base else []
+        edits = list(self.edits)
+        if self.own:
+            need(not self.base or self.base.gap is not None, "the file has no ... for lines without a number")
+            at = self.base.gap + 1 if self.base else 1
+            edits.append((at, at, self.own))
+        out, at = [], 0
+        for first, behind, new in sorted(edits, key=lambda edit: edit[:2]):
+            need(at < first <= behind <= len(lines) + 1, "the file has no such lines, or they are said twice")
+            out += lines[at:first - 1] + new
+            at = behind - 1
+        return b"".join(out + lines[at:])
+
+
 class Body:
     """What the lines of a case have said so far."""
 
     def __init__(self, case, known, cases):
         self.case, self.known, self.cases = case, known, cases
-        self.base, self.reader = None, None
-        self.own, self.edits, self.changes = [], [], []
-        self.counts, self.into = None, None
+        self.reader, self.counts, self.changes = None, None, []
+        self.parts = {"file": Lines()}
+        self.lines = self.parts["file"]
 
     def line(self, line):
         word = line.split(" ")[0]
@@ -107,10 +141,9 @@ class Body:
         elif CALL.fullmatch(line):
             self.call(CALL.fullmatch(line))
         elif LINE.fullmatch(line):
-            self.file_line(LINE.fullmatch(line))
+            self.lines.line(LINE.fullmatch(line))
         elif LEFT_OUT.fullmatch(line):
-            first, last = LEFT_OUT.fullmatch(line).groups()
-            self.edits.append((int(first), int(last or first) + 1, []))
+            self.lines.left_out(*LEFT_OUT.fullmatch(line).groups())
         else:
             need(method, "the word is unknown: %s" % word)
             method(line[len(word) + 1:])
@@ -121,20 +154,7 @@ class Body:
         self.case.model = self.known.of("models", said["model"])
         self.reader = self.known.readers[said["model"]]
         if said["file"]:
-            self.base = self.known.of("files", said["file"])
-
-    def file_line(self, line):
-        """A line of the file, of an edit of it, or of the text or output that is expected."""
-        content = content_lines(line)
-        if self.into:
-            need(not (line["first"] or line["before"]), "an expected line has no number")
-            setattr(self.case.expected, self.into, getattr(self.case.expected, self.into) + b"".join(content))
-        elif line["before"]:
-            self.edits.append((int(line["before"]), int(line["before"]), content))
-        elif line["first"]:
-            self.edits.append((int(line["first"]), int(line["last"] or line["first"]) + 1, content))
-        else:
-            (self.edits[-1][2] if self.edits else self.own).extend(content)
+            self.parts["file"].base = self.known.of("files", said["file"])
 
     def word_from(self, rest):
         self.case.sentences += said_sentences(rest)
@@ -172,10 +192,9 @@ class Body:
         self.cells_of("points", rest)
 
     def content_of(self, part, rest):
-        """Lines that follow, or a file's content."""
-        content = b"".join(self.known.of("files", rest[3:]).lines) if rest.startswith("of ") else b""
-        setattr(self.case.expected, part, content)
-        self.into = None if rest else part
+        """Lines that follow, or a file's lines, which those that follow change."""
+        need(not rest or rest.startswith("of "), "lines, or those of a file, are due")
+        self.lines = self.parts[part] = Lines(self.known.of("files", rest[3:]) if rest else None)
 
     def word_text(self, rest):
         self.content_of("text", rest)
@@ -183,25 +202,12 @@ class Body:
     def word_output(self, rest):
         self.content_of("output", rest)
 
-    def file_content(self):
-        """The file that the case's lines make."""
-        lines = self.base.lines if self.base else []
-        edits = list(self.edits)
-        if self.own:
-            need(not self.base or self.base.gap is not None, "the file has no ... for lines without a number")
-            at = self.base.gap + 1 if self.base else 1
-            edits.append((at, at, self.own))
-        out, at = [], 0
-        for first, behind, new in sorted(edits, key=lambda edit: edit[:2]):
-            need(at < first <= behind <= len(lines) + 1, "the file has no such lines, or they are said twice")
-            out += lines[at:first - 1] + new
-            at = behind - 1
-        return b"".join(out + lines[at:])
-
     def finish(self):
         need(self.case.call, "there is no call")
         need(self.case.expected.answer, "there is no answer")
-        self.case.file = self.file_content()
+        self.case.file = self.parts.pop("file").content()
+        for part, lines in self.parts.items():
+            setattr(self.case.expected, part, lines.content())
         self.case.rooms = self.case.rooms or dict(self.known.rooms)
         if self.case.call == "write":
             self.case.table = lent_table(self.case, self.reader, self.changes, self.counts)
