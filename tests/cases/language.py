@@ -59,10 +59,10 @@ class File:
 
 
 class Known:
-    """The models, files and rooms that blocks have said."""
+    """The models, files and rooms that blocks have said, and by which model a table is read where a model is bad."""
 
     def __init__(self):
-        self.models, self.files, self.rooms = {}, {}, {}
+        self.models, self.readers, self.files, self.rooms = {}, {}, {}, {}
 
     def of(self, what, name):
         need(name in getattr(self, what), "there is no %s %s" % (what[:-1], name))
@@ -72,8 +72,8 @@ class Known:
 def content_lines(line):
     """The lines that a line behind | says, each with its end."""
     content = line["content"] or ""
-    return [unescaped(one[:-2]) if one.endswith("\\c") else unescaped(one) + b"\n"
-            for one in words.repeated((line["times"] or "") + content)]
+    lines = words.repeated(line["times"] + content) if line["times"] else [content]
+    return [unescaped(one[:-2]) if one.endswith("\\c") else unescaped(one) + b"\n" for one in lines]
 
 
 def rooms_said(line, usual):
@@ -92,15 +92,49 @@ def said_sentences(rest):
     return [part.strip() for part in re.findall(r'"[^"]*"|[^;"]+', rest) if part.strip(" ;")]
 
 
+class Lines:
+    """The lines of a file with their changes, or lines of their own."""
+
+    def __init__(self, base=None):
+        self.base, self.own, self.edits = base, [], []
+
+    def line(self, line):
+        content = content_lines(line)
+        if line["before"]:
+            self.edits.append((int(line["before"]), int(line["before"]), content))
+        elif line["first"]:
+            self.edits.append((int(line["first"]), int(line["last"] or line["first"]) + 1, content))
+        else:
+            (self.edits[-1][2] if self.edits else self.own).extend(content)
+
+    def left_out(self, first, last):
+        self.edits.append((int(first), int(last or first) + 1, []))
+
+    def content(self):
+        """The bytes that the lines make."""
+        lines = self.base.lines if self.base else []
+        edits = list(self.edits)
+        if self.own:
+            need(not self.base or self.base.gap is not None, "the file has no ... for lines without a number")
+            at = self.base.gap + 1 if self.base else 1
+            edits.append((at, at, self.own))
+        out, at = [], 0
+        for first, behind, new in sorted(edits, key=lambda edit: edit[:2]):
+            need(at < first <= behind <= len(lines) + 1, "the file has no such lines, or they are said twice")
+            out += lines[at:first - 1] + new
+            at = behind - 1
+        return b"".join(out + lines[at:])
+
+
 class Body:
     """What the lines of a case have said so far."""
 
     def __init__(self, case, known, cases):
         self.case, self.known, self.cases = case, known, cases
-        self.base = None
-        self.own, self.edits, self.changes = [], [], []
+        self.reader, self.counts, self.changes = None, None, []
         self.model_words, self.in_model = None, False
-        self.counts, self.into = None, None
+        self.parts = {"file": Lines()}
+        self.lines = self.parts["file"]
 
     def line(self, line):
         word = line.split(" ")[0]
@@ -113,10 +147,9 @@ class Body:
         elif CALL.fullmatch(line):
             self.call(CALL.fullmatch(line))
         elif LINE.fullmatch(line):
-            self.file_line(LINE.fullmatch(line))
+            self.lines.line(LINE.fullmatch(line))
         elif LEFT_OUT.fullmatch(line):
-            first, last = LEFT_OUT.fullmatch(line).groups()
-            self.edits.append((int(first), int(last or first) + 1, []))
+            self.lines.left_out(*LEFT_OUT.fullmatch(line).groups())
         else:
             need(method, "the word is unknown: %s" % word)
             method(line[len(word) + 1:])
@@ -126,23 +159,11 @@ class Body:
         self.case.call = said["check"] or said["call"]
         if said["model"]:
             self.case.model = self.known.of("models", said["model"])
+            self.reader = self.known.readers[said["model"]]
         else:
             self.model_words, self.in_model = [], True
         if said["file"]:
-            self.base = self.known.of("files", said["file"])
-
-    def file_line(self, line):
-        """A line of the file, of an edit of it, or of the text or output that is expected."""
-        content = content_lines(line)
-        if self.into:
-            need(not (line["first"] or line["before"]), "an expected line has no number")
-            setattr(self.case.expected, self.into, getattr(self.case.expected, self.into) + b"".join(content))
-        elif line["before"]:
-            self.edits.append((int(line["before"]), int(line["before"]), content))
-        elif line["first"]:
-            self.edits.append((int(line["first"]), int(line["last"] or line["first"]) + 1, content))
-        else:
-            (self.edits[-1][2] if self.edits else self.own).extend(content)
+            self.parts["file"].base = self.known.of("files", said["file"])
 
     def word_from(self, rest):
         self.case.sentences += said_sentences(rest)
@@ -180,10 +201,9 @@ class Body:
         self.cells_of("points", rest)
 
     def content_of(self, part, rest):
-        """Lines that follow, or a file's content."""
-        content = b"".join(self.known.of("files", rest[3:]).lines) if rest.startswith("of ") else b""
-        setattr(self.case.expected, part, content)
-        self.into = None if rest else part
+        """Lines that follow, or a file's lines, which those that follow change."""
+        need(not rest or rest.startswith("of "), "lines, or those of a file, are due")
+        self.lines = self.parts[part] = Lines(self.known.of("files", rest[3:]) if rest else None)
 
     def word_text(self, rest):
         self.content_of("text", rest)
@@ -191,46 +211,34 @@ class Body:
     def word_output(self, rest):
         self.content_of("output", rest)
 
-    def file_content(self):
-        """The file that the case's lines make."""
-        lines = self.base.lines if self.base else []
-        edits = list(self.edits)
-        if self.own:
-            need(not self.base or self.base.gap is not None, "the file has no ... for lines without a number")
-            at = self.base.gap + 1 if self.base else 1
-            edits.append((at, at, self.own))
-        out, at = [], 0
-        for first, behind, new in sorted(edits, key=lambda edit: edit[:2]):
-            need(at < first <= behind <= len(lines) + 1, "the file has no such lines, or they are said twice")
-            out += lines[at:first - 1] + new
-            at = behind - 1
-        return b"".join(out + lines[at:])
-
     def finish(self):
         need(self.case.call, "there is no call")
         need(self.case.expected.answer, "there is no answer")
         if self.model_words is not None:
             need(self.model_words, "there is no model")
-            self.case.model = words.model(self.model_words, self.known.models)
-        self.case.file = self.file_content()
+            self.case.model = self.reader = words.model(self.model_words, self.known.models)
+        self.case.file = self.parts.pop("file").content()
+        for part, lines in self.parts.items():
+            setattr(self.case.expected, part, lines.content())
         self.case.rooms = self.case.rooms or dict(self.known.rooms)
         if self.case.call == "write":
-            self.case.table = lent_table(self.case, self.changes, self.counts)
+            self.case.table = lent_table(self.case, self.reader, self.changes, self.counts)
         else:
             need(not self.changes and not self.counts, "only a table that is written is changed")
         complete(self.case)
 
 
-def lent_table(case, changes, counts):
+def lent_table(case, reader, changes, counts):
     """The table that reading the file gives, with its changes, as much of it as is lent."""
     rooms = case.rooms
     large = oracle.Rooms(max(len(case.file), rooms["text"]), max(576, rooms["marks"]), max(2000, rooms["rows"]),
                          max(20000, rooms["cells"]), max(20000, rooms["points"]))
-    result = oracle.read(case.model, case.file, large)
+    result = oracle.read(reader, case.file, large)
     need(result.answer[0] == 0, "the file is refused: %d %d %d %d" % result.answer)
     for which, at, said in changes:
         values = list(unescaped(said)) if which == "text" else [
             number(word, *CELL) if which in ("cells", "points") else number(word) for word in said.split()]
+        need(int(at) + len(values) <= len(getattr(result, which)), "the table has no such place")
         getattr(result, which)[int(at):int(at) + len(values)] = values
     lent = [list(getattr(result, which))[:rooms[which]] for which in ("text", "marks", "rows", "cells", "points")]
     return oracle.Lent(*lent, *(counts or result.answer[1:]))
@@ -374,6 +382,12 @@ def said_file(lines):
     return file
 
 
+def reader_of(known, name, lines):
+    """The model by which tables of this one are read: itself, or where it is bad the one that it is like."""
+    like = [line[5:] for line in lines if line.startswith("like ")]
+    return known.readers[like[0]] if like and oracle.check(known.models[name])[0] else known.models[name]
+
+
 def said_block(path, block, known, cases):
     """Takes up a block: what it makes known, or its cases."""
     _, head, lines = block
@@ -384,6 +398,7 @@ def said_block(path, block, known, cases):
     elif word == "model":
         need(name not in known.models, "the model is there already")
         known.models[name] = words.model([line for _, line in lines], known.models)
+        known.readers[name] = reader_of(known, name, [line for _, line in lines])
     elif word == "file":
         need(name not in known.files, "the file is there already")
         known.files[name] = said_file(lines)
