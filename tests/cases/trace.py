@@ -39,7 +39,7 @@ class Row:
 
 def plain(words):
     """A first column, or a mark, without what is there for its looks."""
-    words = words.replace("*", "").replace("`", "").strip()
+    words = words.replace("*", "").replace("`", "").replace("\\|", "|").strip()
     return words[1:-1] if len(words) > 1 and words[0] == words[-1] == '"' else words
 
 
