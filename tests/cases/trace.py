@@ -1,11 +1,11 @@
-#!/usr/bin/env python3
 """The column `Cases` of docs/TRACE.md, from what the cases of tests/cases derive from.
 
     trace.py            writes the column
     trace.py --check    writes nothing, and fails where the column is not what it would write
 
 A row is known by its first column. The mark `D1` of a case belongs to the row of this reading; a mark in quotes belongs
-to the row that begins with it. A cell that begins with `-` is written by hand: it says why no case can be run."""
+to the row that begins with it. A cell that begins with `-` is written by hand: it says why no case can be run, or which
+row's cases try it."""
 
 import pathlib
 import re
