@@ -19,6 +19,7 @@ LINE = re.compile(r"(?:(?P<first>[0-9]+)(?:-(?P<last>[0-9]+))? |\+(?P<before>[0-
 LEFT_OUT = re.compile(r"([0-9]+)(?:-([0-9]+))? -")
 CALL = re.compile(r"(?:(?P<check>check)|(?P<call>unfold|read|write|list)(?: (?P<file>.+?))? against) (?P<model>.+)")
 CHANGE = re.compile(r"(text|marks|rows|cells|points) ([0-9]+) is (.+)")
+UNENDED = re.compile(r"(?:[^\\]|\\.)*\\c")
 RANGE = re.compile(r"\\x([0-9a-f]{2})\.\.\\x([0-9a-f]{2})")
 
 
@@ -71,7 +72,7 @@ def content_lines(line):
     """The lines that a line behind | says, each with its end."""
     content = line["content"] or ""
     lines = words.repeated(line["times"] + content) if line["times"] else [content]
-    return [unescaped(one[:-2]) if one.endswith("\\c") else unescaped(one) + b"\n" for one in lines]
+    return [unescaped(one[:-2]) if UNENDED.fullmatch(one) else unescaped(one) + b"\n" for one in lines]
 
 
 def rooms_said(line, usual):
@@ -224,8 +225,8 @@ def lent_table(case, reader, changes, counts):
     result = oracle.read(reader, case.file, large)
     need(result.answer[0] == 0, "the file is refused: %d %d %d %d" % result.answer)
     for which, at, said in changes:
-        values = list(unescaped(said)) if which == "text" else [
-            number(word, *CELL) if which in ("cells", "points") else number(word) for word in said.split()]
+        bounds = {"marks": (0, 255), "rows": (0, 2 ** 64 - 1)}.get(which, CELL)
+        values = list(unescaped(said)) if which == "text" else [number(word, *bounds) for word in said.split()]
         need(int(at) + len(values) <= len(getattr(result, which)), "the table has no such place")
         getattr(result, which)[int(at):int(at) + len(values)] = values
     lent = [list(getattr(result, which))[:rooms[which]] for which in ("text", "marks", "rows", "cells", "points")]
