@@ -21,6 +21,7 @@ CALL = re.compile(r"(?:(?P<check>check)|(?P<call>unfold|read|write|list)(?: (?P<
                   r"(?: (?P<model>.+))?")
 CHANGE = re.compile(r"(text|marks|rows|cells|points) ([0-9]+) is (.+)")
 BEHIND_MODEL = ("rooms", "answer")
+UNENDED = re.compile(r"(?:[^\\]|\\.)*\\c")
 RANGE = re.compile(r"\\x([0-9a-f]{2})\.\.\\x([0-9a-f]{2})")
 
 
@@ -38,6 +39,7 @@ class Expected:
 @dataclasses.dataclass
 class Case:
     """A case: where it stands, its words, what it derives from, the call with all it is given, and what is expected."""
+    block: str
     place: tuple
     name: str
     source: str
@@ -73,7 +75,7 @@ def content_lines(line):
     """The lines that a line behind | says, each with its end."""
     content = line["content"] or ""
     lines = words.repeated(line["times"] + content) if line["times"] else [content]
-    return [unescaped(one[:-2]) if one.endswith("\\c") else unescaped(one) + b"\n" for one in lines]
+    return [unescaped(one[:-2]) if UNENDED.fullmatch(one) else unescaped(one) + b"\n" for one in lines]
 
 
 def rooms_said(line, usual):
@@ -236,8 +238,8 @@ def lent_table(case, reader, changes, counts):
     result = oracle.read(reader, case.file, large)
     need(result.answer[0] == 0, "the file is refused: %d %d %d %d" % result.answer)
     for which, at, said in changes:
-        values = list(unescaped(said)) if which == "text" else [
-            number(word, *CELL) if which in ("cells", "points") else number(word) for word in said.split()]
+        bounds = {"marks": (0, 255), "rows": (0, 2 ** 64 - 1)}.get(which, CELL)
+        values = list(unescaped(said)) if which == "text" else [number(word, *bounds) for word in said.split()]
         need(int(at) + len(values) <= len(getattr(result, which)), "the table has no such place")
         getattr(result, which)[int(at):int(at) + len(values)] = values
     lent = [list(getattr(result, which))[:rooms[which]] for which in ("text", "marks", "rows", "cells", "points")]
@@ -296,7 +298,7 @@ def said_case(path, block, known, cases):
     name = head.split(" ", 1)[1]
     need(all(case.name != name for case in cases), "the name is there already")
     source = "\n".join(["  " + head] + ["    " + line for _, line in lines])
-    body = Body(Case((place(path), at), name, source, []), known, cases)
+    body = Body(Case("case", (place(path), at), name, source, []), known, cases)
     for at, line in lines:
         try:
             body.line(line)
@@ -360,8 +362,9 @@ def said_values(path, block, known):
             if line.startswith("from "):
                 sentences = sentences + said_sentences(line[5:])
                 continue
-            case = Case((place(path), at), "%s: %s" % (kind, " ".join(line.split())), "  %s\n    %s" % (head, line),
-                        sentences, model=model, rooms=dict(known.rooms))
+            name = "%s: %s" % (kind, " ".join(line.split()))
+            case = Case(word, (place(path), at), name, "  %s\n    %s" % (head, line), sentences, model=model,
+                        rooms=dict(known.rooms))
             (read_value if word == "values" else write_value)(case, line.split(), known)
             complete(case)
             yield case
