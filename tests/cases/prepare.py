@@ -147,10 +147,11 @@ def put_case(prepared, case):
 
 
 def put_generated(prepared, cases):
-    """The cases that the independent implementation makes, also from those of tests/cases."""
+    """The cases that the independent implementation makes, also from those of tests/cases but single values."""
     for name, call, arguments in generated.generated():
         if call in ("check", "unfold"):
             getattr(prepared, call)(GENERATED + name, *arguments)
+    cases = [case for case in cases if case.block == "case"]
     read = list(language.read_cases(cases))
     written = [(case.name, case.model, case.table, case.width, case.rooms["output"]) for case in cases
                if case.call == "write"]
