@@ -1,6 +1,7 @@
 """The cases of tests/cases, from the words that tests/README.md explains. A line that is wrong ends the reading, and is
 told with its place."""
 
+import contextlib
 import dataclasses
 import pathlib
 import re
@@ -268,14 +269,25 @@ def complete(case):
     need(said is None or len(said) == e.answer[1], "the bytes are not as many as the answer says")
 
 
+@contextlib.contextmanager
+def told(at):
+    """Says of what is wrong in a line its number."""
+    try:
+        yield
+    except Wrong as wrong:
+        raise Wrong(str(wrong), wrong.at or at) from None
+    except (ValueError, IndexError):
+        raise Wrong("words are missing, or there are too many", at) from None
+
+
 def blocks(path):
     """Each block of a file: the number of its first line, that line, and the others with their numbers."""
     block = None
-    for at, line in enumerate(path.read_text(encoding="ascii").split("\n"), 1):
+    for at, line in enumerate(path.read_text(encoding="latin-1").split("\n"), 1):
         if line.strip() == "" or line.lstrip().startswith("#"):
             continue
-        if line != line.rstrip():
-            raise SystemExit("%s, line %d: a blank at the end of a line is \\s" % (place(path), at))
+        if line != line.rstrip() or not line.isascii():
+            raise SystemExit("%s, line %d: a blank at a line's end is \\s, a byte above 7E \\xHH" % (place(path), at))
         if not line.startswith(" "):
             if block:
                 yield block
@@ -300,10 +312,8 @@ def said_case(path, block, known, cases):
     source = "\n".join(["  " + head] + ["    " + line for _, line in lines])
     body = Body(Case("case", (place(path), at), name, source, []), known, cases)
     for at, line in lines:
-        try:
+        with told(at):
             body.line(line)
-        except Wrong as wrong:
-            raise Wrong("line %d: %s" % (at, wrong)) from None
     body.finish()
     return body.case
 
@@ -351,25 +361,24 @@ def with_object(known, field):
     return b"".join(file.lines[:file.gap] + [b"OBJE a " + field + b"\n"] + file.lines[file.gap:])
 
 
-def said_values(path, block, known):
-    """The cases of a block of values or cells."""
-    first, head, lines = block
+def said_values(path, block, known, cases):
+    """Adds the cases of a block of values or cells."""
+    _, head, lines = block
     word, kind = head.split(" ", 1)
     model = words.model(["topic N", "table A", "V " + kind], known.models)
     sentences = []
     for at, line in value_lines(lines):
-        try:
-            if line.startswith("from "):
-                sentences = sentences + said_sentences(line[5:])
-                continue
-            name = "%s: %s" % (kind, " ".join(line.split()))
-            case = Case(word, (place(path), at), name, "  %s\n    %s" % (head, line), sentences, model=model,
-                        rooms=dict(known.rooms))
+        if line.startswith("from "):
+            sentences = sentences + said_sentences(line[5:])
+            continue
+        name = "%s: %s" % (kind, " ".join(line.split()))
+        case = Case(word, (place(path), at), name, "  %s\n    %s" % (head, line), sentences, model=model,
+                    rooms=dict(known.rooms))
+        with told(at):
+            need(all(name != other.name for other in cases), "the value is there already")
             (read_value if word == "values" else write_value)(case, line.split(), known)
             complete(case)
-            yield case
-        except (Wrong, ValueError) as wrong:
-            raise Wrong("line %d: %s" % (at, wrong)) from None
+        cases.append(case)
 
 
 def said_file(lines):
@@ -380,8 +389,9 @@ def said_file(lines):
             file.gap = len(file.lines)
         else:
             said = LINE.fullmatch(line)
-            need(said and not (said["first"] or said["before"]), "line %d: a line of a file stands behind |" % at)
-            file.lines += content_lines(said)
+            with told(at):
+                need(said and not (said["first"] or said["before"]), "a line of a file stands behind |")
+                file.lines += content_lines(said)
     return file
 
 
@@ -408,7 +418,7 @@ def said_block(path, block, known, cases):
     elif word == "case":
         cases.append(said_case(path, block, known, cases))
     else:
-        cases += said_values(path, block, known)
+        said_values(path, block, known, cases)
 
 
 def usual():
@@ -421,9 +431,10 @@ def usual():
 
 def take(path, block, known, cases):
     try:
-        said_block(path, block, known, cases)
+        with told(block[0]):
+            said_block(path, block, known, cases)
     except Wrong as wrong:
-        raise SystemExit("%s, line %d: %s" % (place(path), block[0], wrong)) from None
+        raise SystemExit("%s, line %d: %s" % (place(path), wrong.at, wrong)) from None
 
 
 def cases_of(path):
@@ -446,9 +457,9 @@ def rooms_of(case):
 
 
 def read_cases(cases):
-    """(name, model, file, rooms) of the cases that are read, or listed."""
+    """(name, model, file, rooms) of the cases that are read, or listed, but single values."""
     for case in cases:
-        if case.call == "read":
+        if case.call == "read" and case.block == "case":
             yield case.name, case.model, case.file, rooms_of(case)
         elif case.call == "list" and len(case.model + case.file) <= oracle.LISTING_LIMIT:
             yield (case.name,) + oracle.split_input(case.model + case.file) + (oracle.LISTING_ROOMS,)

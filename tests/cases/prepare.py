@@ -151,10 +151,9 @@ def put_generated(prepared, cases):
     for name, call, arguments in generated.generated():
         if call in ("check", "unfold"):
             getattr(prepared, call)(GENERATED + name, *arguments)
-    cases = [case for case in cases if case.block == "case"]
     read = list(language.read_cases(cases))
     written = [(case.name, case.model, case.table, case.width, case.rooms["output"]) for case in cases
-               if case.call == "write"]
+               if case.call == "write" and case.block == "case"]
     for name, *arguments in reads.all_cases(read):
         prepared.read(GENERATED + name, *arguments)
     for name, *arguments in writes.all_cases(written, read):

@@ -48,12 +48,12 @@ def shown(cases):
     files = {}
     for case in cases:
         files.setdefault(pathlib.Path(case.place[0]).stem, []).append(case.name.replace("|", "\\|"))
-    return "; ".join("%s: %s" % (file, few(names)) for file, names in files.items())
+    return " ".join("**%s** %s" % (file, few(names)) for file, names in files.items())
 
 
 def few(names):
     more = " and %d more" % (len(names) - SHOWN) if len(names) > SHOWN else ""
-    return ", ".join(names[:SHOWN]) + more
+    return "; ".join(names[:SHOWN]) + more
 
 
 def cells_of(line):

@@ -11,7 +11,11 @@ FORMS = {"straights": 1, "arcs": 2}
 
 
 class Wrong(Exception):
-    """What is wrong in a line of a file of cases."""
+    """What is wrong in a line of a file of cases, and the line's number where it is not the block's first."""
+
+    def __init__(self, what, at=None):
+        Exception.__init__(self, what)
+        self.at = at
 
 
 def need(condition, what):
