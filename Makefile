@@ -79,7 +79,7 @@ uninstall:
 dist: target/libproved.a
 	tar -czf target/vendorfinch-$(VERSION).tar.gz --transform 's,^,vendorfinch-$(VERSION)/,' --exclude __pycache__ \
 	    Makefile $(wildcard host/*.h) host/words.c host/model.c host/table.c command target/libproved.a sample \
-	    docs/STATION.md tests/command tests/oracle
+	    docs/STATION.md tests/command tests/oracle tests/cases
 
 # the proofs stay
 clean:

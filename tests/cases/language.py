@@ -18,6 +18,8 @@ ROOMS = ("text", "marks", "rows", "cells", "points", "output", "index", "answer"
 LINE = re.compile(r"(?:(?P<first>[0-9]+)(?:-(?P<last>[0-9]+))? |\+(?P<before>[0-9]+) )?(?P<times>[0-9]+ times )?"
                   r"\|(?: (?P<content>.*))?")
 LEFT_OUT = re.compile(r"([0-9]+)(?:-([0-9]+))? -")
+PARTS = {"check": (), "unfold": ("text",), "read": ("text", "marks", "rows", "points"), "write": ("output",),
+         "list": ("rows", "points")}
 CALL = re.compile(r"(?:(?P<check>check)|(?P<call>unfold|read|write|list)(?: (?P<file>.+?))? against)"
                   r"(?: (?P<model>.+))?")
 CHANGE = re.compile(r"(text|marks|rows|cells|points) ([0-9]+) is (.+)")
@@ -250,9 +252,10 @@ def lent_table(case, reader, changes, counts):
 def complete(case):
     """What goes without saying, and what must agree in what is said."""
     e = case.expected
-    if e.answer[0] or case.call == "check":
-        need(e.answer[0] == 0 or not any((e.text, e.marks, e.rows, e.points, e.output)),
-             "after a refusal all buffers are zero")
+    for part in ("text", "marks", "rows", "points", "output"):
+        need(getattr(e, part) is None or part in PARTS[case.call], "this call leaves no %s" % part)
+        need(e.answer[0] == 0 or not getattr(e, part), "after a refusal all buffers are zero")
+    if e.answer[0]:
         return
     if case.call in ("read", "unfold") and e.text is None:
         mark = case.model[6:7]
@@ -301,7 +304,7 @@ def blocks(path):
 
 
 def place(path):
-    return str(path.relative_to(ROOT))
+    return str(path.relative_to(ROOT) if path.is_relative_to(ROOT) else path)
 
 
 def said_case(path, block, known, cases):

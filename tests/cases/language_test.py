@@ -1,0 +1,158 @@
+"""The language of the cases: what words make, and what is said of words that are wrong."""
+
+import pathlib
+import tempfile
+import unittest
+
+import language
+
+SAMPLE = language.ROOT / "sample"
+
+
+def said(text):
+    """The cases that a text says."""
+    with tempfile.TemporaryDirectory() as folder:
+        path = pathlib.Path(folder) / "a.cases"
+        path.write_text(text, encoding="utf-8")
+        return language.cases_of(path)
+
+
+def case(*lines):
+    """The one case of these lines."""
+    return said("case a\n" + "".join("  %s\n" % line for line in lines))[0]
+
+
+def file_of(*lines):
+    return case("read sample against sample", *lines, "answer 7 1 1 0").file
+
+
+class Words(unittest.TestCase):
+    def test_sample(self):
+        sample = case("read sample against sample", "answer 7 1 1 0")
+        self.assertEqual(sample.model, (SAMPLE / "model.bin").read_bytes())
+        self.assertEqual(sample.file, (SAMPLE / "file.itf").read_bytes())
+
+    def test_edits(self):
+        lines = (SAMPLE / "file.itf").read_bytes().splitlines(keepends=True)
+        self.assertEqual(file_of("7 | x", "  | y"), b"".join(lines[:6] + [b"x\n", b"y\n"] + lines[7:]))
+        self.assertEqual(file_of("2-17 | x"), b"SCNT\nx\nENDE\n")
+        self.assertEqual(file_of("2-17 -", "1 | x"), b"x\nENDE\n")
+        self.assertEqual(file_of("2-18 -", "+2 | x", "+1 | y"), b"y\nSCNT\nx\n")
+        self.assertEqual(file_of("2-18 -", "+19 | x"), b"SCNT\nx\n")
+
+    def test_own_lines(self):
+        own = case("read against sample", "| x", "|", "3 times | a{n}", "answer 7 1 1 0")
+        self.assertEqual(own.file, b"x\n\na0\na1\na2\n")
+        self.assertEqual(case("read against sample", "answer 7 1 1 0").file, b"")
+        gap = case("read frame against sample", "| x", "answer 7 1 1 0")
+        self.assertEqual(gap.file, b"SCNT\n////\nMTID T\nMODL M\nx\nEMOD\nENDE\n")
+
+    def test_escapes(self):
+        own = case("read against sample", r"| \\\t\s\r\n\xff\3*a\2*\x01\2*\\", r"| \\c", r"| x\c", "answer 7 1 1 0")
+        self.assertEqual(own.file, b"\\\t \r\n\xffaaa\x01\x01\\\\\n\\c\nx")
+
+    def test_models(self):
+        bad = said("model a\n  bare\n  transfer T ! # $\n  record 5 \\x00x\n  bytes yz\n  end\n  less 1\n"
+                   "case a\n  check a\n  answer 2 8 0 0\n")[0]
+        self.assertEqual(bad.model, b"\4\0\1\0!#$T\2\0\5\0\0xyz\0\0\6")
+        own = case("check", "2 times topic N{n}; table A optional; r reference A", 'e enumeration 3 optional', "no end",
+                   "answer 0 2 0 0")
+        table = b"\2\0\4\0\1A\5\0\5\0\0\1%c\0r"
+        self.assertEqual(own.model, b"\4\0\1\0_@\\T\1\0\2\0M" + b"\2\0\3\0N0" + table % 0 + b"\2\0\3\0N1" + table % 1
+                         + b"\5\0\5\0\1\7\3\0e")
+
+    def test_table(self):
+        made = case("write sample against sample", "cells 13 is 2 3", "text 51 is xy", "counts 1 2 3", "width 16",
+                    "rooms rows 1 output 9", "answer 19 0 0 0")
+        self.assertEqual((made.table.cells[12:15], bytes(made.table.text[50:54])), ([1, 2, 3], b" xy "))
+        self.assertEqual((made.table.objects, made.table.cells_used, made.table.points_used), (1, 2, 3))
+        self.assertEqual((made.table.rows, made.rooms["output"], made.width), ([0], 9, 16))
+
+    def test_expectation(self):
+        made = case("read table against one(D)", "| OBJE a 19990101", "answer 0 1 5 0", "row 0 43 1 1 19990101",
+                    "marks 1 1", "text of table", "| OBJE a 19990101")
+        self.assertEqual((made.expected.rows, made.expected.points), ([[0, 43, 1, 1, 19990101]], []))
+        self.assertEqual((made.expected.marks, made.expected.text), ([1, 1], made.file))
+        first, second = said("case a\n  unfold against sample\n  | x\n  answer 0 2 0 0\n"
+                             "case b\n  unfold against sample\n  | x\\r\n  as a\n")
+        self.assertEqual((first.expected.text, second.expected.text), (b"x\n", b"x\n"))
+
+    def test_unsaid(self):
+        cut = case("read against sample", "| x\\\\", "| CONT y", "answer 0 1 5 1")
+        self.assertEqual([getattr(cut.expected, part) for part in ("text", "marks", "rows", "points")], [None] * 4)
+
+    def test_values(self):
+        read = said("values text 2\n  from D1\n  \\x61..\\x62 is 2 45\n  \\x01 answer 4 7 0 0\n  xyz refused 14\n")
+        self.assertEqual([one.expected.answer for one in read],
+                         [(0, 1, 5, 0), (0, 1, 5, 0), (4, 7, 0, 0), (14, 7, 3, 0)])
+        self.assertEqual(read[1].file[38:47], b"OBJE a b\n")
+        self.assertEqual((read[1].expected.rows, read[3].sentences), ([[0, 43, 1, 2, 45]], ["D1"]))
+        written, refused = said("cells date\n  1 101 as 00000101\n  1 0 refused 19\n")
+        self.assertEqual((written.table.cells, written.expected.output[38:54]), ([0, 0, 1, 1, 101], b"OBJE a 00000101\n"))
+        self.assertEqual((refused.expected.answer, refused.expected.output), ((19, 0, 0, 0), None))
+
+
+WRONG = [
+    ("foo", "line 1: the block is unknown"),
+    ("  answer 0 0 0 0", "line 1: a block begins at the margin"),
+    ("case a\n  read x against sample\n  answer 0 0 0 0", "line 2: there is no file x"),
+    ("case a\n  read sample against x\n  answer 0 0 0 0", "line 2: there is no model x"),
+    ("case a\n  read sample against sample", "line 1: there is no answer"),
+    ("case a\n  answer 0 0 0 0", "line 1: there is no call"),
+    ("case a\n  check sample\n  check sample\n  answer 0 1 0 0", "line 3: there is a call already"),
+    ("case a\n  check sample\n  answer 0 1 0", "line 3: an answer is four numbers"),
+    ("case a\n  check sample\n  answer 0 1 0 x", "line 3: a number is due, not x"),
+    ("case a\n  check sample\n  anser 0 1 0 0", "line 3: the word is unknown: anser"),
+    ("case a\n  check sample\n  answer 0 1 0 0\ncase a\n  check sample\n  answer 0 1 0 0",
+     "line 4: the name is there already"),
+    ("case a\n  check sample \n  answer 0 1 0 0", "line 2: a blank at a line's end is \\s, a byte above 7E \\xHH"),
+    ("case \xe4\n", "line 1: a blank at a line's end is \\s, a byte above 7E \\xHH"),
+    ("case a\n  read sample against sample\n  40 | x\n  answer 0 0 0 0",
+     "line 1: the file has no such lines, or they are said twice"),
+    ("case a\n  read sample against sample\n  7 | x\n  7 | y\n  answer 0 0 0 0",
+     "line 1: the file has no such lines, or they are said twice"),
+    ("case a\n  read sample against sample\n  | x\n  answer 0 0 0 0",
+     "line 1: the file has no ... for lines without a number"),
+    ("case a\n  read against sample\n  | \\q\n  answer 0 0 0 0", "line 3: an escape is unknown: \\q"),
+    ("case a\n  read sample against sample\n  answer 0 2 18 3\n  row 1 2 3",
+     "line 1: the rows are not those that the answer counts"),
+    ("case a\n  read sample against sample\n  answer 0 2 18 3\n  point 1 2 3",
+     "line 1: the points are not those that the answer counts"),
+    ("case a\n  read sample against sample\n  answer 14 7 5 0\n  marks 1",
+     "line 1: after a refusal all buffers are zero"),
+    ("case a\n  check sample\n  answer 0 1 0 0\n  marks 1", "line 1: this call leaves no marks"),
+    ("case a\n  list sample against sample\n  answer 0 2 18 3\n  text of sample", "line 1: this call leaves no text"),
+    ("case a\n  unfold against sample\n  | x\n  answer 0 3 0 0",
+     "line 1: the bytes are not as many as the answer says"),
+    ("case a\n  read sample against sample\n  rooms tex 3\n  answer 0 0 0 0", "line 3: there is no room tex"),
+    ("case a\n  write sample against sample\n  cells 99999 is 3\n  answer 19 0 0 0",
+     "line 1: the table has no such place"),
+    ("case a\n  write sample against sample\n  7 | x\n  answer 19 0 0 0", "line 1: the file is refused: 7 7 1 0"),
+    ("case a\n  read sample against sample\n  cells 1 is 3\n  answer 7 1 1 0",
+     "line 1: only a table that is written is changed"),
+    ("case a\n  check sample\n  as b", "line 3: no case before this one is named b"),
+    ("model a\n  topic N; table A; a foo", "line 1: the type is unknown: foo"),
+    ("model a\n  topic N; table A; a text", "line 1: words are missing, or there are too many"),
+    ("model a\n  topic N; table A; a number 0..9", "line 1: the decimals are missing"),
+    ("model a\n  topic N; table A; a coordinate 1 0..9", "line 1: a coordinate has two or three components"),
+    ("model a\n  topic N; table A; a reference B", "line 1: the topic has no table B"),
+    ("model sample\n  topic N", "line 1: the model is there already"),
+    ("file sample\n  | x", "line 1: the file is there already"),
+    ("file a\n  7 | x", "line 2: a line of a file stands behind |"),
+    ("values date\n  19990101", "line 2: words are missing, or there are too many"),
+    ("values date\n  19990101 was 1 2", "line 2: a field is, is refused, or has an answer"),
+    ("values date\n  1 refused 13\n  1 refused 13", "line 3: the value is there already"),
+    ("cells date\n  1 2 was 3", "line 2: cells are written as a field, or refused"),
+]
+
+
+class Mistakes(unittest.TestCase):
+    def test_messages(self):
+        for text, message in WRONG:
+            with self.subTest(text), self.assertRaises(SystemExit) as raised:
+                said(text + "\n")
+            self.assertTrue(str(raised.exception).endswith(message), str(raised.exception))
+
+
+if __name__ == "__main__":
+    unittest.main()
