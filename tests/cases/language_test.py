@@ -88,7 +88,8 @@ class Words(unittest.TestCase):
         self.assertEqual(read[1].file[38:47], b"OBJE a b\n")
         self.assertEqual((read[1].expected.rows, read[3].sentences), ([[0, 43, 1, 2, 45]], ["D1"]))
         written, refused = said("cells date\n  1 101 as 00000101\n  1 0 refused 19\n")
-        self.assertEqual((written.table.cells, written.expected.output[38:54]), ([0, 0, 1, 1, 101], b"OBJE a 00000101\n"))
+        self.assertEqual(written.table.cells, [0, 0, 1, 1, 101])
+        self.assertEqual(written.expected.output[38:54], b"OBJE a 00000101\n")
         self.assertEqual((refused.expected.answer, refused.expected.output), ((19, 0, 0, 0), None))
 
 
