@@ -1,7 +1,8 @@
 /* Asks the proved library every case of a file that tests/cases/prepare.py wrote (its form stands there), and compares
  * each answer and the whole content of each room with what is expected by hand and with what the independent
  * implementation answers. Of a case that is wrong it prints the text, the three side by side, and which one is alone.
- * Its exit status is 0 only where all agree and each count is above zero; 2 where the file cannot be taken apart. */
+ * Its exit status is 0 only where all agree, each count is above zero and none by hand is missing; 2 where the file
+ * cannot be taken apart. */
 #include "vendorfinch.h"
 
 #include <stdio.h>
@@ -50,7 +51,7 @@ enum { GUARD = 8 };
 /* ---- The file of cases ------------------------------------------------------------------------------------------ */
 
 static const uint8_t *at, *end;
-static size_t taken;
+static size_t taken, due_by_hand;
 
 static _Noreturn void stop(const char *where, const char *why)
 {
@@ -544,6 +545,7 @@ int main(int count, char **names)
     if (count != 2)
         stop("cases", "say the file that tests/cases/prepare.py wrote");
     load(names[1]);
+    due_by_hand = take(4);
     while (at < end)
         try_case();
     if (wrong > MOST_SHOWN)
@@ -551,5 +553,8 @@ int main(int count, char **names)
     printf("cases: %zu of the check, %zu of unfolding, %zu of reading, %zu of writing; "
            "%zu with an expectation by hand; %zu wrong\n",
            of_call[CHECK], of_call[UNFOLD], of_call[READ], of_call[WRITE], by_hand, wrong);
-    return wrong || !of_call[CHECK] || !of_call[UNFOLD] || !of_call[READ] || !of_call[WRITE] || !by_hand;
+    if (by_hand != due_by_hand)
+        printf("%zu cases should have an expectation by hand.\n", due_by_hand);
+    return wrong || !of_call[CHECK] || !of_call[UNFOLD] || !of_call[READ] || !of_call[WRITE] || !by_hand ||
+           by_hand != due_by_hand;
 }

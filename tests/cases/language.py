@@ -18,8 +18,12 @@ ROOMS = ("text", "marks", "rows", "cells", "points", "output", "index", "answer"
 LINE = re.compile(r"(?:(?P<first>[0-9]+)(?:-(?P<last>[0-9]+))? |\+(?P<before>[0-9]+) )?(?P<times>[0-9]+ times )?"
                   r"\|(?: (?P<content>.*))?")
 LEFT_OUT = re.compile(r"([0-9]+)(?:-([0-9]+))? -")
+# what of the buffers each call leaves, and what else a case of it may say
 PARTS = {"check": (), "unfold": ("text",), "read": ("text", "marks", "rows", "points"), "write": ("output",),
          "list": ("rows", "points")}
+GIVEN = {"check": (), "unfold": ("line", "rooms"), "read": ("line", "rooms"),
+         "write": ("line", "rooms", "width", "counts", "change"), "list": ("line",)}
+ONCE = ("answer", "as", "rooms", "width", "counts", "marks", "text", "output")
 CALL = re.compile(r"(?:(?P<check>check)|(?P<call>unfold|read|write|list)(?: (?P<file>.+?))? against)"
                   r"(?: (?P<model>.+))?")
 CHANGE = re.compile(r"(text|marks|rows|cells|points) ([0-9]+) is (.+)")
@@ -53,6 +57,7 @@ class Case:
     rooms: dict = None
     width: int = 80
     table: oracle.Lent = None
+    is_whole: bool = True
     expected: Expected = dataclasses.field(default_factory=Expected)
 
 
@@ -90,6 +95,16 @@ def rooms_said(line, usual):
         need(name in ROOMS, "there is no room %s" % name)
         rooms[name] = number(value)
     return rooms
+
+
+def answer_of(words_, call):
+    """The four numbers of an answer."""
+    answer = tuple(number(word) for word in words_)
+    need(len(answer) == 4, "an answer is four numbers")
+    need(answer[0] <= 21, "there is no refusal %d" % answer[0])
+    need(answer[3] == 0 or (answer[0] == 0 and call in ("read", "list")), "the last number is 0")
+    need(answer[2] == 0 or call in ("read", "list"), "the third number is 0")
+    return answer
 
 
 def said_sentences(rest):
@@ -136,28 +151,48 @@ class Body:
 
     def __init__(self, case, known, cases):
         self.case, self.known, self.cases = case, known, cases
-        self.reader, self.counts, self.changes = None, None, []
+        self.reader, self.counts, self.changes, self.said = None, None, [], set()
         self.model_words, self.in_model = None, False
         self.parts = {"file": Lines()}
         self.lines = self.parts["file"]
 
     def line(self, line):
         word = line.split(" ")[0]
-        method = getattr(self, "word_" + word, None)
         self.in_model = self.in_model and not (word in BEHIND_MODEL or LINE.fullmatch(line) or LEFT_OUT.fullmatch(line))
         if self.in_model:
             self.model_words.append(line)
-        elif CHANGE.fullmatch(line):
-            self.changes.append(CHANGE.fullmatch(line).groups())
         elif CALL.fullmatch(line):
             self.call(CALL.fullmatch(line))
-        elif LINE.fullmatch(line):
-            self.lines.line(LINE.fullmatch(line))
-        elif LEFT_OUT.fullmatch(line):
-            self.lines.left_out(*LEFT_OUT.fullmatch(line).groups())
+        elif CHANGE.fullmatch(line):
+            self.may_say("change")
+            self.changes.append(CHANGE.fullmatch(line).groups())
+        elif LINE.fullmatch(line) or LEFT_OUT.fullmatch(line):
+            self.file_line(line)
         else:
+            method = getattr(self, "word_" + word, None)
             need(method, "the word is unknown: %s" % word)
+            self.may_say(word)
             method(line[len(word) + 1:])
+
+    def may_say(self, word):
+        """Whether a case of this call may say this, and has not yet."""
+        part = {"row": "rows", "point": "points"}.get(word, word)
+        if word == "from":
+            return
+        need(self.case.call, "the call comes first")
+        need(part in ("answer", "as") + PARTS[self.case.call] + GIVEN[self.case.call],
+             "a case of %s does not say %s" % (self.case.call, word))
+        need(word not in ONCE or word not in self.said, "%s is said twice" % word)
+        self.said.add(word)
+
+    def file_line(self, line):
+        """A line of the file, or of the text or output that is expected."""
+        if self.lines is self.parts["file"]:
+            self.may_say("line")
+        if LINE.fullmatch(line):
+            self.lines.line(LINE.fullmatch(line))
+        else:
+            self.lines.left_out(*LEFT_OUT.fullmatch(line).groups())
 
     def call(self, said):
         need(not self.case.call, "there is a call already")
@@ -184,10 +219,12 @@ class Body:
         need(len(self.counts) == 3, "three counts are due")
 
     def word_answer(self, rest):
-        self.case.expected.answer = tuple(number(word) for word in rest.split())
-        need(len(self.case.expected.answer) == 4, "an answer is four numbers")
+        need("as" not in self.said, "answer and as are said")
+        self.case.is_whole = not rest.endswith(" alone")
+        self.case.expected.answer = answer_of(rest.removesuffix(" alone").split(), self.case.call)
 
     def word_as(self, rest):
+        need("answer" not in self.said, "answer and as are said")
         like = [case for case in self.cases if case.name == rest]
         need(like, "no case before this one is named %s" % rest)
         self.case.expected = dataclasses.replace(like[0].expected)
@@ -228,8 +265,6 @@ class Body:
         self.case.rooms = self.case.rooms or dict(self.known.rooms)
         if self.case.call == "write":
             self.case.table = lent_table(self.case, self.reader, self.changes, self.counts)
-        else:
-            need(not self.changes and not self.counts, "only a table that is written is changed")
         complete(self.case)
 
 
@@ -239,11 +274,11 @@ def lent_table(case, reader, changes, counts):
     large = oracle.Rooms(max(len(case.file), rooms["text"]), max(576, rooms["marks"]), max(2000, rooms["rows"]),
                          max(20000, rooms["cells"]), max(20000, rooms["points"]))
     result = oracle.read(reader, case.file, large)
-    need(result.answer[0] == 0, "the file is refused: %d %d %d %d" % result.answer)
+    need(result.answer[0] == 0, "the independent implementation refuses the file: %d %d %d %d" % result.answer)
     for which, at, said in changes:
         bounds = {"marks": (0, 255), "rows": (0, 2 ** 64 - 1)}.get(which, CELL)
         values = list(unescaped(said)) if which == "text" else [number(word, *bounds) for word in said.split()]
-        need(int(at) + len(values) <= len(getattr(result, which)), "the table has no such place")
+        need(int(at) + len(values) <= rooms[which], "this place is not lent")
         getattr(result, which)[int(at):int(at) + len(values)] = values
     lent = [list(getattr(result, which))[:rooms[which]] for which in ("text", "marks", "rows", "cells", "points")]
     return oracle.Lent(*lent, *(counts or result.answer[1:]))
@@ -252,24 +287,24 @@ def lent_table(case, reader, changes, counts):
 def complete(case):
     """What goes without saying, and what must agree in what is said."""
     e = case.expected
-    for part in ("text", "marks", "rows", "points", "output"):
-        need(getattr(e, part) is None or part in PARTS[case.call], "this call leaves no %s" % part)
-        need(e.answer[0] == 0 or not getattr(e, part), "after a refusal all buffers are zero")
     if e.answer[0]:
+        need(not any((e.text, e.marks, e.rows, e.points, e.output)), "after a refusal all buffers are zero")
         return
     if case.call in ("read", "unfold") and e.text is None:
-        mark = case.model[6:7]
-        if b"\r" not in case.file and mark + b"\n" not in case.file:
+        if b"\r" not in case.file and case.model[6:7] + b"\n" not in case.file:
             e.text = case.file
     if case.call in ("read", "list"):
-        e.rows = [] if e.answer[1] == 0 else e.rows
-        e.points = [] if e.answer[3] == 0 else e.points
+        e.rows = [] if e.answer[1] == 0 and e.rows is None else e.rows
+        e.points = [] if e.answer[3] == 0 and e.points is None else e.points
         need(e.rows is None or [len(e.rows), sum(map(len, e.rows))] == list(e.answer[1:3]),
              "the rows are not those that the answer counts")
         need(e.points is None or (len(e.points) == e.answer[3] and all(len(p) == 4 for p in e.points)),
              "the points are not those that the answer counts")
     said = {"unfold": e.text, "write": e.output}.get(case.call)
     need(said is None or len(said) == e.answer[1], "the bytes are not as many as the answer says")
+    missing = [part for part in PARTS[case.call] if getattr(e, part) is None]
+    need(not missing or not case.is_whole, "no %s; or is the answer expected `alone`?" % " and no ".join(missing))
+    need(missing or case.is_whole, "the answer is not `alone`")
 
 
 @contextlib.contextmanager
@@ -326,6 +361,8 @@ def value_lines(lines):
     for at, line in lines:
         span = RANGE.match(line)
         if span:
+            with told(at):
+                need(span[1] < span[2], "a range goes up")
             for byte in range(int(span[1], 16), int(span[2], 16) + 1):
                 yield at, "\\x%02x%s" % (byte, line[span.end():])
         else:
@@ -341,9 +378,7 @@ def read_value(case, said, known):
     if how == "is":
         case.expected = Expected((0, 1, 5, 0), marks=[1, 1], rows=[[0, 43, 1] + [number(n, *CELL) for n in numbers]])
     else:
-        answer = numbers if how == "answer" else numbers + ["7", "3", "0"]
-        case.expected = Expected(tuple(number(n) for n in answer))
-    need(len(case.expected.answer) == 4, "an answer is four numbers")
+        case.expected = Expected(answer_of(numbers if how == "answer" else numbers + ["7", "3", "0"], "read"))
 
 
 def write_value(case, said, known):
@@ -354,7 +389,7 @@ def write_value(case, said, known):
     cells = [0, 0, 1, number(first, *CELL), number(second, *CELL)]
     case.table = oracle.Lent(list(b"a"), [1, 1], [0], cells, [], 1, 5, 0)
     output = with_object(known, unescaped(what))
-    refused = Expected((number(what), 0, 0, 0)) if how == "refused" else None
+    refused = Expected(answer_of([what, "0", "0", "0"], "write")) if how == "refused" else None
     case.expected = refused or Expected((0, len(output), 0, 0), output=output)
 
 
@@ -389,6 +424,8 @@ def said_file(lines):
     file = File([])
     for at, line in lines:
         if line == "...":
+            with told(at):
+                need(file.gap is None, "a file has one ...")
             file.gap = len(file.lines)
         else:
             said = LINE.fullmatch(line)
@@ -410,6 +447,7 @@ def said_block(path, block, known, cases):
     word, _, name = head.partition(" ")
     need(word in ("rooms", "model", "file", "case", "values", "cells") and name, "the block is unknown")
     if word == "rooms":
+        need(not lines, "rooms have one line")
         known.rooms = rooms_said(head, known.rooms)
     elif word == "model":
         need(name not in known.models, "the model is there already")

@@ -1,9 +1,10 @@
 """prepare.py OUT: writes every case of tests/cases, and those that the independent implementation makes, in the form
-that tests/c/cases.c reads. All numbers are little-endian.
+that tests/c/cases.c reads. Its status is 1 where the independent implementation does not read what it writes as the
+table that it was given.
 
-A case is its call (u32: 0 check, 1 unfold, 2 read, 3 write); the lengths (u32) of its text as it stands in its file, of
-the model and of the transfer file, and their bytes; what is lent; what is expected by hand, and what the independent
-implementation answers.
+All numbers are little-endian. How many cases are those of tests/cases (u32) comes first. A case is its call (u32: 0
+check, 1 unfold, 2 read, 3 write); the lengths (u32) of its text as it stands in its file, of the model and of the
+transfer file, and their bytes; what is lent; what is expected by hand, and what the independent implementation answers.
 
 Lent is, for unfolding, the text room (u32); for reading the rooms text, marks, rows, cells, points, index and answer
 (u32 each) and the seed (u64); for writing text, marks, rows, cells and points, each as a part, then the counts of
@@ -132,18 +133,15 @@ class Prepared:
 
 
 def put_case(prepared, case):
-    """A case of tests/cases."""
+    """A case of tests/cases; those of the listing program are tried by tests/listing/run."""
     text = "%s, line %d:\n%s" % (*case.place, case.source)
-    rooms = case.rooms
-    last = (rooms["index"], rooms["seed"], rooms["answer"], case.expected)
-    if case.call == "check":
-        prepared.check(text, case.model, case.expected.answer)
-    elif case.call == "unfold":
-        prepared.unfold(text, case.model, case.file, rooms["text"], case.expected)
-    elif case.call == "read":
-        prepared.read(text, case.model, case.file, language.rooms_of(case), *last)
-    elif case.call == "write":
-        prepared.write(text, case.model, case.table, case.width, rooms["output"], *last)
+    rooms, expected = case.rooms, case.expected
+    last = (rooms["index"], rooms["seed"], rooms["answer"], expected)
+    {"check": lambda: prepared.check(text, case.model, expected.answer),
+     "unfold": lambda: prepared.unfold(text, case.model, case.file, rooms["text"], expected),
+     "read": lambda: prepared.read(text, case.model, case.file, language.rooms_of(case), *last),
+     "write": lambda: prepared.write(text, case.model, case.table, case.width, rooms["output"], *last),
+     "list": lambda: None}[case.call]()
 
 
 def put_generated(prepared, cases):
@@ -164,11 +162,12 @@ def main(words):
     if len(words) != 1:
         raise SystemExit(__doc__)
     cases = language.all_cases()
+    by_hand = sum(case.call != "list" for case in cases)
     with open(words[0], "wb") as out:
+        out.write(struct.pack("<I", by_hand))
         prepared = Prepared(out)
         for case in cases:
             put_case(prepared, case)
-        by_hand = prepared.count
         put_generated(prepared, cases)
     for text in prepared.wrong:
         print("%s\nWhat is written does not read as the table.\n" % text)

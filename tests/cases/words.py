@@ -6,7 +6,6 @@ import struct
 PIECE = re.compile(r"[^\\]|\\(?:(?P<own>[tsrn\\])|x(?P<hex>[0-9a-f]{2})|(?P<count>[0-9]+)\*(?P<many>\\.x?|.))")
 OWN = {"t": b"\t", "s": b" ", "r": b"\r", "n": b"\n", "\\": b"\\"}
 USUAL = (("transfer", "T", "_", "@", "\\\\"), ("model", "M"))
-TYPES = {"reference": 1, "number": 4, "text": 5, "date": 6, "enumeration": 7, "line": 8}
 FORMS = {"straights": 1, "arcs": 2}
 
 
@@ -51,7 +50,7 @@ def number(word, least=0, greatest=2 ** 64 - 1):
 
 def repeated(line):
     """A line, or as many as it says, with n from 0."""
-    times = re.fullmatch(r"([0-9]+) times (.*)", line, re.S)
+    times = re.fullmatch(r"([1-9][0-9]*) times (.*)", line, re.S)
     if not times:
         return [line]
     return [times[2].replace("{n}", str(n)) for n in range(int(times[1]))]
@@ -89,31 +88,58 @@ def attribute(words, tables, topic):
     """An attribute's record: name, type, its parameters, optional."""
     optional = words[-1] == "optional"
     name, kind, *rest = words[:-1] if optional else words
-    need(kind in TYPES or kind in ("coordinate", "type"), "the type is unknown: %s" % kind)
-    if kind == "coordinate":
-        parameters, code = components(rest)
-        need(code in (2, 3), "a coordinate has two or three components")
-    elif kind == "type":
-        parameters, code = any_parameters(rest[1:]), number(rest[0], 0, 255)
-    else:
-        code = TYPES[kind]
-        parameters = {"reference": lambda: struct.pack("<H", table_number(rest[0], tables, topic)),
-                      "number": lambda: components(rest)[0], "date": lambda: b"",
-                      "line": lambda: line_parameters(rest)}.get(
-                          kind, lambda: struct.pack("<H", number(rest[0], 0, 65535)))()
+    need(kind in PARAMETERS, "the type is unknown: %s" % kind)
+    code, parameters = PARAMETERS[kind](rest, tables, topic)
     return record(5, bytes([optional, code]) + parameters + named(name))
 
 
-def any_parameters(words):
-    """The parameters of an attribute of any type: bytes, each an escape, then components."""
-    count = [word.startswith("\\") for word in words + ["0"]].index(False)
-    return b"".join(map(unescaped, words[:count])) + components(words[count:])[0]
+def reference_parameters(words, tables, topic):
+    (word,) = words
+    return 1, struct.pack("<H", table_number(word, tables, topic))
 
 
-def line_parameters(words):
-    forms = sum(FORMS[word] for word in words if word in FORMS)
+def coordinate_parameters(words, tables, topic):
+    content, count = components(words)
+    need(count in (2, 3), "a coordinate has two or three components")
+    return count, content
+
+
+def number_parameters(words, tables, topic):
+    content, count = components(words)
+    need(count == 1, "a number has one component")
+    return 4, content
+
+
+def counted(code):
+    """The parameters of a type that has one number."""
+    def parameters(words, tables, topic):
+        (word,) = words
+        return code, struct.pack("<H", number(word, 0, 65535))
+    return parameters
+
+
+def date_parameters(words, tables, topic):
+    () = words
+    return 6, b""
+
+
+def line_parameters(words, tables, topic):
+    forms = [word for word in words if word in FORMS]
     content, count = components([word for word in words if word not in FORMS])
-    return bytes([forms, count]) + content
+    need(forms and count in (2, 3), "a line has straights, arcs or both, and two or three components")
+    return 8, bytes([sum(FORMS[word] for word in forms), count]) + content
+
+
+def any_parameters(words, tables, topic):
+    """The parameters of an attribute of any type: bytes, each an escape, then components."""
+    code, *rest = words
+    count = [word.startswith("\\") for word in rest + ["0"]].index(False)
+    return number(code, 0, 255), b"".join(map(unescaped, rest[:count])) + components(rest[count:])[0]
+
+
+PARAMETERS = {"reference": reference_parameters, "coordinate": coordinate_parameters, "number": number_parameters,
+              "text": counted(5), "date": date_parameters, "enumeration": counted(7), "line": line_parameters,
+              "type": any_parameters}
 
 
 def named(word):
@@ -122,14 +148,15 @@ def named(word):
 
 def with_usual(lines):
     """The lines of a model with those that need not be said."""
-    first = [line[0] for line in lines[:2]]
+    first = [line[0] for line in lines]
     if first[:1] in (["bare"], ["like"]):
         return lines[first[0] == "bare":]
-    missing = [usual for usual in USUAL if usual[0] not in first]
-    lines = [line for line in lines if line[0] == "transfer"] + missing + [
-        line for line in lines if line[0] != "transfer"]
-    end = [] if any(line[0] in ("end", "no") for line in lines) else [("end",)]
-    return lines + end
+    transfer = [USUAL[0]] if first[:1] != ["transfer"] else []
+    named_at = 1 - len(transfer)
+    name = [USUAL[1]] if first[named_at:named_at + 1] != ["model"] else []
+    need("transfer" not in first[1:] and "model" not in first[named_at + 1:], "transfer and model come first")
+    end = [] if "end" in first or "no" in first else [("end",)]
+    return transfer + lines[:named_at] + name + lines[named_at:] + end
 
 
 def model(lines, known):
@@ -156,9 +183,11 @@ def model_line(line, tables, topic, known):
     """What a line of a model adds."""
     word, rest = line[0], line[1:]
     if word == "transfer":
+        need(len(rest) in (1, 4), "a transfer has a name, and may have its three bytes")
         return record(1, b"".join(map(unescaped, rest[1:] or USUAL[0][2:])) + named(rest[0]))
     if word in ("model", "topic"):
-        return record(2 if word == "model" else 3, named(rest[0]))
+        (name,) = rest
+        return record(2 if word == "model" else 3, named(name))
     if word == "table":
         need(rest[1:] in ((), ("optional",)), "only optional may stand behind a table")
         return record(4, bytes([len(rest) == 2]) + named(rest[0]))
@@ -170,6 +199,6 @@ def model_line(line, tables, topic, known):
         need(" ".join(rest) in known, "there is no model %s" % " ".join(rest))
         return known[" ".join(rest)]
     if word in ("end", "no"):
+        need(line in (("end",), ("no", "end")), "no attribute is named %s" % word)
         return record(6) if word == "end" else b""
-    need(len(line) > 1, "an attribute has a type")
     return attribute(line, tables, topic)

@@ -142,7 +142,10 @@ def all_cases(known, read):
 def is_read_again(model, file, lent, width):
     """Whether a written file reads as the table (starts aside), and its table is written as that file again."""
     m = o.decode(model)
-    again = parts.lent_of(model, file)
+    try:
+        again = parts.lent_of(model, file)
+    except AssertionError:
+        return False
     counts = ("objects", "cells_used", "points_used")
     if any(getattr(again, n) != getattr(lent, n) for n in counts) or again.rows != lent.rows[:lent.objects]:
         return False
