@@ -1,7 +1,6 @@
 """The cases of tests/cases, from the words that tests/README.md explains. A line that is wrong ends the reading, and is
 told with its place."""
 
-import contextlib
 import dataclasses
 import pathlib
 import re
@@ -11,7 +10,7 @@ ROOT = pathlib.Path(__file__).resolve().parents[2]
 sys.path.insert(0, str(ROOT / "tests" / "oracle"))
 import oracle  # noqa: E402
 import words  # noqa: E402
-from words import Wrong, need, number, unescaped  # noqa: E402
+from words import Wrong, need, number, told, unescaped  # noqa: E402
 
 CELL = (-2 ** 63, 2 ** 63 - 1)
 ROOMS = ("text", "marks", "rows", "cells", "points", "output", "index", "answer", "seed")
@@ -27,6 +26,7 @@ ONCE = ("answer", "as", "rooms", "width", "counts", "marks", "text", "output")
 CALL = re.compile(r"(?:(?P<check>check)|(?P<call>unfold|read|write|list)(?: (?P<file>.+?))? against)"
                   r"(?: (?P<model>.+))?")
 CHANGE = re.compile(r"(text|marks|rows|cells|points) ([0-9]+) is (.+)")
+BLOCKS = ("case", "values", "cells", "model", "file", "rooms")
 BEHIND_MODEL = ("rooms", "answer")
 UNENDED = re.compile(r"(?:[^\\]|\\.)*\\c")
 RANGE = re.compile(r"\\x([0-9a-f]{2})\.\.\\x([0-9a-f]{2})")
@@ -140,7 +140,8 @@ class Lines:
             edits.append((at, at, self.own))
         out, at = [], 0
         for first, behind, new in sorted(edits, key=lambda edit: edit[:2]):
-            need(at < first <= behind <= len(lines) + 1, "the file has no such lines, or they are said twice")
+            need(first <= behind <= len(lines) + 1, "the file has %d lines" % len(lines))
+            need(at < first, "line %d is changed twice" % first)
             out += lines[at:first - 1] + new
             at = behind - 1
         return b"".join(out + lines[at:])
@@ -156,11 +157,11 @@ class Body:
         self.parts = {"file": Lines()}
         self.lines = self.parts["file"]
 
-    def line(self, line):
+    def line(self, at, line):
         word = line.split(" ")[0]
         self.in_model = self.in_model and not (word in BEHIND_MODEL or LINE.fullmatch(line) or LEFT_OUT.fullmatch(line))
         if self.in_model:
-            self.model_words.append(line)
+            self.model_words.append((at, line))
         elif CALL.fullmatch(line):
             self.call(CALL.fullmatch(line))
         elif CHANGE.fullmatch(line):
@@ -296,26 +297,18 @@ def complete(case):
     if case.call in ("read", "list"):
         e.rows = [] if e.answer[1] == 0 and e.rows is None else e.rows
         e.points = [] if e.answer[3] == 0 and e.points is None else e.points
-        need(e.rows is None or [len(e.rows), sum(map(len, e.rows))] == list(e.answer[1:3]),
-             "the rows are not those that the answer counts")
-        need(e.points is None or (len(e.points) == e.answer[3] and all(len(p) == 4 for p in e.points)),
-             "the points are not those that the answer counts")
+        rows, cells, points = (len(e.rows or []), sum(map(len, e.rows or [])), len(e.points or []))
+        need(e.rows is None or (rows, cells) == e.answer[1:3],
+             "%d rows of %d cells are said, and the answer counts %d of %d" % (rows, cells, *e.answer[1:3]))
+        need(all(len(point) == 4 for point in e.points or []), "a point is four cells")
+        need(e.points is None or points == e.answer[3],
+             "%d points are said, and the answer counts %d" % (points, e.answer[3]))
     said = {"unfold": e.text, "write": e.output}.get(case.call)
-    need(said is None or len(said) == e.answer[1], "the bytes are not as many as the answer says")
+    need(said is None or len(said) == e.answer[1],
+         "%d bytes are said, and the answer counts %d" % (len(said or b""), e.answer[1]))
     missing = [part for part in PARTS[case.call] if getattr(e, part) is None]
     need(not missing or not case.is_whole, "no %s; or is the answer expected `alone`?" % " and no ".join(missing))
     need(missing or case.is_whole, "the answer is not `alone`")
-
-
-@contextlib.contextmanager
-def told(at):
-    """Says of what is wrong in a line its number."""
-    try:
-        yield
-    except Wrong as wrong:
-        raise Wrong(str(wrong), wrong.at or at) from None
-    except (ValueError, IndexError):
-        raise Wrong("words are missing, or there are too many", at) from None
 
 
 def blocks(path):
@@ -324,8 +317,9 @@ def blocks(path):
     for at, line in enumerate(path.read_text(encoding="latin-1").split("\n"), 1):
         if line.strip() == "" or line.lstrip().startswith("#"):
             continue
-        if line != line.rstrip() or not line.isascii():
-            raise SystemExit("%s, line %d: a blank at a line's end is \\s, a byte above 7E \\xHH" % (place(path), at))
+        if line != line.rstrip() or "\t" in line or not line.isascii():
+            raise SystemExit("%s, line %d: a blank at a line's end, a tab or a byte above 7E; in bytes these are "
+                             "\\s, \\t and \\xHH" % (place(path), at))
         if not line.startswith(" "):
             if block:
                 yield block
@@ -346,12 +340,12 @@ def said_case(path, block, known, cases):
     """A case from its block."""
     at, head, lines = block
     name = head.split(" ", 1)[1]
-    need(all(case.name != name for case in cases), "the name is there already")
+    need(all(case.name != name for case in cases), "another case has this name")
     source = "\n".join(["  " + head] + ["    " + line for _, line in lines])
     body = Body(Case("case", (place(path), at), name, source, []), known, cases)
     for at, line in lines:
         with told(at):
-            body.line(line)
+            body.line(at, line)
     body.finish()
     return body.case
 
@@ -401,9 +395,10 @@ def with_object(known, field):
 
 def said_values(path, block, known, cases):
     """Adds the cases of a block of values or cells."""
-    _, head, lines = block
+    first, head, lines = block
     word, kind = head.split(" ", 1)
-    model = words.model(["topic N", "table A", "V " + kind], known.models)
+    need(kind.split()[0] not in ("coordinate", "line"), "values are of types with one field")
+    model = words.model([(first, "topic N; table A; V " + kind)], known.models)
     sentences = []
     for at, line in value_lines(lines):
         if line.startswith("from "):
@@ -445,13 +440,13 @@ def said_block(path, block, known, cases):
     """Takes up a block: what it makes known, or its cases."""
     _, head, lines = block
     word, _, name = head.partition(" ")
-    need(word in ("rooms", "model", "file", "case", "values", "cells") and name, "the block is unknown")
+    need(word in BLOCKS and name, "a block is one of %s, with a name or more behind it" % ", ".join(BLOCKS))
     if word == "rooms":
         need(not lines, "rooms have one line")
         known.rooms = rooms_said(head, known.rooms)
     elif word == "model":
         need(name not in known.models, "the model is there already")
-        known.models[name] = words.model([line for _, line in lines], known.models)
+        known.models[name] = words.model(lines, known.models)
         known.readers[name] = reader_of(known, name, [line for _, line in lines])
     elif word == "file":
         need(name not in known.files, "the file is there already")

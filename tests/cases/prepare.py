@@ -168,9 +168,12 @@ def main(words):
         prepared = Prepared(out)
         for case in cases:
             put_case(prepared, case)
-        put_generated(prepared, cases)
+        try:
+            put_generated(prepared, cases)
+        except AssertionError:
+            prepared.wrong.append("Not all cases could be made.")
     for text in prepared.wrong:
-        print("%s\nWhat is written does not read as the table.\n" % text)
+        print("%s\nThe independent implementation does not read what it writes, or makes, as what it was.\n" % text)
     print("prepared: %d cases of tests/cases, %d made by tests/oracle" % (by_hand, prepared.count - by_hand))
     return 1 if prepared.wrong else 0
 

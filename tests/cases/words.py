@@ -1,5 +1,6 @@
 """The bytes that a file of cases says in words: lines with their escapes, and compiled models."""
 
+import contextlib
 import re
 import struct
 
@@ -22,12 +23,23 @@ def need(condition, what):
         raise Wrong(what)
 
 
+@contextlib.contextmanager
+def told(at):
+    """Says of what is wrong in a line its number."""
+    try:
+        yield
+    except Wrong as wrong:
+        raise Wrong(str(wrong), wrong.at or at) from None
+    except (ValueError, IndexError):
+        raise Wrong("words are missing, or there are too many", at) from None
+
+
 def unescaped(words):
     """The bytes that these words stand for."""
     out, at = b"", 0
     while at < len(words):
         piece = PIECE.match(words, at)
-        need(piece, "an escape is unknown: %s" % words[at:at + 4])
+        need(piece, "an escape is unknown: %s" % words[at:at + 2])
         end = piece.end()
         if piece["own"]:
             out += OWN[piece["own"]]
@@ -94,8 +106,8 @@ def attribute(words, tables, topic):
 
 
 def reference_parameters(words, tables, topic):
-    (word,) = words
-    return 1, struct.pack("<H", table_number(word, tables, topic))
+    need(len(words) == 1, "a reference has the table that it refers to")
+    return 1, struct.pack("<H", table_number(words[0], tables, topic))
 
 
 def coordinate_parameters(words, tables, topic):
@@ -110,16 +122,16 @@ def number_parameters(words, tables, topic):
     return 4, content
 
 
-def counted(code):
+def counted(code, what):
     """The parameters of a type that has one number."""
     def parameters(words, tables, topic):
-        (word,) = words
-        return code, struct.pack("<H", number(word, 0, 65535))
+        need(len(words) == 1, what)
+        return code, struct.pack("<H", number(words[0], 0, 65535))
     return parameters
 
 
 def date_parameters(words, tables, topic):
-    () = words
+    need(not words, "a date has no parameters")
     return 6, b""
 
 
@@ -138,7 +150,8 @@ def any_parameters(words, tables, topic):
 
 
 PARAMETERS = {"reference": reference_parameters, "coordinate": coordinate_parameters, "number": number_parameters,
-              "text": counted(5), "date": date_parameters, "enumeration": counted(7), "line": line_parameters,
+              "text": counted(5, "a text has its longest length"), "date": date_parameters,
+              "enumeration": counted(7, "an enumeration has its count of leaves"), "line": line_parameters,
               "type": any_parameters}
 
 
@@ -147,35 +160,41 @@ def named(word):
 
 
 def with_usual(lines):
-    """The lines of a model with those that need not be said."""
-    first = [line[0] for line in lines]
+    """The lines of a model, each with its number, with those that need not be said."""
+    first = [line[0] for _, line in lines]
     if first[:1] in (["bare"], ["like"]):
         return lines[first[0] == "bare":]
-    transfer = [USUAL[0]] if first[:1] != ["transfer"] else []
+    transfer = [(None, USUAL[0])] if first[:1] != ["transfer"] else []
     named_at = 1 - len(transfer)
-    name = [USUAL[1]] if first[named_at:named_at + 1] != ["model"] else []
+    name = [(None, USUAL[1])] if first[named_at:named_at + 1] != ["model"] else []
     need("transfer" not in first[1:] and "model" not in first[named_at + 1:], "transfer and model come first")
-    end = [] if "end" in first or "no" in first else [("end",)]
+    end = [] if "end" in first or "no" in first else [(None, ("end",))]
     return transfer + lines[:named_at] + name + lines[named_at:] + end
 
 
-def model(lines, known):
-    """The bytes of a model, from its lines of words; `known` are the models before it."""
-    lines = with_usual([tuple(part.split()) for line in lines for many in repeated(line)
-                        for part in many.split("; ")])
+def tables_of(lines):
+    """Each table with the number of its topic."""
     tables, topic = [], 0
-    for line in lines:
+    for _, line in lines:
         topic += line[0] == "topic"
         if line[0] == "table":
             tables.append((topic, line[1]))
-    out, topic = b"", 0
-    for line in lines:
+    return tables
+
+
+def model(lines, known):
+    """The bytes of a model, from its lines with their numbers; `known` are the models before it."""
+    lines = with_usual([(at, tuple(part.split())) for at, line in lines for many in repeated(line)
+                        for part in many.split("; ")])
+    tables, out, topic = tables_of(lines), b"", 0
+    for at, line in lines:
         topic += line[0] == "topic"
-        if line[0] == "less":
-            need(number(line[1]) <= len(out), "the model is shorter")
-            out = out[:len(out) - number(line[1])]
-        else:
-            out += model_line(line, tables, topic, known)
+        with told(at):
+            if line[0] == "less":
+                need(number(line[1]) <= len(out), "the model is shorter")
+                out = out[:len(out) - number(line[1])]
+            else:
+                out += model_line(line, tables, topic, known)
     return out
 
 
@@ -186,8 +205,8 @@ def model_line(line, tables, topic, known):
         need(len(rest) in (1, 4), "a transfer has a name, and may have its three bytes")
         return record(1, b"".join(map(unescaped, rest[1:] or USUAL[0][2:])) + named(rest[0]))
     if word in ("model", "topic"):
-        (name,) = rest
-        return record(2 if word == "model" else 3, named(name))
+        need(len(rest) == 1, "a %s has a name" % word)
+        return record(2 if word == "model" else 3, named(rest[0]))
     if word == "table":
         need(rest[1:] in ((), ("optional",)), "only optional may stand behind a table")
         return record(4, bytes([len(rest) == 2]) + named(rest[0]))
