@@ -4,8 +4,8 @@
     trace.py --check    writes nothing, and fails where the column is not what it would write
 
 A row is known by its first column. The mark `D1` of a case belongs to the row of this reading; a mark in quotes belongs
-to the row that begins with it. A cell that begins with `-` is written by hand: it says why no case can be run, or which
-row's cases try it."""
+to the row that begins with it. A cell that begins with `-` is written by hand: it says why no case can be run, or, as
+`- as X`, which row's cases try it. X is a reading or a row's first words; several stand with `, and` between."""
 
 import pathlib
 import re
@@ -15,6 +15,7 @@ import language
 
 TRACE = language.ROOT / "docs" / "TRACE.md"
 READING = re.compile(r"[A-Z][0-9]+|[0-9]+\.[0-9]+")
+AS = "- as "
 SHOWN = 3
 
 
@@ -29,6 +30,11 @@ class Row:
 
     def is_by_hand(self):
         return self.written.startswith("-")
+
+    def others(self):
+        """The marks of the rows whose cases try this one."""
+        words = self.written[len(AS):].split(", and ") if self.written.startswith(AS) else []
+        return [part if READING.fullmatch(part) else '"%s"' % plain(part) for part in words]
 
     def cell(self):
         return self.written if self.is_by_hand() else shown(self.cases)
@@ -100,6 +106,17 @@ def give(cases, rows):
                 found[0].cases.append(case)
 
 
+def unresolved(rows):
+    """Tells of each row that leans on another where there is no such row, or it has no cases."""
+    for row in rows:
+        for mark in row.others():
+            found = rows_with(mark, rows)
+            if len(found) != 1 or not found[0].cases:
+                yield "docs/TRACE.md, line %d: as %s: %s" % (
+                    row.at + 1, mark, "the row has no cases" if len(found) == 1 else
+                    "more than one row" if found else "no row")
+
+
 def main(arguments):
     if arguments not in ([], ["--check"]):
         raise SystemExit("usage: trace.py [--check]")
@@ -108,6 +125,7 @@ def main(arguments):
     wrong = list(give(language.all_cases(), rows))
     wrong += ["docs/TRACE.md, line %d: no case derives from: %s" % (row.at + 1, row.key)
               for row in rows if not row.cases and not row.is_by_hand()]
+    wrong += unresolved(rows)
     other = [row for row in rows if lines[row.at] != row.line()]
     if arguments:
         wrong += ["docs/TRACE.md, line %d: the cases are not these; run tests/cases/trace.py" % (row.at + 1)
