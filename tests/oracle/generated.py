@@ -190,11 +190,12 @@ def bad_models(rng, count):
         yield "damaged model %d" % n, bytes(model)
 
 
-def model_borders():
-    """Each rule of the compiled model at its border and beyond."""
-    def with_topic(*tables):
-        return head() + o.topic(b"N") + b"".join(tables) + o.end()
+def with_topic(*tables):
+    return head() + o.topic(b"N") + b"".join(tables) + o.end()
 
+
+def name_borders():
+    """Special bytes and names of a model."""
     for c in range(256):
         yield "blank byte %02X" % c, o.transfer(b"T", bytes([c]) + b"#$") + o.model_record()
         yield "name's first byte %02X" % c, head(bytes([c]))
@@ -209,6 +210,10 @@ def model_borders():
         yield "topic name of %d" % size, head() + o.topic(name) + o.table(b"A") + D + o.end()
         yield "table name of %d" % size, with_topic(o.table(name), D)
         yield "attribute name of %d" % size, one(o.date(name))
+
+
+def record_borders():
+    """The lengths of a model's records, and bytes in them."""
     for size in range(4):
         yield "transfer of %d bytes" % size, o.record(1, b"_@\\T"[:size]) + o.model_record()
     for v in (0, 1, 2, 3, 255):
@@ -223,6 +228,10 @@ def model_borders():
     for count in range(5):
         parameters = bytes([3, count]) + o.component(0, 0, 0) * count
         yield "line of %d components" % count, one(o.attribute(b"L", o.LINE, parameters))
+
+
+def number_borders():
+    """The decimals and bounds of a model's numbers."""
     big = 10 ** 18
     for decimals in (0, 1, 8, 9, 10, 255):
         yield "decimals %d" % decimals, one(o.number(b"Z", (decimals, 0, 0)))
@@ -234,6 +243,10 @@ def model_borders():
         yield "second bounds %d %d" % (least, greatest), one(o.coordinate(b"Z", [(0, 0, 0), c]))
         yield "third bounds %d %d" % (least, greatest), one(o.coordinate(b"Z", [(0, 0, 0), (0, 0, 0), c]))
         yield "line's bounds %d %d" % (least, greatest), one(o.line(b"Z", 3, [(0, 0, 0), (0, 0, 0), c]))
+
+
+def other_borders():
+    """The numbers of a model's other types, a record's length, and nothing."""
     for v in (0, 1, 2, 255, 256, 65535):
         yield "text of %d" % v, one(o.text(b"Y", v))
         yield "%d leaves" % v, one(o.enumeration(b"E", v))
@@ -244,6 +257,12 @@ def model_borders():
         broken[13:15] = o.two_bytes(length)
         yield "topic's length %d" % length, bytes(broken)
     yield "nothing", b""
+
+
+def model_borders():
+    """Each rule of the compiled model at its border and beyond."""
+    for borders in (name_borders, record_borders, number_borders, other_borders):
+        yield from borders()
 
 
 def all_rooms():
@@ -284,6 +303,30 @@ def unfoldings(rng, count):
         yield "short file %d %r" % (n, file), SAMPLE_MODEL, file, 60
 
 
+def changed_values(name, model, t):
+    """A table with each of its cells, rows, points and marks changed, and each of its counts."""
+    for which in ("cells", "rows", "points", "marks"):
+        for at, old in enumerate(getattr(t, which)):
+            choices = [0, 1, old + 1, old - 1, 2]
+            if which == "marks":
+                choices = [0, 1, 2, 255]
+            elif which == "rows":
+                choices = [c for c in choices + [10 ** 6] if c >= 0]
+            else:
+                choices += [-1, 10 ** 18, 2 ** 63 - 1, -2 ** 63]
+            for v in sorted(set(choices) - {old}):
+                changed = t.copy()
+                getattr(changed, which)[at] = v
+                yield "%s, %s %d is %d" % (name, which, at, v), model, changed, 20, 700
+    for count in ("objects", "cells_used", "points_used"):
+        old = getattr(t, count)
+        for v in (0, 1, old - 1, old + 1, 2 ** 62, 2 ** 64 - 1):
+            if v >= 0 and v != old:
+                changed = t.copy()
+                setattr(changed, count, v)
+                yield "%s, %s is %d" % (name, count, v), model, changed, 20, 700
+
+
 def damaged_tables(rng):
     """Tables of accepted files, changed cell by cell, and written."""
     short_model = one(X_, L_)
@@ -298,26 +341,7 @@ def damaged_tables(rng):
         t = lent_of(model, file)
         for width in (16, 17, 20, 65535):
             yield "%s, width %d" % (name, width), model, t, width, 700
-        for which in ("cells", "rows", "points", "marks"):
-            for at, old in enumerate(getattr(t, which)):
-                choices = [0, 1, old + 1, old - 1, 2]
-                if which == "marks":
-                    choices = [0, 1, 2, 255]
-                elif which == "rows":
-                    choices = [c for c in choices + [10 ** 6] if c >= 0]
-                else:
-                    choices += [-1, 10 ** 18, 2 ** 63 - 1, -2 ** 63]
-                for v in sorted(set(choices) - {old}):
-                    changed = t.copy()
-                    getattr(changed, which)[at] = v
-                    yield "%s, %s %d is %d" % (name, which, at, v), model, changed, 20, 700
-        for count in ("objects", "cells_used", "points_used"):
-            old = getattr(t, count)
-            for v in (0, 1, old - 1, old + 1, 2 ** 62, 2 ** 64 - 1):
-                if v >= 0 and v != old:
-                    changed = t.copy()
-                    setattr(changed, count, v)
-                    yield "%s, %s is %d" % (name, count, v), model, changed, 20, 700
+        yield from changed_values(name, model, t)
         spare = lent_of(model, file, 3)
         spare.cells[-1], spare.points[-1] = 77, 77
         yield "%s with room behind" % name, model, spare, 20, 700
