@@ -25,7 +25,7 @@ endif
 
 layer := $(addprefix $(build)/host/,words.o model.o table.o)
 command := $(patsubst %.c,$(build)/%.o,$(wildcard command/*.c))
-hosts := $(addprefix $(build)/tests/c/,library layer cases)
+hosts := $(addprefix $(build)/tests/c/,large layer cases)
 headers := $(wildcard command/*.h host/*.h host/kit/*.h host/kit/sys/*.h)
 
 all: $(build)/libvendorfinch.a $(build)/vendorfinch

@@ -481,10 +481,24 @@ def cases_of(path):
     return cases
 
 
+def question(case):
+    """All that a case asks, to tell it from others."""
+    table = case.table and (*(tuple(getattr(case.table, which)) for which in ROOMS[:5]), case.table.objects,
+                            case.table.cells_used, case.table.points_used)
+    rooms = () if case.call in ("check", "list") else tuple(sorted(case.rooms.items()))
+    return case.call, case.model, case.file if case.call != "write" else b"", rooms, case.width, table
+
+
 def all_cases():
-    """The cases of all files."""
-    files = sorted((ROOT / "tests" / "cases").glob("*.cases"))
-    return [case for path in files if path.name != "usual.cases" for case in cases_of(path)]
+    """The cases of all files, none of which asks what another does."""
+    files, cases = sorted((ROOT / "tests" / "cases").glob("*.cases")), {}
+    for path in files:
+        for case in cases_of(path) if path.name != "usual.cases" else []:
+            other = cases.setdefault(question(case), case)
+            if other is not case:
+                raise SystemExit("%s, line %d: %s asks what %s in %s, line %d asks" % (
+                    *case.place, case.name, other.name, *other.place))
+    return list(cases.values())
 
 
 def rooms_of(case):

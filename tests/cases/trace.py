@@ -92,18 +92,26 @@ def rows_with(mark, rows):
 
 
 def give(cases, rows):
-    """Gives each case to the rows that it derives from, and tells what is wrong with its marks."""
+    """Gives each case to the rows that it derives from, and tells once what is wrong with a mark."""
+    told = set()
     for case in cases:
         for mark in case.sentences:
             found = rows_with(mark, rows)
-            if len(found) != 1:
-                yield "%s, line %d: %s: %s belongs to %s" % (
-                    *case.place, case.name, mark, "more than one row" if found else "no row")
-            elif found[0].is_by_hand():
-                yield "%s, line %d: %s: %s belongs to a row that says `%s`" % (
-                    *case.place, case.name, mark, found[0].written)
-            elif case not in found[0].cases[-1:]:
+            fault = fault_of(mark, found)
+            if not fault and case not in found[0].cases[-1:]:
                 found[0].cases.append(case)
+            elif fault and (case.place[0], mark) not in told:
+                told.add((case.place[0], mark))
+                yield "%s, line %d: %s: %s" % (*case.place, case.name, fault)
+
+
+def fault_of(mark, found):
+    """What is wrong with a mark that belongs to these rows; None where nothing is."""
+    if not found:
+        return "no row of docs/TRACE.md begins with %s" % mark
+    if len(found) > 1:
+        return "rows of docs/TRACE.md begin with %s: %s" % (mark, "; ".join(row.key[:60] for row in found))
+    return "%s belongs to a row that says `%s`" % (mark, found[0].written) if found[0].is_by_hand() else None
 
 
 def unresolved(rows):
@@ -127,9 +135,9 @@ def main(arguments):
               for row in rows if not row.cases and not row.is_by_hand()]
     wrong += unresolved(rows)
     other = [row for row in rows if lines[row.at] != row.line()]
-    if arguments:
-        wrong += ["docs/TRACE.md, line %d: the cases are not these; run tests/cases/trace.py" % (row.at + 1)
-                  for row in other]
+    if arguments and other:
+        wrong.append("docs/TRACE.md, line %d and %d more: other cases; run python3 tests/cases/trace.py" % (
+            other[0].at + 1, len(other) - 1))
     elif other:
         for row in other:
             lines[row.at] = row.line()
