@@ -2,6 +2,7 @@
 told with its place."""
 
 import dataclasses
+import functools
 import pathlib
 import re
 import sys
@@ -489,6 +490,7 @@ def question(case):
     return case.call, case.model, case.file if case.call != "write" else b"", rooms, case.width, table
 
 
+@functools.cache
 def all_cases():
     """The cases of all files, none of which asks what another does."""
     files, cases = sorted((ROOT / "tests" / "cases").glob("*.cases")), {}

@@ -17,6 +17,7 @@ A part is the count of its numbers (u32) and these, a byte each in text, marks a
 expected and answered, zeros behind a part's numbers go without saying, and 2^32 - 1 as the count says that nothing is
 expected by hand."""
 
+import array
 import struct
 import sys
 
@@ -32,21 +33,28 @@ TABLE = (("text", "B"), ("marks", "B"), ("rows", "Q"), ("cells", "q"), ("points"
 GENERATED = "made by tests/oracle: "
 
 
+def packed(values, code):
+    """Numbers as bytes."""
+    if code == "B":
+        return bytes(values)
+    numbers = array.array(code, values)
+    if sys.byteorder == "big":
+        numbers.byteswap()
+    return numbers.tobytes()
+
+
 def part(values, code):
     """A part with all its numbers."""
-    if code == "B":
-        return struct.pack("<I", len(values)) + bytes(values)
-    return struct.pack("<I%d%s" % (len(values), code), len(values), *values)
+    return struct.pack("<I", len(values)) + packed(values, code)
 
 
 def used_part(values, code):
     """A part without the zeros at its end; nothing where nothing is expected."""
     if values is None:
         return NOTHING
-    used = len(values)
-    while used and values[used - 1] == 0:
-        used -= 1
-    return part(values[:used], code)
+    content, size = packed(values, code), 1 if code == "B" else 8
+    used = -(-len(content.rstrip(b"\0")) // size)
+    return struct.pack("<I", used) + content[:used * size]
 
 
 def code_part(answer):
@@ -97,6 +105,7 @@ class Prepared:
 
     def __init__(self, out):
         self.out, self.count, self.wrong = out, 0, []
+        self.asked = self.result = None
 
     def put(self, call, text, model, file, lent, expected, answered):
         text = text.encode("latin-1", "replace")
@@ -117,8 +126,11 @@ class Prepared:
 
     def read(self, text, model, file, rooms, index, seed, answer_room, expected=None):
         by_hand = unexpected(7) if expected is None else read_parts(expected_table(expected), answer_room)
+        asked = model, file, vars(rooms)
+        if asked != self.asked:                   # the independent implementation has no index and no seed
+            self.asked, self.result = asked, oracle.read(model, file, rooms)
         self.put("read", text, model, file, lent_to_read(rooms, index, answer_room, seed), by_hand,
-                 read_parts(oracle.read(model, file, rooms), answer_room))
+                 read_parts(self.result, answer_room))
 
     def write(self, text, model, t, width, room, index, seed, answer_room, expected=None):
         answer, output = oracle.write(model, t, width, room)

@@ -2,9 +2,12 @@
 code with.
 
 Written from documents 01 and 02, our readings of them and document 000 alone, before the definitions were read.
-Everything is done the plain way: no care is taken of speed. An answer is a tuple of four numbers. Buffers come back as
-lists, as long as they were lent, zero behind their used part and all zero after a refusal.
+Everything is done the plain way: no care is taken of speed, but that a model that was asked is kept. An answer is a
+tuple of four numbers. Buffers come back as lists, as long as they were lent, zero behind their used part and all zero
+after a refusal.
 """
+
+import functools
 
 MODEL_LIMIT = 65536
 FILE_LIMIT = 16777216
@@ -158,7 +161,11 @@ def read_attribute(payload, record):
 
 def decode(model):
     """The model, or Bad with the first bad record's byte."""
-    model = bytes(model)
+    return decoded(bytes(model))
+
+
+@functools.lru_cache(maxsize=256)
+def decoded(model):
     need(len(model) <= MODEL_LIMIT, 0)
     m = Model()
     at = 0
@@ -233,6 +240,9 @@ def is_permitted(c):
     return c == 0x09 or 0x20 <= c <= 0x7E or 0xA0 <= c
 
 
+PERMITTED = bytes(c for c in range(256) if is_permitted(c))
+
+
 def physical_lines(file):
     """Pairs of a line's bytes before its LF and whether it has one."""
     pieces = bytes(file).split(b"\n")
@@ -258,7 +268,7 @@ def logical_lines(mark, file):
             raise Refusal(3, number)
         if continued and not content.startswith(b"CONT "):
             raise Refusal(5, number)
-        if not all(is_permitted(c) for c in content):
+        if content.translate(None, PERMITTED):    # what is left without the permitted bytes
             raise Refusal(4, number)
         part = content[5:] if continued else content
         if marked:
