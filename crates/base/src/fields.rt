@@ -6,7 +6,7 @@ ghost use Rattle.base.specs.Fields.{NextField};
 use crate::kinds;
 
 // The next field of the rest of a line: where it starts in the rest, and how long it is.
-#[derive(Drop)]
+#[derive(Clone, Copy)]
 pub enum Next {
     Field { start: usize, len: usize },
     Nothing,

@@ -1,4 +1,6 @@
-// Bytes and lists of bytes: their kinds, comparing, and lent rooms.
+//! Bytes and lists of bytes: their kinds, comparing, and lent rooms.
+#![tactic(auto)]
+
 pub mod bools;
 pub mod compare;
 pub mod fields;

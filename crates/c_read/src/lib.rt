@@ -1,4 +1,6 @@
-// Reading exported to C, on slices, answering one u64: the answer's first number plus 256 times its second.
+//! Reading exported to C, on slices, answering one u64: the answer's first number plus 256 times its second.
+#![tactic(auto)]
+
 ghost use Rattle.std.specs.Prelude.{◌≡◌, length, replicate};
 ghost use Rattle.meaning.specs.Answer.{code_for_c, numbers_in};
 ghost use Rattle.meaning.specs.Reading.{rooms_of};
@@ -22,29 +24,22 @@ pub extern "C" fn vendorfinch_read(
     seed: u64,
     answer: &mut [u64],
 ) -> u64
-    ensures* code { λ r. ⌜ (let rooms = rooms_of text.old marks.old rows.old
-        cells.old points.old in
-        let result = table.read model.now file.now rooms in r ≡ code_for_c result.answer) ⌝ }
-    ensures* answer { λ _. ⌜ (let rooms = rooms_of text.old marks.old rows.old
-        cells.old points.old in
-        let result = table.read model.now file.now rooms in
-        answer.new ≡ numbers_in (length answer.old) result.answer) ⌝ }
-    ensures* text { λ _. ⌜ (let rooms = rooms_of text.old marks.old rows.old
-        cells.old points.old in
-        let result = table.read model.now file.now rooms in text.new ≡ result.text) ⌝ }
-    ensures* marks { λ _. ⌜ (let rooms = rooms_of text.old marks.old rows.old
-        cells.old points.old in
-        let result = table.read model.now file.now rooms in marks.new ≡ result.marks) ⌝ }
-    ensures* rows { λ _. ⌜ (let rooms = rooms_of text.old marks.old rows.old
-        cells.old points.old in
-        let result = table.read model.now file.now rooms in rows.new ≡ result.rows) ⌝ }
-    ensures* cells { λ _. ⌜ (let rooms = rooms_of text.old marks.old rows.old
-        cells.old points.old in
-        let result = table.read model.now file.now rooms in cells.new ≡ result.cells) ⌝ }
-    ensures* points { λ _. ⌜ (let rooms = rooms_of text.old marks.old rows.old
-        cells.old points.old in
-        let result = table.read model.now file.now rooms in
-        points.new ≡ result.points) ⌝ }
+    ensures code { let rooms = rooms_of text.old marks.old rows.old cells.old points.old in
+        let meant = table.read model.now file.now rooms in result ≡ code_for_c meant.answer }
+    ensures answer { let rooms = rooms_of text.old marks.old rows.old cells.old points.old in
+        let meant = table.read model.now file.now rooms in
+        answer.new ≡ numbers_in (length answer.old) meant.answer }
+    ensures text { let rooms = rooms_of text.old marks.old rows.old cells.old points.old in
+        let meant = table.read model.now file.now rooms in text.new ≡ meant.text }
+    ensures marks { let rooms = rooms_of text.old marks.old rows.old cells.old points.old in
+        let meant = table.read model.now file.now rooms in marks.new ≡ meant.marks }
+    ensures rows { let rooms = rooms_of text.old marks.old rows.old cells.old points.old in
+        let meant = table.read model.now file.now rooms in rows.new ≡ meant.rows }
+    ensures cells { let rooms = rooms_of text.old marks.old rows.old cells.old points.old in
+        let meant = table.read model.now file.now rooms in cells.new ≡ meant.cells }
+    ensures points { let rooms = rooms_of text.old marks.old rows.old cells.old points.old in
+        let meant = table.read model.now file.now rooms in
+        points.new ≡ meant.points }
     ensures index { index.new ≡ replicate (length index.old) 0 }
 {
     let read = read::read(model, file, text, marks, rows, cells, points, index, seed);

@@ -1,5 +1,7 @@
-// The check of a model and the unfolding, exported to C, on slices, each answering one u64: the answer's first number
-// plus 256 times its second.
+//! The check of a model and the unfolding, exported to C, on slices, each answering one u64: the answer's first number
+//! plus 256 times its second.
+#![tactic(auto)]
+
 ghost use Rattle.std.specs.Prelude.{◌≡◌, ◌≤◌, length};
 ghost use Rattle.meaning.specs.Answer.{check, unfold_text, code_for_c};
 ghost use Rattle.model_check.specs.Walk.{checked_meant};
@@ -42,12 +44,10 @@ pub extern "C" fn vendorfinch_check_model(model: &[u8]) -> u64
 // 0 and the number of text bytes, or reading's 1, 2, 3 to 6; the room holds the text and zeros, or nothing but zeros.
 #[unsafe(no_mangle)]
 pub extern "C" fn vendorfinch_unfold(model: &[u8], file: &[u8], text: &mut [u8]) -> u64
-    ensures* code { λ r. ⌜
-        (let result = unfold_text model.now file.now (length text.old) in
-        r ≡ code_for_c result.answer) ⌝ }
-    ensures* room { λ _. ⌜
-        (let result = unfold_text model.now file.now (length text.old) in
-        text.new ≡ result.text) ⌝ }
+    ensures code { let meant = unfold_text model.now file.now (length text.old) in
+        result ≡ code_for_c meant.answer }
+    ensures room { let meant = unfold_text model.now file.now (length text.old) in
+        text.new ≡ meant.text }
 {
     if 16777216 < file.len() {
         base::rooms::clear(text);

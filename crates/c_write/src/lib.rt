@@ -1,4 +1,6 @@
-// Writing exported to C, on slices, answering one u64: the answer's first number plus 256 times its second.
+//! Writing exported to C, on slices, answering one u64: the answer's first number plus 256 times its second.
+#![tactic(auto)]
+
 ghost use Rattle.std.specs.Prelude.{◌≡◌, length, replicate};
 ghost use Rattle.meaning.specs.Answer.{code_for_c};
 ghost use Rattle.meaning.specs.Width as writes;
@@ -27,19 +29,16 @@ pub extern "C" fn vendorfinch_write(
     seed: u64,
     answer: &mut [u64],
 ) -> u64
-    ensures* code { λ r. ⌜ (let table = lent_of text.now marks.now rows.now
-        cells.now points.now objects cells_used points_used in
-        let result = writes.write model.now table width (length out.old) in
-        r ≡ code_for_c result.answer) ⌝ }
-    ensures* output { λ _. ⌜ (let table = lent_of text.now marks.now rows.now
-        cells.now points.now objects cells_used points_used in
-        let result = writes.write model.now table width (length out.old) in
-        out.new ≡ result.output) ⌝ }
+    ensures code { let table = lent_of text.now marks.now rows.now cells.now points.now objects cells_used points_used in
+        let meant = writes.write model.now table width (length out.old) in
+        result ≡ code_for_c meant.answer }
+    ensures output { let table = lent_of text.now marks.now rows.now cells.now points.now objects cells_used points_used in
+        let meant = writes.write model.now table width (length out.old) in
+        out.new ≡ meant.output }
     ensures index { index.new ≡ replicate (length index.old) 0 }
-    ensures* answer { λ _. ⌜ (let table = lent_of text.now marks.now rows.now
-        cells.now points.now objects cells_used points_used in
-        let result = writes.write model.now table width (length out.old) in
-        answer.new ≡ numbers_in (length answer.old) result.answer) ⌝ }
+    ensures answer { let table = lent_of text.now marks.now rows.now cells.now points.now objects cells_used points_used in
+        let meant = writes.write model.now table width (length out.old) in
+        answer.new ≡ numbers_in (length answer.old) meant.answer }
 {
     let written = write::write(
         model,

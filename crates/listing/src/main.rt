@@ -1,5 +1,7 @@
-// The listing program: a model and a file from standard input, 65,536 bytes together at most; the answer, a line of
-// cells per object and a line per point to standard output.
+//! The listing program: a model and a file from standard input, 65,536 bytes together at most; the answer, a line of
+//! cells per object and a line per point to standard output.
+#![tactic(auto)]
+
 mod rooms;
 mod shown;
 

@@ -13,7 +13,7 @@ use base::bools;
 use model_records::{ATTRIBUTE, END, MODEL, TABLE, TOPIC, TRANSFER, numbers};
 
 // A good model with its count of topics, or the byte of the first bad record.
-#[derive(Drop)]
+#[derive(Clone, Copy)]
 pub enum Checked {
     Good(usize),
     Bad(usize),
@@ -21,7 +21,7 @@ pub enum Checked {
 
 // Where the check stands: the byte of a record, the kind of the one before it, how many topics, tables of the last
 // topic and attributes of the last table were seen, and how many tables in all.
-#[derive(Drop)]
+#[derive(Clone, Copy)]
 pub struct Walker {
     pub at: usize,
     pub before: u16,

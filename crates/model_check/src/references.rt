@@ -9,7 +9,7 @@ ghost use Rattle.model_check.specs.References.{topic_numbers, outside_meant, jud
 use model_records::{ATTRIBUTE, REFERENCE, TABLE, TOPIC, numbers};
 
 // The byte of the first reference to a table that is not there or in another topic, or none.
-#[derive(Drop)]
+#[derive(Clone, Copy)]
 pub enum Outside {
     At(usize),
     Nowhere,
@@ -17,7 +17,7 @@ pub enum Outside {
 
 // Where the judging stands: the byte of a record, the count of topics before it, and whether it lies behind a table's
 // record.
-#[derive(Drop)]
+#[derive(Clone, Copy)]
 pub struct Judge {
     pub at: usize,
     pub topics: usize,

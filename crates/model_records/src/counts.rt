@@ -7,7 +7,7 @@ ghost use Rattle.model_records.specs.Counts.{CountsOf};
 use crate::{ATTRIBUTE, COORDINATE_2, COORDINATE_3, LINE};
 
 // How many fields and pairs an attribute has, by its type's number.
-#[derive(Drop)]
+#[derive(Clone, Copy)]
 pub struct Counts {
     pub fields: usize,
     pub pairs: usize,

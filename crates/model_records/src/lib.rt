@@ -1,4 +1,6 @@
-// A good model's records: kinds, names, attributes with their type and components by value.
+//! A good model's records: kinds, names, attributes with their type and components by value.
+#![tactic(auto)]
+
 ghost use Rattle.std.specs.Prelude.{◌≡◌, ◌+◌, ◌≤◌, length, drop, eqb, leb};
 ghost use Rattle.meaning.specs.Bytes.{choose, byte_at};
 ghost use Rattle.meaning.specs.Model.{flag_of};
@@ -44,14 +46,14 @@ pub const ENUMERATION: u8 = 7;
 pub const LINE: u8 = 8;
 
 // A component, and the components of an attribute, by value: a small array and its count.
-#[derive(Drop)]
+#[derive(Clone, Copy)]
 pub struct Component {
     pub decimals: u8,
     pub least: i64,
     pub greatest: i64,
 }
 
-#[derive(Drop)]
+#[derive(Clone, Copy)]
 pub struct Components {
     pub count: usize,
     pub items: [Component; 3],
@@ -59,7 +61,7 @@ pub struct Components {
 
 // An attribute: kind is its type's number, 1 to 8; number is a reference's table, a text's longest length, an
 // enumeration's leaves or a line's forms; a number has one component.
-#[derive(Drop)]
+#[derive(Clone, Copy)]
 pub struct Attribute {
     pub optional: bool,
     pub kind: u8,

@@ -10,7 +10,7 @@ ghost use Rattle.model_records.specs.Places.{noted_by, RecordPassed, RecordsPlac
 use crate::{END, TABLE, TOPIC};
 
 // What a call needs of a good model, by value: made once, behind the check.
-#[derive(Drop)]
+#[derive(Clone, Copy)]
 pub struct Shape {
     pub topics: usize,
     pub tables: usize,
@@ -19,7 +19,7 @@ pub struct Shape {
 }
 
 // A place among the records: the topics and tables passed, and the byte of the next record.
-#[derive(Drop)]
+#[derive(Clone, Copy)]
 pub struct RecordCursor {
     pub topics: usize,
     pub tables: usize,

@@ -1,4 +1,6 @@
-// Reading: a file under a model into lent buffers.
+//! Reading: a file under a model into lent buffers.
+#![tactic(auto)]
+
 ghost use Rattle.std.specs.Prelude.{◌≡◌, ◌+◌, ◌≤◌, ◌<◌, ◌^◌, length, replicate};
 ghost use Rattle.meaning.specs.Unfold.{unfold_file};
 ghost use Rattle.meaning.specs.Check.{good, check_model};
@@ -27,8 +29,7 @@ fn read_good(
 ) -> Answer
     requires model_value { check_model model.now ≡ good (model_at model.now) }
     requires file_len_bound { length file.now ≤ 16777216 }
-    ensures read { let rooms = rooms_of text.old marks.old rows.old
-        cells.old points.old in
+    ensures read { let rooms = rooms_of text.old marks.old rows.old cells.old points.old in
         let m = model_at model.now in
         ReadInto (table.read_unfolded m rooms (unfold_file m.mark file.now)) rooms
         text.new marks.new rows.new cells.new points.new result }
@@ -108,8 +109,7 @@ fn read_into(
     index: &mut [u64],
     seed: u64,
 ) -> Answer
-    ensures read { let rooms = rooms_of text.old marks.old rows.old
-        cells.old points.old in
+    ensures read { let rooms = rooms_of text.old marks.old rows.old cells.old points.old in
         ReadInto (table.read model.now file.now rooms) rooms
         text.new marks.new rows.new cells.new points.new result }
     ensures fits { Fits rows.new cells.new points.new result }
@@ -137,25 +137,19 @@ pub fn read(
     index: &mut [u64],
     seed: u64,
 ) -> Answer
-    ensures* answer { λ r. ⌜ (let rooms = rooms_of text.old marks.old rows.old
-        cells.old points.old in
-        let result = table.read model.now file.now rooms in answer_of r ≡ result.answer) ⌝ }
-    ensures* text { λ _. ⌜ (let rooms = rooms_of text.old marks.old rows.old
-        cells.old points.old in
-        let result = table.read model.now file.now rooms in text.new ≡ result.text) ⌝ }
-    ensures* marks { λ _. ⌜ (let rooms = rooms_of text.old marks.old rows.old
-        cells.old points.old in
-        let result = table.read model.now file.now rooms in marks.new ≡ result.marks) ⌝ }
-    ensures* rows { λ _. ⌜ (let rooms = rooms_of text.old marks.old rows.old
-        cells.old points.old in
-        let result = table.read model.now file.now rooms in rows.new ≡ result.rows) ⌝ }
-    ensures* cells { λ _. ⌜ (let rooms = rooms_of text.old marks.old rows.old
-        cells.old points.old in
-        let result = table.read model.now file.now rooms in cells.new ≡ result.cells) ⌝ }
-    ensures* points { λ _. ⌜ (let rooms = rooms_of text.old marks.old rows.old
-        cells.old points.old in
-        let result = table.read model.now file.now rooms in
-        points.new ≡ result.points) ⌝ }
+    ensures answer { let rooms = rooms_of text.old marks.old rows.old cells.old points.old in
+        let meant = table.read model.now file.now rooms in answer_of result ≡ meant.answer }
+    ensures text { let rooms = rooms_of text.old marks.old rows.old cells.old points.old in
+        let meant = table.read model.now file.now rooms in text.new ≡ meant.text }
+    ensures marks { let rooms = rooms_of text.old marks.old rows.old cells.old points.old in
+        let meant = table.read model.now file.now rooms in marks.new ≡ meant.marks }
+    ensures rows { let rooms = rooms_of text.old marks.old rows.old cells.old points.old in
+        let meant = table.read model.now file.now rooms in rows.new ≡ meant.rows }
+    ensures cells { let rooms = rooms_of text.old marks.old rows.old cells.old points.old in
+        let meant = table.read model.now file.now rooms in cells.new ≡ meant.cells }
+    ensures points { let rooms = rooms_of text.old marks.old rows.old cells.old points.old in
+        let meant = table.read model.now file.now rooms in
+        points.new ≡ meant.points }
     ensures index { index.new ≡ replicate (length index.old) 0 }
 {
     let answer = read_into(model, file, text, marks, rows, cells, points, index, seed);

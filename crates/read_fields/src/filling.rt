@@ -20,7 +20,7 @@ use value_read::Value;
 
 // How far a row is filled: the byte of the rest of the line, the place of the next field, the cells used, and whether
 // the field before was defined.
-#[derive(Drop)]
+#[derive(Clone, Copy)]
 pub struct RowCursor {
     pub at: usize,
     pub place: usize,
@@ -29,7 +29,7 @@ pub struct RowCursor {
 }
 
 // What a field has to be: whether it must be defined, whether it must be undefined, and the type of its attribute.
-#[derive(Drop)]
+#[derive(Clone, Copy)]
 pub struct FieldRule {
     pub needed: bool,
     pub forbidden: bool,
@@ -40,7 +40,7 @@ pub struct FieldRule {
 
 // The row goes on; two undefined bytes stood at the place, with so many pairs of the attribute left; or a refusal and
 // its field.
-#[derive(Drop)]
+#[derive(Clone, Copy)]
 pub enum RowProgress {
     On(RowCursor),
     RestUndefined(RowCursor, usize),

@@ -5,7 +5,7 @@ use base::fields::Next;
 
 // No field is left; or where the next one starts in the rest, and how long it is: a defined one, the undefined byte, or
 // two of them.
-#[derive(Drop)]
+#[derive(Clone, Copy)]
 pub enum FieldForm {
     Missing,
     Defined(usize, usize),

@@ -78,7 +78,7 @@ fn read_code(field: &[u8]) -> u8
 }
 
 // A line's code, 0 where its first field is none, and where the rest of the line begins.
-#[derive(Drop)]
+#[derive(Clone, Copy)]
 pub struct Head {
     pub code: u8,
     pub behind: usize,

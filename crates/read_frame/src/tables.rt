@@ -17,7 +17,7 @@ use model_records::places::Shape;
 use read_state::{Due, FrameDue, NextDue};
 
 // The number of a table, a table behind a mandatory one, or no such table.
-#[derive(Drop)]
+#[derive(Clone, Copy)]
 pub enum TableFound {
     At(usize),
     Skipped,

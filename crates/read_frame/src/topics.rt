@@ -17,7 +17,7 @@ use model_records::places::Shape;
 use read_state::{Due, FrameDue, NextDue};
 
 // The number of a topic, or no such topic.
-#[derive(Drop)]
+#[derive(Clone, Copy)]
 pub enum TopicFound {
     At(usize),
     Missing,

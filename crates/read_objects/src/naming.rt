@@ -4,7 +4,7 @@ ghost use Rattle.read_objects.specs.Names.{Identifies};
 use read_fields::taking::FieldForm;
 
 // Where the identification starts in the rest of the line, and how long it is; or a refusal of field 2.
-#[derive(Drop)]
+#[derive(Clone, Copy)]
 pub enum IdentificationForm {
     At(usize, usize),
     No(u8),

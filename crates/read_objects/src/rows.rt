@@ -14,7 +14,7 @@ use read_fields::filling::{RowCursor, RowProgress};
 use read_fields::{filling, storing};
 
 // The row is full with so many cells behind its first three; or a refusal and its field.
-#[derive(Drop)]
+#[derive(Clone, Copy)]
 pub enum RowOut {
     Full(usize),
     No(u8, usize),

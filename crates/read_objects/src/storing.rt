@@ -16,7 +16,7 @@ use base::numbers;
 use read_state::{State, Step};
 
 // An identification: where it starts in the text, its length, and its hash.
-#[derive(Drop)]
+#[derive(Clone, Copy)]
 pub struct Name {
     pub start: usize,
     pub size: usize,

@@ -1,4 +1,6 @@
-// The lines of a line attribute: which line attribute is due, and what each of its lines makes of the table.
+//! The lines of a line attribute: which line attribute is due, and what each of its lines makes of the table.
+#![tactic(auto)]
+
 ghost use Rattle.std.specs.Prelude.{◌≡◌, List, ℕ, ◌+◌, ◌*◌, ◌≤◌, ◌<◌, ◌^◌, length, drop, get_or};
 ghost use Rattle.meaning.specs.Field.{Field, fields_of};
 ghost use Rattle.meaning.specs.Reading as meaning;

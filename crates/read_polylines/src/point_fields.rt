@@ -10,21 +10,21 @@ use read_fields::taking::FieldForm;
 use value_read::Value;
 
 // The value of the next field, and where the field ends in the rest; or the number of its refusal.
-#[derive(Drop)]
+#[derive(Clone, Copy)]
 pub enum ValueTaken {
     Value(i64, usize),
     No(u8),
 }
 
 // All values are read; or a refusal and its field.
-#[derive(Drop)]
+#[derive(Clone, Copy)]
 pub enum PointAnswer {
     Read,
     No(u8, usize),
 }
 
 // The answer, and the values: as many as there are components.
-#[derive(Drop)]
+#[derive(Clone, Copy)]
 pub struct PointOut {
     pub answer: PointAnswer,
     pub values: [i64; 3],

@@ -1,10 +1,12 @@
-// The state of reading, by value: what is due, the line state, and how much of each buffer is used.
+//! The state of reading, by value: what is due, the line state, and how much of each buffer is used.
+#![tactic(auto)]
+
 ghost use Rattle.std.specs.Prelude.{◌≡◌};
 ghost use Rattle.meaning.specs.Reading.{unstarted, started, in_arc, reached, lipt, move, is_forbidden};
 ghost use Rattle.read_state.specs.Meaning.{line_state_of, line_code_of, move_of};
 
 // How far the lines of a line attribute have come.
-#[derive(Drop)]
+#[derive(Clone, Copy)]
 pub enum LineState {
     Unstarted,
     Started,
@@ -13,7 +15,7 @@ pub enum LineState {
 }
 
 // The code of one of its lines.
-#[derive(Drop)]
+#[derive(Clone, Copy)]
 pub enum LineCode {
     Stpt,
     Lipt,
@@ -23,7 +25,7 @@ pub enum LineCode {
 }
 
 // What a line code makes of a line state: a point has its first cell and the next state.
-#[derive(Drop)]
+#[derive(Clone, Copy)]
 pub enum Move {
     Unexpected,
     UndefinedLine,
@@ -121,7 +123,7 @@ fn forbids_straight(state: LineState, forms: usize) -> bool
 
 // A line attribute whose lines are read: its object's table, its line state, its first point, the byte of its record,
 // and the cell of its pair.
-#[derive(Drop)]
+#[derive(Clone, Copy)]
 pub struct OpenLine {
     pub table: usize,
     pub state: LineState,
@@ -132,7 +134,7 @@ pub struct OpenLine {
 
 // A line outside objects: a topic may be this one or a later one; a table is one of this topic, the second number or a
 // later one.
-#[derive(Drop)]
+#[derive(Clone, Copy)]
 pub enum FrameDue {
     Opening,
     Description,
@@ -146,7 +148,7 @@ pub enum FrameDue {
 
 // What the next line has to be: a line outside objects, an object of this table or its end, or a line of a line
 // attribute.
-#[derive(Drop)]
+#[derive(Clone, Copy)]
 pub enum Due {
     Frame(FrameDue),
     Object(usize),
@@ -154,14 +156,14 @@ pub enum Due {
 }
 
 // What is due behind a line that adds nothing to the rows, cells and points; or a refusal and its field.
-#[derive(Drop)]
+#[derive(Clone, Copy)]
 pub enum NextDue {
     To(Due),
     No(u8, usize),
 }
 
 // What is due, and the counts of rows, cells and points read.
-#[derive(Drop)]
+#[derive(Clone, Copy)]
 pub struct State {
     pub due: Due,
     pub rows: usize,
@@ -170,7 +172,7 @@ pub struct State {
 }
 
 // The state behind a line, or a refusal and its field.
-#[derive(Drop)]
+#[derive(Clone, Copy)]
 pub enum Step {
     Go(State),
     No(u8, usize),

@@ -13,7 +13,7 @@ use model_records::places::Shape;
 use read_state::{Due, FrameDue, State, Step};
 
 // The state behind the last line; or the first refusal, its line and its field.
-#[derive(Drop)]
+#[derive(Clone, Copy)]
 pub enum LinesRun {
     Read(State),
     Stopped(u8, usize, usize),

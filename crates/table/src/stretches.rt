@@ -4,7 +4,7 @@ ghost use Rattle.table.specs.Stretches.{Cut};
 use base::numbers;
 
 // A part of the text.
-#[derive(Drop)]
+#[derive(Clone, Copy)]
 pub struct Part {
     pub start: usize,
     pub len: usize,

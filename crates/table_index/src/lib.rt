@@ -1,6 +1,8 @@
-// Finding an identification among the objects read so far, over working room that the caller lends.
-// What is found depends on the objects alone: neither on the index's length nor on the seed. Too short an index only
-// costs time.
+//! Finding an identification among the objects read so far, over working room that the caller lends.
+//! What is found depends on the objects alone: neither on the index's length nor on the seed. Too short an index only
+//! costs time.
+#![tactic(auto)]
+
 ghost use Rattle.std.specs.Prelude.{◌≡◌, true, false, ◌+◌, ◌*◌, ◌-◌, ◌/◌, ◌%◌, ◌≤◌, ◌<◌, T, pos, length, get_or, take, replicate};
 ghost use Rattle.std.specs.Int.Signed.{non_neg};
 ghost use Rattle.meaning.specs.Reading.{stretch, objects_of, is_used};
@@ -11,7 +13,7 @@ ghost use Rattle.table_index.specs.Index.{mix_of, hash_of, Chained, usable_of, I
 ghost use Rattle.table_index.specs.Holds.{found_of, ObjectsKnown};
 
 // An object's number, from 0 in file order.
-#[derive(Drop)]
+#[derive(Clone, Copy)]
 pub enum Found {
     At(usize),
     Nothing,

@@ -1,4 +1,6 @@
-// Unfolding (01, "Unfolding"): the physical lines of a file, continued by a mark, become logical lines in a lent room.
+//! Unfolding (01, "Unfolding"): the physical lines of a file, continued by a mark, become logical lines in a lent room.
+#![tactic(auto)]
+
 mod lines;
 mod steps;
 
@@ -12,7 +14,7 @@ use crate::steps::LinePart;
 use base::rooms;
 
 // What unfolding answers: the text's length; the number of a fault and its logical line; no room for the text.
-#[derive(Drop)]
+#[derive(Clone, Copy)]
 pub enum Answer {
     Text(usize),
     Fault(u8, usize),
@@ -21,7 +23,7 @@ pub enum Answer {
 
 // Before the physical line at `at`: its logical line, the length of the text so far (which goes on growing where the
 // room is full), and whether the line continues one.
-#[derive(Drop)]
+#[derive(Clone, Copy)]
 struct LineCursor {
     at: usize,
     line: usize,
@@ -29,7 +31,7 @@ struct LineCursor {
     continues: bool,
 }
 
-#[derive(Drop)]
+#[derive(Clone, Copy)]
 enum Turn {
     Go(LineCursor),
     Stop(Answer),

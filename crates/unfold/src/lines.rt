@@ -7,7 +7,7 @@ use base::{compare, kinds};
 
 // The first physical line: none is left; one with no LF; one with its content's length, and the next one's start, where
 // each byte of the content is permitted, and where one is not.
-#[derive(Drop)]
+#[derive(Clone, Copy)]
 pub(crate) enum First {
     Nothing,
     Open,

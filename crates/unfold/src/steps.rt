@@ -10,7 +10,7 @@ use base::{bools, compare};
 
 // What a step finds: no line left; the number of a fault; a part of a line that is continued, or that ends one. A part
 // is len bytes from start, and the next physical line begins at after.
-#[derive(Drop)]
+#[derive(Clone, Copy)]
 pub(crate) enum LinePart {
     Done,
     Bad(u8),

@@ -5,7 +5,7 @@ ghost use Rattle.meaning.specs.Value.{digits_after, digits_value, is_digits};
 ghost use Rattle.value_read.specs.Meant.{Reads};
 
 // The number that digits say, or that other bytes stand among them.
-#[derive(Drop)]
+#[derive(Clone, Copy)]
 pub enum DigitsFound {
     Number(u64),
     Others,

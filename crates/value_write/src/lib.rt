@@ -1,4 +1,6 @@
-// From a value to its bytes: "the shortest digits that read as the value, - only below zero".
+//! From a value to its bytes: "the shortest digits that read as the value, - only below zero".
+#![tactic(auto)]
+
 ghost use Rattle.std.specs.Prelude.{◌≡◌, ◌+◌, ◌-◌, ◌/◌, ◌≤◌, ◌<◌, ◌^◌, length};
 ghost use Rattle.std.proofs.lemmas.List.Edits.{sets};
 ghost use Rattle.meaning.specs.Digits.{last_digits, digits_of, sign_of, pointed, number_bytes, date_bytes};

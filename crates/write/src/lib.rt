@@ -1,4 +1,6 @@
-// The writer: the lines of a lent table, put into a lent room.
+//! The writer: the lines of a lent table, put into a lent room.
+#![tactic(auto)]
+
 ghost use Rattle.std.specs.Prelude.{◌≡◌, length, replicate};
 ghost use Rattle.meaning.specs.Width as meaning;
 ghost use Rattle.meaning.specs.Writing.{lent_of};
@@ -11,7 +13,7 @@ use table::Used;
 pub mod writing;
 
 // So many bytes are written; or a refusal, and the byte of the model's first bad record.
-#[derive(Drop)]
+#[derive(Clone, Copy)]
 pub enum Answer {
     Written(usize),
     Refused(u8, usize),
@@ -34,14 +36,12 @@ pub fn write(
     index: &mut [u64],
     seed: u64,
 ) -> Answer
-    ensures* answer { λ r. ⌜ (let table = lent_of text.now marks.now rows.now
-        cells.now points.now objects cells_used points_used in
-        let result = meaning.write model.now table width (length out.old) in
-        answer_of r ≡ result.answer) ⌝ }
-    ensures* output { λ _. ⌜ (let table = lent_of text.now marks.now rows.now
-        cells.now points.now objects cells_used points_used in
-        let result = meaning.write model.now table width (length out.old) in
-        out.new ≡ result.output) ⌝ }
+    ensures answer { let table = lent_of text.now marks.now rows.now cells.now points.now objects cells_used points_used in
+        let meant = meaning.write model.now table width (length out.old) in
+        answer_of result ≡ meant.answer }
+    ensures output { let table = lent_of text.now marks.now rows.now cells.now points.now objects cells_used points_used in
+        let meant = meaning.write model.now table width (length out.old) in
+        out.new ≡ meant.output }
     ensures index { index.new ≡ replicate (length index.old) 0 }
 {
     match model_check::check::check(model) {

@@ -1,4 +1,6 @@
-// The lines of a file, written from a table: topics, tables and their objects in model order.
+//! The lines of a file, written from a table: topics, tables and their objects in model order.
+#![tactic(auto)]
+
 pub mod file;
 pub mod lines;
 mod walk;

@@ -8,7 +8,7 @@ use write_lines::cuts::end_line;
 use write_lines::fields::{put_bytes, put_field};
 
 // What the lines look like, whatever the table: the model's undefined byte and mark, and the width.
-#[derive(Drop)]
+#[derive(Clone, Copy)]
 pub struct LineStyle {
     pub undefined: u8,
     pub mark: u8,

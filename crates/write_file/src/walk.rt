@@ -21,7 +21,7 @@ use write_lines::fields::put_nothing;
 use write_objects::objects;
 
 // What was put, and the number of the row that comes next.
-#[derive(Drop)]
+#[derive(Clone, Copy)]
 pub(crate) struct RowsWritten {
     pub(crate) put: Put,
     pub(crate) row: usize,

@@ -21,7 +21,7 @@ use model_records::{
 };
 
 // The pairs are fine, with so many points before what follows; or one is not.
-#[derive(Drop)]
+#[derive(Clone, Copy)]
 pub(crate) enum PairsJudged {
     At(usize),
     No,

@@ -13,7 +13,7 @@ use model_records::Components;
 use read_state::{LineCode, LineState, Move};
 
 // A point is fine, with the line state behind it; or it is not.
-#[derive(Drop)]
+#[derive(Clone, Copy)]
 pub(crate) enum PointJudged {
     To(LineState),
     No,

@@ -17,7 +17,7 @@ use model_records::places::Shape;
 use model_records::{counts, places};
 
 // Where the next row has to start, the count of points before it, and the least table that it may be of.
-#[derive(Drop)]
+#[derive(Clone, Copy)]
 pub(crate) struct Place {
     pub least: usize,
     pub at: usize,
@@ -25,7 +25,7 @@ pub(crate) struct Place {
 }
 
 // A row is fine, and the next one has its place; or it is not fine.
-#[derive(Drop)]
+#[derive(Clone, Copy)]
 pub(crate) enum RowJudged {
     On(Place),
     No,

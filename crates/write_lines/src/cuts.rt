@@ -10,7 +10,7 @@ use super::fields::{count_on, put_byte};
 use base::numbers;
 
 // How often a line is cut, and behind how many of its bytes last.
-#[derive(Drop)]
+#[derive(Clone, Copy)]
 struct Cuts {
     count: usize,
     last: usize,
