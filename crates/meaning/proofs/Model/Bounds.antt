@@ -53,7 +53,7 @@ tables_below_lem : (n k : ℕ) (rs : Records) → Below n rs → TablesBelow n (
 unfolding tables_of choose
 tables_below_lem n k (finish at) h = tt
 tables_below_lem n k (overrun at) h = tt
-tables_below_lem n k (entry at kind p others) h = go (eqb kind 4) _ _ (attributes_below n others h.1) (tables_below_lem n _ others h.1)
+tables_below_lem n k (entry at kind p others) h = go (eqb kind 4) _ _ (attributes_below n others h.1) (tables_below_lem n (choose (eqb kind 3) (k + 1) k) others h.1)
   where
     go : (x : Bool) (t : Table) (ts : List Table) → AttributesBelow n t.attributes → TablesBelow n ts → TablesBelow n (choose x (t ∷ ts) ts)
     go true t ts a o = (a, o)

@@ -95,7 +95,8 @@ records_later k (n ∷ ns) t ts l = rw (in_later k t ts l, records_later (k + 1)
 places_later : (at k : ℕ) (ns : List (List ℕ)) (t : Table) (ts : List Table) → t.topic < k → place_topics at k ns (t ∷ ts) ≡ place_topics at k ns ts
 unfolding place_topics
 places_later at k [] t ts l = refl
-places_later at k (n ∷ ns) t ts l = rw (in_later k t ts l, places_later _ (k + 1) ns t ts (omega arith))
+places_later at k (n ∷ ns) t ts l =
+    rw (in_later k t ts l, places_later (at + length (record_bytes 3 n) + length (table_records (tables_in k ts))) (k + 1) ns t ts (omega arith))
 
 none_in : (topic : ℕ) (ts : List Table) → table_names topic ts ≡ [] → tables_in topic ts ≡ []
 unfolding table_names tables_in choose

@@ -226,11 +226,11 @@ abbrev four_cells : Kind → (x y z : ℤ) → List ℤ
 four_cells kind x y z = pos (kind_cell kind) ∷ x ∷ y ∷ z ∷ []
 
 -- one point more
-point_more : {u forms j k k₁ : ℕ} {ks : List Component} {o : Bool} {next : LineState} {x y x' y' : ℤ} {these : List ℤ} (state : LineState) (kind : Kind) (px py pz : ℤ) (i : ℕ) → i ≡ j + 1
+point_more : {u forms j k : ℕ} {ks : List Component} {o : Bool} {next : LineState} {x y : ℤ} (state : LineState) (kind : Kind) (px py pz : ℤ) (i : ℕ) {k₁ : ℕ} {x' y' : ℤ} {these : List ℤ} → i ≡ j + 1
     → LineEnd u forms ks o next i k x y x' y' these k₁ → (next ≡ unstarted → ⊥) → move state (kind_code kind) ≡ point (kind_cell kind) next
     → is_forbidden forms state (kind_code kind) ≡ false → PointValues u ks px py pz → LineEnd u forms ks o state j k x y x' y' (four_cells kind px py pz ++ these) k₁
 point_more state kind px py pz i e skipped begun moves form values = absurd (begun refl)
-point_more {u = u} {forms = forms} {j = j} {k = k} {ks = ks} {o = o} {x = x} {y = y} {these = these} state kind px py pz i e (through n p l) begun moves form values =
+point_more {u = u} {forms = forms} {j = j} {k = k} {ks = ks} {o = o} {x = x} {y = y} state kind px py pz i {these = these} e (through n p l) begun moves form values =
     let z : i + n ≡ j + suc n = omega arith in
     let long : length (four_cells kind px py pz ++ these) ≡ 4 * suc n = omega arith in
     subst (λ (h : ℕ). LineEnd u forms ks o state j k x y (pos (1 + h)) (pos k) (four_cells kind px py pz ++ these) (k + h)) (sym z) (through (suc n) (add kind moves form values p) long)

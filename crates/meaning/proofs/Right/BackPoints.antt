@@ -219,6 +219,8 @@ module _ (m : Model) (rooms : Rooms) (own : List ℕ) (t k : ℕ) (a : LineAttri
             let g' : Goes (line_of (way reached)) (with_points (first ∷ second ∷ []) c) ls =
             subst (λ (y : Content). Goes (line_of (way reached)) y ls) (points_on (first ∷ []) (second ∷ []) c) (at_point 1 ws (line_of (way reached)) (with_points (first ∷ []) c) ls g) in
             behind_segment (b ∷ l ∷ []) (first ∷ second ∷ []) c ls (arc form p q) (ih ls (omega arith) (with_points (first ∷ second ∷ []) c) g')
+        by _ _ (on x _ _ _) g = elim x [ ]
+        by _ _ (bow x _ _ _) g = elim x [ ]
 
     straight_of : (n : ℕ) → ReachedAt n → (l : Line) (vs : List ℤ) (c : Content) → HasStraights a.forms → PointLine m.undefined a.components LIPT l vs → (ls : List Line) → length ls ≤ n
         → Goes (line_of (way reached)) (with_point (point_cells 1 vs) c) ls → SegmentsOf c (l ∷ ls)
@@ -265,6 +267,8 @@ module _ (m : Model) (rooms : Rooms) (own : List ℕ) (t k : ℕ) (a : LineAttri
       where
         by : (due : Due) (x : Content) → LineStep l c unstarted due x → Goes due x ls → AttributeOf c (l ∷ ls)
         by _ _ (skip e o) g = undrawn_of l ls refl e o g
+        by _ _ (on x _ _ _) g = elim x [ ]
+        by _ _ (bow x _ _ _) g = elim x [ ]
         by _ _ (begin vs p) g =
             let first : Point = record { kind = 0; values = vs } in
             let s = started_of ls (with_points (first ∷ []) c) (at_point 0 vs (line_of (way started)) c ls g) in

@@ -201,17 +201,17 @@ module _ (m : Model) (rooms : Rooms) (own : List ℕ) (t : ℕ) (z : Content) wh
   rest_of place ps (f ∷ fs) xs e = absurd (no_cells 11 (place + 1) xs e)
 
   -- what the field before was, where it did not cover this one
-  was_defined : (b : Before) → flag_of b ≡ true → b ≡ was_defined
+  was_defined_lem : (b : Before) → flag_of b ≡ true → b ≡ was_defined
   unfolding flag_of
-  was_defined was_defined h = refl
-  was_defined was_undefined h = absurd (false≢true h)
-  was_defined covered h = absurd (false≢true h)
+  was_defined_lem was_defined h = refl
+  was_defined_lem was_undefined h = absurd (false≢true h)
+  was_defined_lem covered h = absurd (false≢true h)
 
-  was_undefined : (b : Before) → is_covered b ≡ false → flag_of b ≡ false → b ≡ was_undefined
+  was_undefined_lem : (b : Before) → is_covered b ≡ false → flag_of b ≡ false → b ≡ was_undefined
   unfolding flag_of is_covered
-  was_undefined was_defined c h = absurd (true≢false h)
-  was_undefined was_undefined c h = refl
-  was_undefined covered c h = absurd (true≢false c)
+  was_undefined_lem was_defined c h = absurd (true≢false h)
+  was_undefined_lem was_undefined c h = refl
+  was_undefined_lem covered c h = absurd (true≢false c)
 
   no_line : {p : Pair} {type : AttributeType} → FieldType p type → (ps : List Pair) (cell : ℕ) → line_attributes cell (p ∷ ps) ≡ line_attributes (cell + 2) ps
   unfolding line_attributes
@@ -223,18 +223,18 @@ module _ (m : Model) (rooms : Rooms) (own : List ℕ) (t : ℕ) (z : Content) wh
     value_entry : {p : Pair} {type : AttributeType} {fs : List Field} {e : Entry} → FieldType p type → MayBeDefined (flag_of b) p → Defined m.undefined f → Means type f e
         → PairEntries m.undefined was_defined ps fs ls es → PairEntries m.undefined b (p ∷ ps) (f ∷ fs) ls (e ∷ es)
     value_entry of_attribute may d n r = defined d n r
-    value_entry of_component may d (number h) r = rw (was_defined b may) (also_defined d h r)
+    value_entry of_component may d (number h) r = rw (was_defined_lem b may) (also_defined d h r)
 
     module _ (cov : is_covered b ≡ false) where
       none_entry : {p : Pair} {type : AttributeType} {fs : List Field} → FieldType p type → MayBeUndefined (flag_of b) p → is_undefined m.undefined f ≡ true
           → PairEntries m.undefined was_undefined ps fs ls es → PairEntries m.undefined b (p ∷ ps) (f ∷ fs) ls (Undefined ∷ es)
       none_entry of_attribute may h r = rw may (undefined h r)
-      none_entry of_component may h r = rw (was_undefined b cov may) (also_undefined h r)
+      none_entry of_component may h r = rw (was_undefined_lem b cov may) (also_undefined h r)
 
       rest_entry : {p : Pair} {type : AttributeType} → FieldType p type → MayBeUndefined (flag_of b) p → is_undefined_twice m.undefined f ≡ true
           → PairEntries m.undefined covered ps [] ls es → PairEntries m.undefined b (p ∷ ps) (f ∷ []) ls (Undefined ∷ es)
       rest_entry of_attribute may h r = rw may (cover h r)
-      rest_entry of_component may h r = rw (was_undefined b cov may) (also_cover h r)
+      rest_entry of_component may h r = rw (was_undefined_lem b cov may) (also_cover h r)
 
   field_reads : {p : Pair} {type : AttributeType} {ps : List Pair} {f : Field} {fs : List Field} (b : Before) (place : ℕ) (xs : List ℤ) → FieldType p type → is_covered b ≡ false
       → ((ys : List ℤ) → pair_cells m.undefined true (place + 1) ps fs ≡ cells ys → Reads was_defined ps fs ys)

@@ -73,7 +73,7 @@ least_values_lem u at [] su g = right.Values.none
 least_values_lem u at (c ∷ cs) su g =
     let r = both (good_component c) _ g in
     let n = least_number u c su r.0 in
-    right.Values.one (record { one = n.field.one; two = n.field.two }) n.reads (least_values_lem u _ cs su r.1)
+    right.Values.one (record { one = n.field.one; two = n.field.two }) n.reads (least_values_lem u (at + length (number_bytes c.decimals c.least) + 1) cs su r.1)
 
 -- ## To the end
 

@@ -21,9 +21,9 @@ use Rattle.meaning.proofs.Tests.Same.{same_not}
 use Rattle.meaning.proofs.Reading.Fields.{Solid}
 use Rattle.meaning.proofs.Reading.FieldsRead.{AllAre, fields_are_lem}
 use Rattle.meaning.proofs.Reading.Stretches.{AllStand, text_behind, line_stands}
-use Rattle.meaning.proofs.Reading.References.{flat_rows, row_starts, flat_append}
+use Rattle.meaning.proofs.Reading.References.{flat_rows, row_cells, row_starts, flat_append}
 use Rattle.meaning.proofs.Right.Steps.{step_at, steps, step_on, steps_on}
-use Rattle.meaning.proofs.Right.Content.{early_cells, late_cells, early_length, late_length, points_length, points_append, delivered_points, rows_from, rows_append, content_of, head_of, content_more, AllNamesStand, names_stand_append, objects_names}
+use Rattle.meaning.proofs.Right.Content.{early_cells, late_cells, early_length, late_length, points_length, points_append, delivered_points, row_for, rows_from, rows_append, content_of, head_of, content_more, AllNamesStand, names_stand_append, objects_names}
 use Rattle.meaning.proofs.Right.Points.{coded_fields}
 use Rattle.meaning.proofs.Right.PairEntries.{was_defined, is_covered, PairEntries, pairs_of_entries}
 use Rattle.meaning.proofs.Right.Rows.{flag_of, entries_cells, with_entries, entries_lines}
@@ -86,7 +86,7 @@ room_left rooms os ds r =
 pub starts_length : (base k : ℕ) (os : List Delivered) → length (row_starts base (rows_from k os)) ≡ length os
 unfolding row_starts rows_from
 starts_length base k [] = refl
-starts_length base k (o ∷ os) = ap suc (starts_length _ _ os)
+starts_length base k (o ∷ os) = ap suc (starts_length (base + length (row_cells (row_for k o))) (k + length (entry_points o.entries)) os)
 
 record RoomMore (rooms : Rooms) (os : List Delivered) (o : Delivered) : Type 0 where
   rows : length os < rooms.rows

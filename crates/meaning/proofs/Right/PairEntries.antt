@@ -160,6 +160,11 @@ covered_end (also_defined d n r) (there x) = also_defined d n (covered_end r x)
 covered_end (also_undefined e r) (here h k all) = also_cover h (all_covered r all)
 covered_end (also_undefined e r) (there x) = also_undefined e (covered_end r x)
 covered_end {u} (also_cover {f = g} e r) (here h k all) = absurd (not_both u g k e)
+covered_end done x = elim x [ ]
+covered_end (cover e r) (there x) = elim x [ ]
+covered_end (under r) x = elim x [ ]
+covered_end (also_cover e r) (there x) = elim x [ ]
+covered_end (also_under r) x = elim x [ ]
 covered_end (undrawn l r) x = undrawn l (covered_end r x)
 covered_end (along d r) x = along d (covered_end r x)
 

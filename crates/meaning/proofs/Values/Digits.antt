@@ -46,7 +46,7 @@ is_digit n h = rw (le-leb 0x30 (0x30 + n) (omega arith), le-leb (0x30 + n) 0x39 
 pub after_append : (n : ℕ) (s t : List ℕ) → digits_after n (s ++ t) ≡ digits_after (digits_after n s) t
 unfolding digits_after
 after_append n [] t = refl
-after_append n (b ∷ s) t = after_append _ s t
+after_append n (b ∷ s) t = after_append (n * 10 + (b - 0x30)) s t
 
 pub last_digits_lem : (k n : ℕ) → every digit (last_digits k n) ≡ true
 unfolding last_digits every

@@ -72,7 +72,7 @@ module _ (m : Model) (text : List ℕ) (c : Content) (own : List ℕ) where
       let c₁ : get_or (front ++ all) (at + 1) (pos 0) ≡ pos start = rw (← e) (get_or-append-add front all 1 (pos 0)) in
       let c₂ : get_or (front ++ all) (at + 2) (pos 0) ≡ pos size = rw (← e) (get_or-append-add front all 2 (pos 0)) in
       let ih = rw (append_assoc front here (zs ++ rest)) at (rows_objects r (front ++ here) rest (length-append front here ∙ (let z : length here ≡ 3 + length xs = omega arith in rw (e, z)))) in
-      rw (whole, c₀, c₁, c₂, a, i, ih)
+      subst (λ (l : List ℤ). objects_of own (front ++ l) (at ∷ rows) ≡ lent_objects text c.cells (at ∷ rows)) (sym whole) (rw (c₀, c₁, c₂, a, i, ih))
 
 pub like_length : {text : List ℕ} {c : Content} {own : List ℕ} {drawn : Bool} {ps : List Pair} {cs xs : List ℤ} → Like text c own drawn ps cs xs → length xs ≡ 2 * length ps
 like_length nil = refl
