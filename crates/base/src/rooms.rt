@@ -39,8 +39,9 @@ pub fn append(part: &[u8], room: &mut [u8], used: usize) -> usize
     ensures front { take result room.new ≡ take used room.old ++ part.now }
     ensures behind { drop result room.new ≡ drop result room.old }
 {
-    let n = bytes::copy(part, &mut room[used..]);
-    used + n
+    let end = used + part.len();
+    room[used..end].copy_from_slice(part);
+    end
 }
 
 // A number in its place, where the room has it.

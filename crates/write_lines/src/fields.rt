@@ -60,7 +60,7 @@ pub fn put_bytes(out: &mut [u8], put: Put, part: &[u8]) -> Put
     };
     if n <= out.len() {
         if part.len() <= out.len() - n {
-            bytes::copy(part, &mut out[n..]);
+            out[n..n + part.len()].copy_from_slice(part);
         }
     }
     all
