@@ -1,0 +1,7 @@
+-- `value_read::stretches::is_undefined_twice` meets its contract. Assumes nothing.
+use Rattle.meaning.specs.Value.{is_undefined_twice}
+use Rattle.value_read.proofs.stretches.is_undefined_twice.Goals as goal
+
+pub returns : goal.returns
+unfolding is_undefined_twice
+returns c = λ start. c.same_bytes.ensures
