@@ -6,7 +6,6 @@ use mathlib.Core.Bool.{Bool, ◌&&◌, and_assoc, and-true}
 use native.Mathlib.Numerals.{add-one}
 use lib.ListN.{length, drop, get_or, drop_of_length-le}
 use lib.Seq.{drop-cons}
-use Rattle.meaning.specs.Model as meaning
 use Rattle.meaning.specs.Check as meaning-check
 use Rattle.model_records.specs.Components.{component_of, list_of}
 use Rattle.model_records.specs.declared.Component.{Component}

@@ -1,7 +1,6 @@
 -- The end of the walk: the end record was the last, and the references are judged. Assumes nothing.
 use Prim.Native.Nat.{ℕ, ◌≤◌, ◌<◌}
 use mathlib.Core.Path.{◌≡◌, sym, ap, ◌∙◌}
-use mathlib.Core.Bool.{not}
 use mathlib.Core.List.{List}
 use lib.ListN.{length, take}
 use borrow.Author.Tests.{ne_eqb, eq-eqb, lt-ltb, le-ltb}

@@ -1,0 +1,10 @@
+-- `model_check::attributes::are_coordinates` meets its contract. Assumes nothing.
+use mathlib.Core.Bool.{and-true}
+use Rattle.meaning.specs.Bytes.{all_of}
+use Rattle.model_check.proofs.Types.{held_length}
+use Rattle.model_check.proofs.attributes.are_coordinates.Goals as goal
+
+pub returns : goal.returns
+unfolding all_of
+returns c =
+    rw (and-true, held_length c.args.components c.requires.count_bound c.requires.components_len, c.both.ensures, c.are_components.ensures, c.is_dimension.ensures)

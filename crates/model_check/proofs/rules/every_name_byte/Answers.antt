@@ -1,0 +1,26 @@
+-- `model_check::rules::every_name_byte` meets its contract. Assumes nothing.
+use native.Mathlib.Omega.{arith}
+use mathlib.Core.Path.{refl}
+use Rattle.meaning.specs.Check.{name_byte}
+use Rattle.base.proofs.Scan.{every_turn, every_end}
+use Rattle.model_check.proofs.rules.every_name_byte.Goals as goal
+
+pub loop-i-init : goal.loop-i-init
+loop-i-init c = (omega arith, refl)
+
+pub bounds-l-i : goal.bounds-l-i
+bounds-l-i c = omega arith
+
+pub overflow_add-i : goal.overflow_add-i
+overflow_add-i c = omega arith
+
+pub loop-i-smaller : goal.loop-i-smaller
+loop-i-smaller c = omega arith
+
+pub loop-i-preserved : goal.loop-i-preserved
+loop-i-preserved c =
+    (omega arith, rw (c.both-all.ensures, c.is_name_byte.ensures) (every_turn name_byte c.args.l.now c.loop-i.i c.loop-i.all (omega arith) c.loop-i.invariant.1))
+
+pub returns : goal.returns
+returns c =
+    every_end name_byte c.args.l.now c.loop-i.i c.loop-i.all c.loop-i-test.false c.loop-i.invariant.1
