@@ -1,0 +1,36 @@
+-- `value_write::written::put_value` meets its contract. Assumes nothing.
+use Prim.Native.Nat.{ℕ, ◌+◌, ◌≤◌}
+use mathlib.Core.Path.{◌≡◌, ◌∙◌, ap}
+use mathlib.Core.List.{List}
+use native.Mathlib.Omega.{arith}
+use lib.IntN.{nat_abs}
+use lib.ListN.{length}
+use lib.Seq.{length-sets}
+use mir.Syntax.{w64}
+use mir.ValLaws.{to_z-of_z}
+use Rattle.meaning.specs.Digits.{sign_of}
+use Rattle.meaning.proofs.Values.Shortest.{sign_one}
+use Rattle.base.proofs.Signs.{abs_mag}
+use Rattle.value_write.proofs.Stores.{point_most, value_put}
+use Rattle.value_write.proofs.put_value.Goals as goal
+
+pub count_digits-size-requires : goal.count_digits-size-requires
+count_digits-size-requires c =
+    let e : c.magnitude-n.result ≡ nat_abs c.args.v = rw (to_z-of_z w64 c.args.v c.ranges.v) at c.magnitude-n.ensures in
+    (omega (arith, e, abs_mag c.args.v, c.ranges.v.sfits), omega (arith, c.requires), c.requires.1)
+
+pub overflow_add-end : goal.overflow_add-end
+overflow_add-end c =
+    let e = rw (to_z-of_z w64 c.args.v c.ranges.v) at c.put_sign-sign.ensures.size in
+    omega (arith, e, sign_one c.args.v, c.count_digits-size.ensures)
+
+pub overflow_add-end-2 : goal.overflow_add-end-2
+overflow_add-end-2 c =
+    let e = rw (to_z-of_z w64 c.args.v c.ranges.v) at c.put_sign-sign.ensures.size in
+    omega (arith, e, sign_one c.args.v, c.count_digits-size.ensures, c.point_size.ensures, point_most c.args.decimals)
+
+pub slice_bounds-put_parts-end : goal.slice_bounds-put_parts-end
+slice_bounds-put_parts-end c =
+    let e = rw (to_z-of_z w64 c.args.v c.ranges.v) at c.put_sign-sign.ensures in
+    let l = ap (λ (l : List ℕ). length l) e.bytes ∙ length-sets c.args.out.now 0 (sign_of c.args.v) in
+    omega (arith, l, e.size, sign_one c.args.v, c.count_digits-size.ensures, c.point_size.ensures, point_most c.args.decimals, c.requires)
