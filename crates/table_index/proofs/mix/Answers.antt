@@ -11,22 +11,22 @@ small h k a b =
     let x : h * k ≤ h * 1073741824 = mul-le-mul_left h b in
     omega arith
 
-sized : (s : tie.Start) → s.args.h * s.args.k ≤ 4611686017353646080
-sized s = small s.args.h s.args.k s.requires.1 s.requires.0
-
 pub overflow_mul-x : goal.overflow_mul-x
-overflow_mul-x c = omega (arith, sized c)
+overflow_mul-x c =
+    omega (arith, (let known : c.args.h * c.args.k ≤ 4611686017353646080 = small c.args.h c.args.k c.requires.h_bound c.requires.k_bound in known))
 
 pub overflow_add-x : goal.overflow_add-x
-overflow_add-x c = omega (arith, sized c)
+overflow_add-x c =
+    omega (arith, (let known : c.args.h * c.args.k ≤ 4611686017353646080 = small c.args.h c.args.k c.requires.h_bound c.requires.k_bound in known))
 
 pub overflow_add-result : goal.overflow_add-result
-overflow_add-result c = omega (arith, sized c)
+overflow_add-result c =
+    omega (arith, (let known : c.args.h * c.args.k ≤ 4611686017353646080 = small c.args.h c.args.k c.requires.h_bound c.requires.k_bound in known))
 
 pub returns : goal.returns
 unfolding mix_of
 returns c =
     record {
       value = refl;
-      upper_bound = omega (arith, sized c);
+      upper_bound = omega (arith, (let known : c.args.h * c.args.k ≤ 4611686017353646080 = small c.args.h c.args.k c.requires.h_bound c.requires.k_bound in known));
     }
