@@ -110,7 +110,8 @@ unfolding mandatory_between
 between_more p from n [] i l = absurd (omega arith)
 between_more p from n (t ∷ ts) zero l =
     let e : n + 0 ≡ n = omega arith in
-    rw (e, lt-ltb n (n + 1) (omega arith), le-ltb n n (omega arith), between_none p from (n + 1) (n + 1) ts (omega arith), between_none p from n (n + 1) ts (omega arith))
+    let e' : n + 0 + 1 ≡ n + 1 = omega arith in
+    rw (e', e, lt-ltb n (n + 1) (omega arith), le-ltb n n (omega arith), between_none p from (n + 1) (n + 1) ts (omega arith), between_none p from n (n + 1) ts (omega arith))
     (go (leb from n) (eqb t.topic p) (not t.optional))
   where
     go : (x y z : Bool) → (x && true && y && z || false) ≡ ((x && false && y && z || false) || (x && y && z))

@@ -5,6 +5,7 @@ use mathlib.Core.Path.{◌≡◌, refl, sym, subst, ◌∙◌}
 use mathlib.Core.List.{List, [], ◌∷◌, ◌++◌, append_assoc, append-nil}
 use lib.ListN.{length, take, drop, get_or, set, length-append, length-drop, drop_of_length-le}
 use lib.Seq.{sets, sets-eq, length-sets, take-length, take_at, drop-drop}
+use borrow.Rule.Slice.PartMut.{put_mid}
 use Rattle.base.proofs.Fill.{to_end}
 use Rattle.write_lines.specs.declared.Put.{Put}
 use Rattle.write_lines.specs.Puts.{last_in, Puts}
@@ -55,12 +56,11 @@ module _ (bs : List ℕ) (p r : Put) (e : List ℕ) (count : r.count ≡ min 429
   pub full : length e < p.count + length bs → Puts bs p e e r
   full h = record { count = count; last = last; room = refl; bytes = λ a b. absurd (omega arith) }
 
--- a part copied into the room behind n, as a slice lent from n to its end comes back
-pub copied : (n : ℕ) (xs part : List ℕ) → n + length part ≤ length xs
-    → take n xs ++ (take (length part) part ++ drop (length part) (take (length xs - n) (drop n xs)) ++ drop (length xs - n) (drop n xs)) ≡ sets xs n part
+-- a part copied into the room behind n, as the part of a slice that is lent for it comes back
+pub copied : (n : ℕ) (xs part : List ℕ) → n + length part ≤ length xs → put_mid n (n + length part - n) xs part ≡ sets xs n part
 copied n xs part h =
-    rw (take-length part, to_end xs n, drop_of_length-le (drop n xs) {i = length xs - n} (omega (arith, length-drop n xs)), append-nil, drop-drop, sets-eq part xs n h)
-    (sym (append_assoc (take n xs) part (drop (n + length part) xs)))
+    let z : n + length part - n ≡ length part = omega arith in
+    rw (z, drop-drop, sets-eq part xs n h) (sym (append_assoc (take n xs) part (drop (n + length part) xs)))
 
 -- bytes set at the front of the slice lent from n to its end stand behind n
 pub stood : (n : ℕ) (xs bs : List ℕ) → n + length bs ≤ length xs

@@ -12,3 +12,56 @@ put_cuts-requires c =
       start_le_end = (c.requires.0, rw length-set (omega arith), c.requires.2, c.requires.3);
       last_value = (k.placed, omega (arith, k.near, c.requires));
     }
+
+pub returns-then-n-more : goal.returns-then-n-more
+returns-then-n-more c line before e at some p =
+    let k = c.count_cuts-cuts in
+    let a = c.args in
+    cut_stands
+    a.mark
+    a.width
+    line
+    before
+    a.put
+    e
+    a.out.now
+    p
+    a.start
+    k.result.count
+    k.result.last
+    _
+    at
+    some
+    c.requires.1
+    k.ensures
+    c.count_on.ensures
+    refl
+    _
+    (rw length-set at c.put_cuts.auto.out)
+    (omega arith)
+    c.put_cuts.ensures
+
+pub returns-else-n-more : goal.returns-else-n-more
+returns-else-n-more c line before e at some p =
+    let k = c.count_cuts-cuts in
+    let a = c.args in
+    cut_none
+    a.mark
+    a.width
+    line
+    before
+    a.put
+    e
+    a.out.now
+    p
+    a.start
+    k.result.count
+    k.result.last
+    _
+    at
+    some
+    c.requires.1
+    k.ensures
+    c.count_on.ensures
+    refl
+    (omega arith)

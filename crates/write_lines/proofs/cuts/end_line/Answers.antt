@@ -18,3 +18,11 @@ returns-then-n-start-2 c =
       ends = λ line before e at some p.
           ended_whole a.mark a.width line before a.put e a.out.now p _ _ (omega arith) (omega (arith, p.count, c.last_room.ensures, last_room_of a.mark a.width line before a.put e a.out.now p some)) c.put_byte.ensures;
     }
+
+pub returns-else-n-start-2 : goal.returns-else-n-start-2
+returns-else-n-start-2 c =
+    let a = c.args in
+    record {
+      ends = λ line before e at some p.
+          ended_cut a.mark a.width line before a.put e a.out.now p _ _ (omega arith) (omega (arith, p.count, c.last_room.ensures, last_room_of a.mark a.width line before a.put e a.out.now p some)) (c.cut_line.ensures line before e at some p);
+    }

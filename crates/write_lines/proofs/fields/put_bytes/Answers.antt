@@ -14,3 +14,17 @@ pub returns-else-n-out : goal.returns-else-n-out
 returns-else-n-out c =
     let a = c.args in
     full a.part.now a.put _ a.out.now c.count_on.ensures c.last_in.ensures (omega arith)
+
+pub returns-then-part-out : goal.returns-then-part-out
+returns-then-part-out c =
+    let a = c.args in
+    let h : a.put.count + length a.part.now ≤ length a.out.now = omega arith in
+    stand
+    a.part.now
+    a.put
+    _
+    a.out.now
+    c.count_on.ensures
+    c.last_in.ensures
+    _
+    (rw c.copy_from_slice.ensures.after (copied a.put.count a.out.now a.part.now h))

@@ -1,0 +1,62 @@
+-- `read_frame::find_table` meets its contract. Assumes nothing.
+use Rattle.read_frame.proofs.Finds.{table_start, table_none, table_hit, table_pass, table_other, owed_start, owed_more, owed_other, table_found}
+use Prim.Native.Nat.{◌-◌}
+use mathlib.Core.Path.{sym, ◌∙◌}
+use mathlib.Core.Logic.{⊎_elim}
+use native.Mathlib.Omega.{arith}
+use Rattle.read_frame.proofs.tables.find_table.Goals as goal
+
+pub loop-t-init : goal.loop-t-init
+loop-t-init c = (omega arith, sym (owed_start _ _ _), table_start _ _ _ _)
+
+pub topic_of-requires : goal.topic_of-requires
+topic_of-requires c = let q = c.requires in (q.noted.room, omega (arith, c.loop-t-test.true, q.table_limit))
+
+pub table_at-requires : goal.table_at-requires
+table_at-requires c = let q = c.requires in (q.noted.room, omega (arith, c.loop-t-test.true, q.table_limit))
+
+pub is_table-requires : goal.is_table-requires
+is_table-requires c =
+    let r = c.requires.noted.table _ c.loop-t-test.true in rw c.table_at.ensures (r.flag, r.fits)
+
+pub returns-then-is_table : goal.returns-then-is_table
+returns-then-is_table c =
+    let q = c.requires in
+    let i = c.loop-t.invariant in
+    let k = c.loop-t-test.true in
+    let o = sym (c.topic_of.ensures ∙ q.noted.owner _ k) ∙ c.if-topic_of-topic.true in
+    let e = rw (c.table_at.ensures, (q.noted.table _ k).name) at (sym c.is_table.ensures ∙ c.if-is_table.true) in
+    rw c.found_table.ensures
+    (table_found _ _ _ _ _ _ (omega (arith, k, q.tables)) (i.2 ∙ table_hit _ _ _ _ _ (omega (arith, k, q.tables)) i.0 o e) i.1)
+
+pub is_optional-requires : goal.is_optional-requires
+is_optional-requires c =
+    record {
+      records_placed = c.requires;
+      table_lt_tables = c.loop-t-test.true;
+    }
+
+pub overflow_add-t : goal.overflow_add-t
+overflow_add-t c = omega (arith, c.loop-t-test.true, c.requires.table_limit)
+
+pub loop-t-smaller : goal.loop-t-smaller
+loop-t-smaller c = omega (arith, c.loop-t-test.true)
+
+pub loop-t-preserved : goal.loop-t-preserved
+loop-t-preserved c =
+    let q = c.requires in
+    let i = c.loop-t.invariant in
+    let k = c.loop-t-test.true in
+    let o = sym (c.topic_of.ensures ∙ q.noted.owner _ k) in
+    ⊎_elim
+    (λ w. let e = rw (w.1.ensures, (q.noted.table _ k).name) at (sym w.2.ensures ∙ w.3.left) in (
+      omega (arith, i.0),
+      w.6 ∙ w.5.ensures ∙ owed_more _ _ _ _ (omega (arith, k, q.tables)) _ _ i.0 (o ∙ w.0.taken) i.1 w.4.ensures,
+      i.2 ∙ table_pass _ _ _ _ _ (omega (arith, k, q.tables)) e,
+    ))
+    (λ w. (omega (arith, i.0), w.1 ∙ owed_other _ _ _ _ (omega (arith, k, q.tables)) _ (λ e. w.0.left (sym o ∙ e)) i.1, i.2 ∙ table_other _ _ _ _ _ (omega (arith, k, q.tables)) (λ e. w.0.left (sym o ∙ e))))
+    c.if-topic_of-topic.branch
+
+pub returns : goal.returns
+returns c =
+    let q = c.requires in c.loop-t.invariant.2 ∙ table_none _ _ _ _ _ (omega (arith, c.loop-t-test.false, q.tables))

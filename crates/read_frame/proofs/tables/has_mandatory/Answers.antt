@@ -1,0 +1,44 @@
+-- `read_frame::has_mandatory` meets its contract. Assumes nothing.
+use Rattle.read_frame.proofs.Finds.{owed_start, owed_more, owed_other, owed_end}
+use Prim.Native.Nat.{◌-◌}
+use mathlib.Core.Path.{sym, ◌∙◌}
+use mathlib.Core.Logic.{⊎_elim}
+use native.Mathlib.Omega.{arith}
+use Rattle.read_frame.proofs.tables.has_mandatory.Goals as goal
+
+pub loop-t-init : goal.loop-t-init
+loop-t-init c = (omega arith, sym (owed_start _ _ _))
+
+pub topic_of-requires : goal.topic_of-requires
+topic_of-requires c = let q = c.requires in (q.noted.room, omega (arith, c.loop-t-test.true, q.table_limit))
+
+pub is_optional-requires : goal.is_optional-requires
+is_optional-requires c =
+    record {
+      records_placed = c.requires;
+      table_lt_tables = c.loop-t-test.true;
+    }
+
+pub overflow_add-t : goal.overflow_add-t
+overflow_add-t c = omega (arith, c.loop-t-test.true, c.requires.table_limit)
+
+pub loop-t-smaller : goal.loop-t-smaller
+loop-t-smaller c = omega (arith, c.loop-t-test.true)
+
+pub loop-t-preserved : goal.loop-t-preserved
+loop-t-preserved c =
+    let q = c.requires in
+    let i = c.loop-t.invariant in
+    let k = c.loop-t-test.true in
+    let o = sym (c.topic_of.ensures ∙ q.noted.owner _ k) in (
+      omega (arith, i.0),
+      ⊎_elim
+          (λ w. w.3 ∙ w.2.ensures ∙ owed_more _ _ _ _ (omega (arith, k, q.tables)) _ _ i.0 (o ∙ w.0.taken) i.1 w.1.ensures)
+          (λ w. w.1 ∙ owed_other _ _ _ _ (omega (arith, k, q.tables)) _ (λ e. w.0.left (sym o ∙ e)) i.1)
+          c.if-topic_of-topic.branch,
+    )
+
+pub returns : goal.returns
+returns c =
+    let q = c.requires in
+    c.loop-t.invariant.1 ∙ owed_end _ _ _ _ (omega (arith, c.loop-t-test.false, q.tables))
