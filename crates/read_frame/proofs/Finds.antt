@@ -2,7 +2,7 @@
 use Prim.Native.Nat.{ℕ, zero, suc, ◌+◌, ◌≤◌, ◌<◌, min}
 use native.Mathlib.Omega.{arith}
 use native.Mathlib.Nat.{zero-add}
-use mathlib.Core.Path.{◌≡◌, refl, sym, ap, ◌∙◌}
+use mathlib.Core.Path.{◌≡◌, subst, refl, sym, ap, ◌∙◌}
 use mathlib.Core.Bool.{Bool, true, false, not, ◌&&◌, ◌||◌, or-false, or_assoc, and-false}
 use mathlib.Core.List.{List, [], ◌∷◌}
 use lib.Dec.{eqb, leb}
@@ -110,9 +110,11 @@ unfolding mandatory_between
 between_more p from n [] i l = absurd (omega arith)
 between_more p from n (t ∷ ts) zero l =
     let e : n + 0 ≡ n = omega arith in
-    let e' : n + 0 + 1 ≡ n + 1 = omega arith in
-    rw (e', e, lt-ltb n (n + 1) (omega arith), le-ltb n n (omega arith), between_none p from (n + 1) (n + 1) ts (omega arith), between_none p from n (n + 1) ts (omega arith))
-    (go (leb from n) (eqb t.topic p) (not t.optional))
+    subst
+    (λ (k : ℕ). mandatory_between p from (k + 1) n (t ∷ ts) ≡ (mandatory_between p from k n (t ∷ ts) || (leb from k && eqb t.topic p && not t.optional)))
+    (sym e)
+    (rw (lt-ltb n (n + 1) (omega arith), le-ltb n n (omega arith), between_none p from (n + 1) (n + 1) ts (omega arith))
+    (rw (between_none p from n (n + 1) ts (omega arith)) (go (leb from n) (eqb t.topic p) (not t.optional))))
   where
     go : (x y z : Bool) → (x && true && y && z || false) ≡ ((x && false && y && z || false) || (x && y && z))
     go true true true = refl
@@ -122,7 +124,10 @@ between_more p from n (t ∷ ts) zero l =
 between_more p from n (t ∷ ts) (suc i) l =
     let e : n + suc i ≡ n + 1 + i = omega arith in
     let ih = between_more p from (n + 1) ts i (omega arith) in
-    rw (e, lt-ltb n (n + 1 + i + 1) (omega arith), lt-ltb n (n + 1 + i) (omega arith), ih) (sym (or_assoc (leb from n && true && eqb t.topic p && not t.optional) _ _))
+    subst
+    (λ (k : ℕ). mandatory_between p from (k + 1) n (t ∷ ts) ≡ (mandatory_between p from k n (t ∷ ts) || (leb from k && eqb (table_at ts i).topic p && not (table_at ts i).optional)))
+    (sym e)
+    (rw (lt-ltb n (n + 1 + i + 1) (omega arith), lt-ltb n (n + 1 + i) (omega arith), ih) (sym (or_assoc (leb from n && true && eqb t.topic p && not t.optional) _ _)))
 
 -- all tables, up to any number behind them
 between_all : (p from to n : ℕ) (ts : List Table) → n + length ts ≤ to → mandatory_between p from to n ts ≡ mandatory_between p from (n + length ts) n ts
