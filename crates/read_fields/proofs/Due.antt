@@ -8,7 +8,7 @@ use lib.IntN.{ℤ, pos}
 use lib.ListN.{length, take, drop, length-drop}
 use lib.Seq.{sets, drop-drop}
 use Rattle.meaning.specs.Field.{fields_of}
-use Rattle.meaning.specs.Value.{pair, value_of, is_undefined, is_undefined_twice}
+use Rattle.meaning.specs.Value.{value_of, is_undefined, is_undefined_twice}
 use Rattle.meaning.specs.Row.{Pair, refused}
 use Rattle.model_records.specs.Components.{component_of}
 use Rattle.base.specs.Fields.{FirstField}
@@ -16,7 +16,7 @@ use Rattle.base.proofs.Fill.{to_end}
 use Rattle.value_read.specs.Meant.{field_of}
 use Rattle.read_fields.specs.FieldForm.{FieldTaken, TwiceTaken, Takes}
 use Rattle.read_fields.specs.declared.taking.FieldForm.{FieldForm}
-use Rattle.read_fields.specs.RowProgress.{type_asked, left, moved, filled, due, CursorReady, Puts, Fills}
+use Rattle.read_fields.specs.RowProgress.{type_asked, moved, filled, due, CursorReady, Puts, Fills}
 use Rattle.read_fields.specs.declared.filling.RowCursor.{RowCursor}
 use Rattle.read_fields.specs.declared.filling.FieldRule.{FieldRule}
 use Rattle.read_fields.specs.declared.filling.RowProgress.{RowProgress}

@@ -1,4 +1,5 @@
 -- `read_fields::read_value` meets its contract. Assumes nothing.
+use native.Mathlib.Omega.{arith}
 use borrow.Author.Tests.{eq-eqb, ne_eqb}
 use Rattle.meaning.specs.Bytes.{choose}
 use Rattle.meaning.specs.Value.{value_of}
@@ -28,4 +29,5 @@ returns-in-7 c = rw c.in-7.is c.read_enumeration.ensures
 pub returns-in_default : goal.returns-in_default
 unfolding type_asked choose value_of
 returns-in_default c =
-    rw (ne_eqb _ _ c.in_default.in_default-own.rest.0.0.0.0.1, ne_eqb _ _ c.in_default.in_default-own.rest.0.0.0.1, ne_eqb _ _ c.in_default.in_default-own.rest.0.0.1, ne_eqb _ _ c.in_default.in_default-own.rest.0.1, ne_eqb _ _ c.in_default.in_default-own.rest.1)
+    let k = c.args.kind in
+    rw (ne_eqb k 1 (omega arith), ne_eqb k 4 (omega arith), ne_eqb k 5 (omega arith), ne_eqb k 6 (omega arith), ne_eqb k 7 (omega arith))
