@@ -5,6 +5,7 @@ use mathlib.Core.Path.{sym, ◌∙◌}
 use mathlib.Core.Logic.{⊎_elim}
 use native.Mathlib.Omega.{arith}
 use Rattle.read_frame.proofs.tables.find_table.Goals as goal
+use Rattle.read_frame.proofs.tables.find_table.Goals.{then-topic_of-topic+else-is_table, else-topic_of-topic}
 
 pub loop-t-init : goal.loop-t-init
 loop-t-init c = (omega arith, sym (owed_start _ _ _), table_start _ _ _ _)
@@ -48,14 +49,20 @@ loop-t-preserved c =
     let i = c.loop-t.invariant in
     let k = c.loop-t-test.true in
     let o = sym (c.topic_of.ensures ∙ q.noted.owner _ k) in
-    ⊎_elim
-    (λ w. let e = rw (w.1.ensures, (q.noted.table _ k).name) at (sym w.2.ensures ∙ w.3.left) in (
-      omega (arith, i.0),
-      w.6 ∙ w.5.ensures ∙ owed_more _ _ _ _ (omega (arith, k, q.tables)) _ _ i.0 (o ∙ w.0.taken) i.1 w.4.ensures,
-      i.2 ∙ table_pass _ _ _ _ _ (omega (arith, k, q.tables)) e,
-    ))
-    (λ w. (omega (arith, i.0), w.1 ∙ owed_other _ _ _ _ (omega (arith, k, q.tables)) _ (λ e. w.0.left (sym o ∙ e)) i.1, i.2 ∙ table_other _ _ _ _ _ (omega (arith, k, q.tables)) (λ e. w.0.left (sym o ∙ e))))
-    c.if-topic_of-topic.branch
+    elim c.if-topic_of-topic.branch [
+        then-topic_of-topic+else-is_table w ↦
+            let e = rw (w.table_at.ensures, (q.noted.table _ k).name) at (sym w.is_table.ensures ∙ w.if-is_table.false) in (
+              omega (arith, i.0),
+              w.mandatory-is ∙ w.either-mandatory.ensures
+                  ∙ owed_more _ _ _ _ (omega (arith, k, q.tables)) _ _ i.0 (o ∙ w.if-topic_of-topic.true) i.1 w.is_optional.ensures,
+              i.2 ∙ table_pass _ _ _ _ _ (omega (arith, k, q.tables)) e,
+            )
+        | else-topic_of-topic w ↦ (
+          omega (arith, i.0),
+          w.mandatory-is ∙ owed_other _ _ _ _ (omega (arith, k, q.tables)) _ (λ e. w.if-topic_of-topic.false (sym o ∙ e)) i.1,
+          i.2 ∙ table_other _ _ _ _ _ (omega (arith, k, q.tables)) (λ e. w.if-topic_of-topic.false (sym o ∙ e)),
+        )
+    ]
 
 pub returns : goal.returns
 returns c =

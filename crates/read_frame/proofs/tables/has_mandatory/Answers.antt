@@ -5,6 +5,7 @@ use mathlib.Core.Path.{sym, ◌∙◌}
 use mathlib.Core.Logic.{⊎_elim}
 use native.Mathlib.Omega.{arith}
 use Rattle.read_frame.proofs.tables.has_mandatory.Goals as goal
+use Rattle.read_frame.proofs.tables.has_mandatory.Goals.{then-topic_of-topic, else-topic_of-topic}
 
 pub loop-t-init : goal.loop-t-init
 loop-t-init c = (omega arith, sym (owed_start _ _ _))
@@ -32,10 +33,11 @@ loop-t-preserved c =
     let k = c.loop-t-test.true in
     let o = sym (c.topic_of.ensures ∙ q.noted.owner _ k) in (
       omega (arith, i.0),
-      ⊎_elim
-          (λ w. w.3 ∙ w.2.ensures ∙ owed_more _ _ _ _ (omega (arith, k, q.tables)) _ _ i.0 (o ∙ w.0.taken) i.1 w.1.ensures)
-          (λ w. w.1 ∙ owed_other _ _ _ _ (omega (arith, k, q.tables)) _ (λ e. w.0.left (sym o ∙ e)) i.1)
-          c.if-topic_of-topic.branch,
+      elim c.if-topic_of-topic.branch [
+          then-topic_of-topic w ↦ w.mandatory-is ∙ w.either-mandatory.ensures
+              ∙ owed_more _ _ _ _ (omega (arith, k, q.tables)) _ _ i.0 (o ∙ w.if-topic_of-topic.true) i.1 w.is_optional.ensures
+          | else-topic_of-topic w ↦ w.mandatory-is ∙ owed_other _ _ _ _ (omega (arith, k, q.tables)) _ (λ e. w.if-topic_of-topic.false (sym o ∙ e)) i.1
+      ],
     )
 
 pub returns : goal.returns

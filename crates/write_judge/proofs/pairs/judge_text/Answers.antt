@@ -1,0 +1,14 @@
+-- `write_judge::pairs::judge_text` meets its contract. Assumes nothing.
+use Prim.Native.Nat.{ℕ, ◌-◌}
+use native.Mathlib.Omega.{arith}
+use mathlib.Core.Path.{sym, ap, ◌∙◌}
+use mir.Syntax.{w64}
+use mir.ValLaws.{to_z-of_z}
+use Rattle.write_judge.proofs.Signs.{size_low}
+use Rattle.write_judge.proofs.Values.{text_none, text_long, text_is_lem}
+use Rattle.write_judge.proofs.pairs.judge_text.Goals as goal
+
+pub returns-then-is_below : goal.returns-then-is_below
+returns-then-is_below c =
+    λ table. let t = to_z-of_z w64 c.args.a c.ranges.a in
+    text_none _ _ table _ c.args.a _ (sym (rw t at c.is_below.ensures) ∙ c.if-is_below.true)

@@ -1,0 +1,26 @@
+-- `write_judge::rows::judge_row` meets its contract. Assumes nothing.
+use native.Mathlib.Omega.{arith}
+use mathlib.Core.Path.{sym, ◌∙◌}
+use borrow.Author.Tests.{not-true, not-false}
+use Rattle.write_judge.proofs.Heads.{row_first, row_second, row_third, row_all, row_row, row_cells_lem}
+use Rattle.write_judge.proofs.rows.judge_row.Goals as goal
+
+pub end_of_row-end-requires : goal.end_of_row-end-requires
+end_of_row-end-requires c =
+    record {
+      judging = c.requires.judging;
+      at_in_bounds = c.requires.object_in_bounds.2;
+    }
+
+pub returns-then-end-eq0 : goal.returns-then-end-eq0
+returns-then-end-eq0 c =
+    let p = c.requires in
+    record {
+      end = row_first _ _ _ _ p.judging.placed _ _ _ _ _ _ p.object_in_bounds.1 p.objects_known.listed _ c.end_of_row-end.ensures c.if-end-eq0.true;
+      known = λ q. absurd (omega arith);
+    }
+
+pub judge_name-requires : goal.judge_name-requires
+judge_name-requires c =
+    let p = c.requires in
+    row_cells_lem _ _ _ _ p.judging.placed _ _ _ _ _ _ p.object_in_bounds.1 p.objects_known.listed _ c.end_of_row-end.ensures c.if-end-eq0.false
