@@ -8,3 +8,8 @@ use Rattle.write_judge.proofs.cells.is_number.Goals as goal
 pub returns-then-is_below : goal.returns-then-is_below
 returns-then-is_below c =
     below_is_not c.args.a _ (sym (rw (to_z-of_z w64 c.args.a c.ranges.a) at c.is_below.ensures) ∙ c.if-is_below.true)
+
+pub returns-else-is_below : goal.returns-else-is_below
+returns-else-is_below c =
+    let t = to_z-of_z w64 c.args.a c.ranges.a in
+    rw (rw t at c.size_of.ensures) (size_is c.args.a _ (sym (rw t at c.is_below.ensures) ∙ c.if-is_below.false))

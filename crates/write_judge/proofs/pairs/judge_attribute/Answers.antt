@@ -17,12 +17,6 @@ use Rattle.write_judge.proofs.Values.{type_coordinate}
 use Rattle.write_judge.proofs.Walk.{coordinate_counted, line_pair, own_pair, size_one, pair_alone}
 use Rattle.write_judge.proofs.pairs.judge_attribute.Goals as goal
 
-no-two : (c : tie.Joined1) → c.before.before.before.before.before.args.attribute.kind ≡ 2 → ⊥
-no-two c e = ⊎_elim (λ w. omega arith) (λ w. omega arith) c.if1.branch
-
-no-three : (c : tie.Joined1) → c.before.before.before.before.before.args.attribute.kind ≡ 3 → ⊥
-no-three c e = ⊎_elim (λ w. omega arith) (λ w. omega arith) c.if1.branch
-
 pub bounds-cells-cell : goal.bounds-cells-cell
 bounds-cells-cell c =
     omega (arith, c.requires.attribute_in_bounds, size_one c.args.attribute c.requires.components_of_kind (λ e. omega (arith, e, c.in-8.is)) (λ e. omega (arith, e, c.in-8.is)))
@@ -49,11 +43,11 @@ judge_coordinate-requires c =
 
 pub bounds-cells-cell-in_default : goal.bounds-cells-cell-in_default
 bounds-cells-cell-in_default c =
-    omega (arith, c.requires.attribute_in_bounds, size_one c.args.attribute c.requires.components_of_kind (no-two (c)) (no-three (c)))
+    omega (arith, c.requires.attribute_in_bounds, size_one c.args.attribute c.requires.components_of_kind (grind arith) (grind arith))
 
 pub bounds-cells-cell-in_default-2 : goal.bounds-cells-cell-in_default-2
 bounds-cells-cell-in_default-2 c =
-    omega (arith, c.requires.attribute_in_bounds, size_one c.args.attribute c.requires.components_of_kind (no-two c) (no-three c))
+    omega (arith, c.requires.attribute_in_bounds, size_one c.args.attribute c.requires.components_of_kind (grind arith) (grind arith)
 
 pub returns-in-8 : goal.returns-in-8
 returns-in-8 c =

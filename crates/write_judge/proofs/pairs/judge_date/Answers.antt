@@ -14,3 +14,8 @@ pub returns-then-not-is_below : goal.returns-then-not-is_below
 returns-then-not-is_below c =
     let t = to_z-of_z w64 c.args.b c.ranges.b in
     date_large c.args.b (sym (rw t at c.is_below.ensures) ∙ c.if-is_below.false) (sym (rw t at c.is_below-2.ensures) ∙ c.if-not-is_below.true)
+
+pub returns : goal.returns
+returns c =
+    let t = to_z-of_z w64 c.args.b c.ranges.b in
+    c.is_day.ensures ∙ date_day c.args.b (sym (rw t at c.is_below.ensures) ∙ c.if-is_below.false) (sym (rw t at c.is_below-2.ensures) ∙ c.if-not-is_below.false) _ (rw t at c.size_of-n.ensures)

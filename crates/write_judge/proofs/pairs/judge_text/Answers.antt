@@ -12,3 +12,18 @@ pub returns-then-is_below : goal.returns-then-is_below
 returns-then-is_below c =
     λ table. let t = to_z-of_z w64 c.args.a c.ranges.a in
     text_none _ _ table _ c.args.a _ (sym (rw t at c.is_below.ensures) ∙ c.if-is_below.true)
+
+pub overflow_sub-size : goal.overflow_sub-size
+overflow_sub-size c =
+    let t = to_z-of_z w64 c.args.a c.ranges.a in
+    omega (arith, size_low c.args.a 2 (sym (rw t at c.is_below.ensures) ∙ c.if-is_below.false), rw t at c.size_of-size.ensures)
+
+pub returns-then-longest-size : goal.returns-then-longest-size
+returns-then-longest-size c =
+    λ table. let t = to_z-of_z w64 c.args.a c.ranges.a in
+    text_long _ _ table _ c.args.a _ (sym (rw t at c.is_below.ensures) ∙ c.if-is_below.false) (omega (arith, rw t at c.size_of-size.ensures))
+
+pub returns : goal.returns
+returns c =
+    λ table. let t = to_z-of_z w64 c.args.a c.ranges.a in
+    rw (to_z-of_z w64 c.args.b c.ranges.b) at c.judge_stretch.ensures ∙ text_is_lem _ _ table _ c.args.a c.args.b (sym (rw t at c.is_below.ensures) ∙ c.if-is_below.false) _ (ap (λ (x : ℕ). x - 1) (rw t at c.size_of-size.ensures)) (omega arith)

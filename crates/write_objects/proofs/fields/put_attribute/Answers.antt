@@ -33,3 +33,13 @@ returns-in-2 c =
     let h : t.kind ≤ 3 = omega (arith, c.in-2.if-kind-lt4-own.true) in
     let p = c.put_components in
     renamed _ _ a.put a.out.now _ p.result (attribute_coordinate a.undefined a.text.now (unmarked_in a.rows.now a.cells.now []) t (drop a.cell a.cells.now) l h) p.ensures
+
+pub returns-in_default : goal.returns-in_default
+returns-in_default c =
+    let a = c.args in
+    let t = a.attribute in
+    let n₂ : t.kind ≡ 2 → ⊥ = grind arith in
+    let n₃ : t.kind ≡ 3 → ⊥ = grind arith in
+    let n₈ : t.kind ≡ 8 → ⊥ = grind arith in
+    let p = c.put_pair in
+    renamed _ _ a.put a.out.now _ p.result (attribute_own a.undefined a.text.now (unmarked_in a.rows.now a.cells.now []) t (drop a.cell a.cells.now) c.requires.good_attribute.least c.requires.good_attribute.most n₂ n₃ n₈) p.ensures
