@@ -47,7 +47,7 @@ bounds-cells-cell-in_default c =
 
 pub bounds-cells-cell-in_default-2 : goal.bounds-cells-cell-in_default-2
 bounds-cells-cell-in_default-2 c =
-    omega (arith, c.requires.attribute_in_bounds, size_one c.args.attribute c.requires.components_of_kind (grind arith) (grind arith)
+    omega (arith, c.requires.attribute_in_bounds, size_one c.args.attribute c.requires.components_of_kind (grind arith) (grind arith))
 
 pub returns-in-8 : goal.returns-in-8
 returns-in-8 c =
@@ -59,3 +59,10 @@ pub returns-in-2 : goal.returns-in-2
 returns-in-2 c =
     λ marks. rw (type_coordinate c.args.attribute (omega arith) (omega arith), c.fine_if.ensures)
     (c.judge_coordinate.ensures c.args.undefined c.args.first c.args.text.now (content_in marks c.args.rows.now c.args.cells.now c.args.points.now))
+
+pub returns-in_default : goal.returns-in_default
+unfolding judge_pair
+returns-in_default c =
+    λ marks. rw (own_pair c.args.attribute c.requires.components_of_kind (no-two j) (no-three j) (grind arith), c.fine_if-in_default.ensures)
+    (ap (λ (x : Bool). fine_if x c.args.first) (rw (to_z-of_z w64 (get_or c.args.cells.now c.args.cell (pos 0)) (record { sfits = c.judge_own-arg-1.given }), to_z-of_z w64 (get_or c.args.cells.now (c.args.cell + 1) (pos 0)) (record { sfits = c.judge_own-arg-in_default-1.given })) at (c.judge_own.ensures marks c.args.points.now))
+    ∙ pair_alone c.args.undefined c.args.text.now (content_in marks c.args.rows.now c.args.cells.now c.args.points.now) _ c.args.first (OfAttribute _ (type_of c.args.attribute)) c.args.cell c.args.cells.now)

@@ -1,0 +1,7 @@
+-- `read_objects::fill_row` meets its contract. Assumes nothing.
+use Rattle.read_objects.proofs.RowLaws.{fills_lent}
+use Rattle.read_objects.proofs.storing.fill_row.Goals as goal
+
+pub returns : goal.returns
+returns c =
+    let a = c.args in fills_lent _ _ a.used c.least_of-from.result a.cells.now c.row_fields.new.cells c.row_fields.result c.least_of-from.ensures c.row_fields.ensures
