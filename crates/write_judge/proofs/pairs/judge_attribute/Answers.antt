@@ -63,6 +63,6 @@ returns-in-2 c =
 pub returns-in_default : goal.returns-in_default
 unfolding judge_pair
 returns-in_default c =
-    λ marks. rw (own_pair c.args.attribute c.requires.components_of_kind (no-two j) (no-three j) (grind arith), c.fine_if-in_default.ensures)
+    λ marks. rw (own_pair c.args.attribute c.requires.components_of_kind (grind arith) (grind arith) (grind arith), c.fine_if-in_default.ensures)
     (ap (λ (x : Bool). fine_if x c.args.first) (rw (to_z-of_z w64 (get_or c.args.cells.now c.args.cell (pos 0)) (record { sfits = c.judge_own-arg-1.given }), to_z-of_z w64 (get_or c.args.cells.now (c.args.cell + 1) (pos 0)) (record { sfits = c.judge_own-arg-in_default-1.given })) at (c.judge_own.ensures marks c.args.points.now))
     ∙ pair_alone c.args.undefined c.args.text.now (content_in marks c.args.rows.now c.args.cells.now c.args.points.now) _ c.args.first (OfAttribute _ (type_of c.args.attribute)) c.args.cell c.args.cells.now)
