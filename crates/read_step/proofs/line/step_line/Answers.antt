@@ -48,3 +48,10 @@ returns-in-Line c =
     let a = c.args in
     line_steps a.model.now a.text.now a.seed a.state a.at (a.end - a.at) a.marks.now a.rows.now a.cells.now a.points.now a.index.now c.requires.fact c.in-Line.u _ _ _ c.in-Line.is
     c.attribute_line.ensures
+
+pub returns-in-Frame : goal.returns-in-Frame
+returns-in-Frame c =
+    let a = c.args in
+    let f = c.frame_line in
+    frame_steps a.model.now a.text.now a.seed a.state a.at (a.end - a.at) a.marks.now a.rows.now a.cells.now a.points.now a.index.now c.requires.fact c.in-Frame.frame _ f.result c.in-Frame.is
+    (f.ensures.step, f.ensures.holds)
