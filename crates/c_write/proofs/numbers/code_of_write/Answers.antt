@@ -20,3 +20,13 @@ returns-in-Written c = rw c.in-Written.is
 pub returns-in-Refused : goal.returns-in-Refused
 unfolding code_for_c answer_of
 returns-in-Refused c = rw c.in-Refused.is
+
+pub overflow_mul-result-in-Refused : goal.overflow_mul-result-in-Refused
+unfolding answer_of
+overflow_mul-result-in-Refused c =
+    let h : c.in-Refused.at ≤ 16777217 = subst (λ (x : Answer). first_of (answer_of x) ≤ 16777217) c.in-Refused.is c.requires in omega (arith, h)
+
+pub overflow_add-result : goal.overflow_add-result
+unfolding answer_of
+overflow_add-result c =
+    let h : c.in-Refused.at ≤ 16777217 = subst (λ (x : Answer). first_of (answer_of x) ≤ 16777217) c.in-Refused.is c.requires in omega (arith, h)
