@@ -44,3 +44,10 @@ at_end-requires c = tt
 pub returns : goal.returns
 returns c =
     λ rooms ro ce po. ends _ _ _ _ _ c.loop-at.invariant.1 (omega arith) c.at_end.result c.at_end.ensures rooms (record { row_room = ro; cell_room = ce; point_room = po })
+
+pub loop-at-preserved : goal.loop-at-preserved
+loop-at-preserved c =
+    let e = c.end_of_line-end.ensures in
+    let k = c.step_line-step.auto in
+    let t = c.in-Go.ensures in
+    (omega (arith, e.within), again _ _ _ _ _ c.loop-at.invariant.1 _ (omega arith) e.end e.within _ k.marks k.rows k.cells k.points k.index t)

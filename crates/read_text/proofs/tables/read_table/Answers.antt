@@ -17,3 +17,56 @@ read_lines-ran-requires c =
       text_len_bound = p.text_len_bound;
       marks_value = (c.clear.ensures ∙ ap (λ (n : ℕ). replicate n 0) (sym c.clear.auto.room), c.clear-2.ensures ∙ ap (λ (n : ℕ). replicate n 0) (sym c.clear-2.auto.index));
     }
+
+pub resolve_all-requires : goal.resolve_all-requires
+resolve_all-requires c =
+    let a = c.args in
+    let b = a.model.now in
+    let text = a.text.now in
+    let l = c.read_lines-ran in
+    let e = l.new in
+    let rooms = rooms_of text a.marks.now a.rows.now a.cells.now a.points.now in
+    let h = ran_read b text a.seed e.marks e.rows e.cells e.points e.index (read_lines (model_at b) rooms text (start_of (model_at b)) (lines_of text)) l.result _ c.in-Read.is (l.ensures rooms refl refl refl) in
+    record {
+      indexed_table = h.holds.objects;
+      rows_laid_out = h.holds.laid;
+      records_placed = c.requires.prepared.placed;
+    }
+
+pub returns-in-Stopped : goal.returns-in-Stopped
+returns-in-Stopped c =
+    let a = c.args in
+    let b = a.model.now in
+    let text = a.text.now in
+    let l = c.read_lines-ran in
+    let e = l.new in
+    record {
+      read = λ rooms er ec ep.
+          stopped_read (model_at b) rooms text _ _ _ _
+          (ran_stopped b text a.seed e.marks e.rows e.cells e.points e.index (read_lines (model_at b) rooms text (start_of (model_at b)) (lines_of text)) l.result _ _ _ c.in-Stopped.is (l.ensures rooms er ec ep));
+      fits = tt;
+    }
+
+pub returns-in-Read : goal.returns-in-Read
+returns-in-Read c =
+    let a = c.args in
+    let b = a.model.now in
+    let text = a.text.now in
+    let l = c.read_lines-ran in
+    let s = c.in-Read.s in
+    let f = c.resolve_all in
+    let e = l.new in
+    let marks = e.marks in
+    let rows = e.rows in
+    let cells = e.cells in
+    let points = e.points in
+    let index = e.index in
+    let whole = rooms_of text a.marks.now a.rows.now a.cells.now a.points.now in
+    let k = ran_read b text a.seed marks rows cells points index (read_lines (model_at b) whole text (start_of (model_at b)) (lines_of text)) l.result s c.in-Read.is (l.ensures whole refl refl refl) in
+    record {
+      read = λ rooms er ec ep.
+          let run = (read_lines (model_at b) rooms text (start_of (model_at b)) (lines_of text)) in
+          let h = ran_read b text a.seed marks rows cells points index run l.result s c.in-Read.is (l.ensures rooms er ec ep) in
+          all_read b text a.seed marks rows cells points index run rooms s h f.new.cells f.result (f.ensures.read rooms marks points h.holds.points_fit);
+      fits = f.ensures.fits points k.holds.points_fit;
+    }
