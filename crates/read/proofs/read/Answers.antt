@@ -1,0 +1,29 @@
+-- `read::read` meets its contract. Assumes nothing.
+use Prim.Native.Nat.{ℕ}
+use mathlib.Core.Path.{sym, ap, ◌∙◌}
+use lib.ListN.{replicate}
+use Rattle.meaning.specs.Table as table
+use Rattle.meaning.specs.Reading.{rooms_of}
+use Rattle.read_text.proofs.Endings.{left}
+use Rattle.read.proofs.read.Goals as goal
+
+pub returns : goal.returns
+returns c =
+    let a = c.args in
+    let i = c.read_into-answer in
+    let f = c.finish in
+    let rooms = rooms_of a.text.now a.marks.now a.rows.now a.cells.now a.points.now in
+    let l = left (table.read a.model.now a.file.now rooms) rooms
+    i.new.text i.new.marks i.new.rows i.new.cells i.new.points
+    f.new.text f.new.marks f.new.rows f.new.cells f.new.points
+    (sym i.auto.text) (sym i.auto.marks) (sym i.auto.rows) (sym i.auto.cells) (sym i.auto.points)
+    i.result i.ensures.read i.ensures.fits f.ensures.finished in
+    record {
+      answer = l.answer_is;
+      text = l.text_is;
+      marks = l.marks_are;
+      rows = l.rows_are;
+      cells = l.cells_are;
+      points = l.points_are;
+      index = f.ensures.index_after ∙ ap (λ (n : ℕ). replicate n 0) i.auto.index;
+    }
