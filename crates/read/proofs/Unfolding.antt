@@ -12,7 +12,7 @@ use borrow.Author.Tests.{le-ltb, ltb-false}
 use Rattle.meaning.specs.Bytes.{refuse}
 use Rattle.meaning.specs.Unfold.{Unfolded, lines, fault, unfold_file, unfolded_text}
 use Rattle.meaning.specs.Cut.{Mark, Permitted}
-use Rattle.meaning.specs.Answer.{Answer, accepted, refusal, filled, text_unfolded}
+use Rattle.meaning.specs.Answer.{accepted, refusal, filled, text_unfolded}
 use Rattle.meaning.specs.Model.{Model}
 use Rattle.meaning.specs.Reading.{start_of, Rooms}
 use Rattle.meaning.specs.Lines.{read_lines}

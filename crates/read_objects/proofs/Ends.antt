@@ -15,7 +15,7 @@ use Rattle.meaning.specs.Row.{Pair, Cells, cells, refused, has_mandatory, pair_c
 use Rattle.base.specs.Fields.{FirstField}
 use Rattle.model_records.specs.Records.{kind_at, next_at, pairs_at}
 use Rattle.model_records.specs.AtRecord.{AttributesHere}
-use Rattle.read_fields.specs.RowProgress.{zeros, prefixed, covered_cells, covered, left, going, going_over, covering, RowFilled, Fills}
+use Rattle.read_fields.specs.RowProgress.{zeros, prefixed, covered_cells, covered, going, going_over, covering, RowFilled, Fills}
 use Rattle.read_objects.specs.Fields.{record_pairs, Ends, EndsHere}
 use Rattle.read_fields.specs.declared.filling.RowCursor.{RowCursor}
 use Rattle.read_fields.specs.declared.filling.RowProgress.TheVariants.{On, RestUndefined}

@@ -1,13 +1,12 @@
 -- A point's four cells. Assumes nothing.
-use Prim.Native.Nat.{ℕ, suc, ◌+◌, ◌-◌}
+use Prim.Native.Nat.{ℕ, suc, ◌+◌}
 use native.Mathlib.Omega.{arith}
 use mathlib.Core.Path.{◌≡◌}
 use mathlib.Core.List.{List, [], ◌∷◌}
 use lib.IntN.{ℤ, pos}
 use lib.ListN.{length, take, get_or, set}
 use lib.Seq.{sets}
-use Rattle.meaning.specs.Model as meaning
-use Rattle.meaning.specs.Row.{cells, point_cells}
+use Rattle.meaning.specs.Row.{point_cells}
 
 pub two_cells : (kind : ℕ) (values : List ℤ) (count : ℕ) (d : ℤ) → length values ≡ 3 → count ≡ 2 → point_cells kind (take count values) ≡ pos kind ∷ get_or values 0 d ∷ get_or values 1 d ∷ pos 0 ∷ []
 unfolding point_cells

@@ -4,7 +4,7 @@ use native.Mathlib.Omega.{arith}
 use mathlib.Core.Path.{◌≡◌, refl, sym, subst, ◌∙◌}
 use mathlib.Core.List.{List, [], ◌∷◌, ◌++◌, append_assoc, append-nil}
 use lib.ListN.{length, take, drop, get_or, set, length-append, length-drop, drop_of_length-le}
-use lib.Seq.{sets, sets-eq, length-sets, take-length, take_at, drop-drop}
+use lib.Seq.{sets, sets-eq, length-sets, take_at, drop-drop}
 use borrow.Rule.Slice.PartMut.{put_mid}
 use Rattle.base.proofs.Fill.{to_end}
 use Rattle.write_lines.specs.declared.Put.{Put}

@@ -1,8 +1,7 @@
 -- `c_read::vendorfinch_read` meets its contract. Assumes nothing.
 use Prim.Native.Nat.{◌≤◌}
-use mathlib.Core.Path.{sym, ap, ◌∙◌, subst}
-use lib.ListN.{length}
-use Rattle.meaning.specs.Answer.{Answer, code_for_c, numbers_in, first_of}
+use mathlib.Core.Path.{sym, subst}
+use Rattle.meaning.specs.Answer.{Answer, first_of}
 use Rattle.meaning.proofs.Reading.SmallAnswers.{read_small}
 use Rattle.c_read.proofs.vendorfinch_read.Goals as goal
 

@@ -15,7 +15,7 @@ use Rattle.meaning.specs.Model.{found, Table, Model, table_at, no_table}
 use Rattle.meaning.specs.Check.{GoodModel}
 use Rattle.meaning.specs.Field.{Field, fields_of, field_at, more_than, has_code, slashes}
 use Rattle.meaning.specs.Value.{is_undefined, is_undefined_twice}
-use Rattle.meaning.specs.Row.{Pair, pairs_of, cells}
+use Rattle.meaning.specs.Row.{Pair, pairs_of}
 use Rattle.meaning.specs.Reading.{Due, opening, description, transfer, model_name, topic_from, table_from, object_of, closing, nothing, Content, State, with_row, Rooms, find_topic, find_table, mandatory_between, Object, stretch, objects_of, is_used}
 use Rattle.meaning.specs.Lines.{go, no, bare, named, opening_line, description_line, transfer_line, model_line, line_due, ran, run}
 use Rattle.meaning.specs.Writing.{identification_bytes, rows_of_table, rows_behind_table, rows_behind_topic, is_delivered}

@@ -5,7 +5,6 @@ use mathlib.Core.Path.{◌≡◌, refl, sym, ap, subst, ◌∙◌}
 use mathlib.Core.Bool.{true, false}
 use mathlib.Core.List.{List, [], ◌∷◌, ◌++◌, append_assoc, append-nil}
 use lib.ListN.{length, get_or, set, length-append}
-use Rattle.meaning.specs.Bytes.{same}
 use Rattle.meaning.specs.Model.{Model, table_at}
 use Rattle.meaning.specs.Field.{Field, SCNT, MTID, TOPI, TABL, ETOP, EMOD, ENDE}
 use Rattle.meaning.specs.Reading.{Due, opening, description, transfer, model_name, topic_from, table_from, closing, nothing, Content, Rooms, same_name, mandatory_between}

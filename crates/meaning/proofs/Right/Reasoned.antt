@@ -11,7 +11,7 @@ use Rattle.meaning.specs.Model.{Component, Found, found, missing, Model}
 use Rattle.meaning.specs.Check.{GoodModel}
 use Rattle.meaning.specs.Field.{Field, fields_of, more_than, has_code, SCNT, slashes, MTID, MOTR, MODL, TOPI, TABL, OBJE, STPT, LIPT, ARCP, ELIN, ETAB, ETOP, EMOD, ENDE}
 use Rattle.meaning.specs.Row.{Pair}
-use Rattle.meaning.specs.Reading.{LineState, unstarted, started, in_arc, reached, stpt, lipt, arcp, elin, other, line_code_of, unexpected, move, is_in_arc, is_forbidden, Due, line_of, transfer, Content, Rooms, find_topic, find_table, mandatory_between}
+use Rattle.meaning.specs.Reading.{LineState, unstarted, started, in_arc, reached, stpt, lipt, arcp, elin, other, line_code_of, unexpected, move, is_in_arc, is_forbidden, Due, line_of, Content, Rooms, find_topic, find_table, mandatory_between}
 use Rattle.meaning.specs.Lines.{no, bare, named, opening_line, description_line, transfer_line, model_line, topic_line, topic_end, table_line, store_row, object_fields, behind_objects, object_line, store_point, attribute_line, closing_line, line_due}
 use Rattle.meaning.specs.Right.{Line, Coded, AllOptional}
 use Rattle.meaning.specs.Reasons.{Place, in_description, line_in, TopicOf, TableOf, Bare, Titled, behind_start, behind_point, codes_at, NoneOf, NeedsField, Reason}

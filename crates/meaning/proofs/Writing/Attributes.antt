@@ -11,7 +11,7 @@ use Rattle.meaning.specs.Bytes.{choose, refuse, separator, every, same}
 use Rattle.meaning.specs.Model.{Component, AttributeType, Reference, Text, Model}
 use Rattle.meaning.specs.Field.{has_code, ELIN}
 use Rattle.meaning.specs.Row.{Pair, OfAttribute, OfComponent, OfLine}
-use Rattle.meaning.specs.Reading.{unstarted, reached, line_code_of, ended, move, LineAttribute, line_attributes, Underway, Due, object_of, line_of, due_lines, with_state, Content, with_point, point_count, with_line, Rooms}
+use Rattle.meaning.specs.Reading.{unstarted, reached, line_code_of, move, LineAttribute, line_attributes, Underway, Due, object_of, line_of, due_lines, with_state, Content, with_point, point_count, with_line, Rooms}
 use Rattle.meaning.specs.Lines.{bare, attribute_line, line_due}
 use Rattle.meaning.specs.Writing.{point_lines, attribute_lines}
 use Rattle.meaning.proofs.Reading.Fields.{solid, placed}

@@ -12,7 +12,7 @@ use Rattle.meaning.specs.Bytes.{choose, refuse, separator, every, same}
 use Rattle.meaning.specs.Model.{Model, table_at}
 use Rattle.meaning.specs.Field.{has_code, OBJE}
 use Rattle.meaning.specs.Value.{is_undefined, is_undefined_twice}
-use Rattle.meaning.specs.Row.{Pair, pairs_of, cells, pair_cells}
+use Rattle.meaning.specs.Row.{Pair, pairs_of, pair_cells}
 use Rattle.meaning.specs.Reading.{line_attributes, object_of, due_lines, Content, Rooms, stretch, object_at, objects_of}
 use Rattle.meaning.specs.Lines.{go, store_row, object_fields, object_line, line_due}
 use Rattle.meaning.specs.Writing.{identification_bytes, pair_fields, attribute_lines, object_lines, line_bytes}

@@ -1,5 +1,4 @@
 -- `read_polylines::due_lines` meets its contract. The loop's invariant: the attribute records from here on have the same line attributes. Assumes nothing.
-use Prim.Native.Nat.{◌-◌}
 use native.Mathlib.Omega.{arith}
 use mathlib.Core.Path.{refl, sym, ◌∙◌}
 use Rattle.meaning.specs.Reading.{due_lines}

@@ -1,5 +1,5 @@
 -- `table_index::find_scanned` meets its contract: what is looked for stands before `at`, or nowhere. Assumes nothing.
-use Prim.Native.Nat.{◌-◌, ◌≤◌}
+use Prim.Native.Nat.{◌≤◌}
 use mathlib.Core.Path.{◌≡◌}
 use Rattle.table_index.specs.Objects.{last_named}
 use Rattle.table_index.proofs.find_scanned.Given as goal

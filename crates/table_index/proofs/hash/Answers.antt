@@ -1,5 +1,4 @@
 -- `table_index::hash` meets its contract: the rest at i, hashed on, gives the hash of the whole. Assumes nothing.
-use Prim.Native.Nat.{◌-◌}
 use mathlib.Core.Path.{refl, sym, ◌∙◌}
 use native.Mathlib.Omega.{arith}
 use Rattle.table_index.specs.Index.{hash_of}

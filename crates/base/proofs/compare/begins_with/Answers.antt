@@ -1,5 +1,4 @@
 -- `base::compare::begins_with` meets its contract: the rests at i compare as the whole slices do. Assumes nothing.
-use Prim.Native.Nat.{◌-◌}
 use mathlib.Core.Path.{refl, sym, ◌∙◌}
 use native.Mathlib.Omega.{arith}
 use Rattle.base.proofs.Scan.{prefix_short, prefix_end, prefix_miss, prefix_hit}

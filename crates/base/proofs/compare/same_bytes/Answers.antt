@@ -1,5 +1,4 @@
 -- `base::compare::same_bytes` meets its contract: the rests at i compare as the whole slices do. Assumes nothing.
-use Prim.Native.Nat.{◌-◌}
 use mathlib.Core.Path.{refl, sym, ◌∙◌}
 use native.Mathlib.Omega.{arith}
 use Rattle.base.proofs.Scan.{same_length, same_end, same_miss, same_hit}

@@ -1,7 +1,5 @@
 -- `base::fields::field_size` meets its contract: the bytes so far are no separators. Assumes nothing.
-use Prim.Native.Nat.{◌-◌}
 use mathlib.Core.Path.{sym, ◌∙◌}
-use mathlib.Core.Bool.{true}
 use native.Mathlib.Omega.{arith}
 use Rattle.base.proofs.Runs.{first_byte, run_next, run_field, stops_at, stops_behind}
 use Rattle.base.proofs.fields.field_size.Goals as goal

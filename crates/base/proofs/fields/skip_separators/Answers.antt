@@ -1,8 +1,6 @@
 -- `base::fields::skip_separators` meets its contract: the fields are those of the rest behind the separators. Assumes nothing.
-use Prim.Native.Nat.{◌-◌}
 use mathlib.Core.Path.{sym, ◌∙◌}
 use native.Mathlib.Omega.{arith}
-use borrow.Author.Tests.{not-true, not-false}
 use Rattle.base.proofs.Runs.{skip_none, skip_next, goes_on_lem}
 use Rattle.base.proofs.fields.skip_separators.Goals as goal
 

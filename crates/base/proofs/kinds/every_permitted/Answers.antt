@@ -1,5 +1,4 @@
 -- `base::kinds::every_permitted` meets its contract: what is found so far and what the rest says make the answer. Assumes nothing.
-use Prim.Native.Nat.{◌-◌}
 use mathlib.Core.Path.{refl}
 use native.Mathlib.Omega.{arith}
 use Rattle.meaning.specs.Bytes.{permitted}

@@ -1,5 +1,4 @@
 -- `base::kinds::is_separator` meets its contract: the test's order at each byte. Assumes nothing.
-use native.Mathlib.Omega.{arith}
 use mathlib.Core.Logic.{⊎_elim, inl, inr}
 use borrow.Author.Tests.{ne_eqb}
 use Rattle.meaning.specs.Bytes.{separator}

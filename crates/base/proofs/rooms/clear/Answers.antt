@@ -1,5 +1,4 @@
 -- `base::rooms::clear` meets its contract: zeros before i, what was lent from i on. Assumes nothing.
-use Prim.Native.Nat.{◌-◌}
 use mathlib.Core.Path.{refl}
 use native.Mathlib.Omega.{arith}
 use lib.ListN.{length-set}

@@ -1,5 +1,5 @@
 -- `model_records::count_pairs` meets its contract: what is counted and the pairs from here on are all. Assumes nothing.
-use Prim.Native.Nat.{◌+◌, ◌-◌}
+use Prim.Native.Nat.{◌+◌}
 use native.Mathlib.Omega.{arith}
 use mathlib.Core.Path.{sym, ◌∙◌}
 use lib.ListN.{get_or}

@@ -1,5 +1,4 @@
 -- `model_records::place_records` meets its contract. Assumes nothing.
-use Prim.Native.Nat.{◌-◌}
 use native.Mathlib.Omega.{arith}
 use mathlib.Core.Path.{sym, ◌∙◌}
 use Rattle.meaning.proofs.Model.GoodModels.{checked_good}

@@ -4,7 +4,6 @@ use lib.ListN.{length}
 use Rattle.model_records.specs.Records.{model_at}
 use Rattle.model_records.specs.AtRecord.{AtRecord}
 use Rattle.model_records.specs.Places.{RecordsNoted}
-use Rattle.model_records.proofs.AtRecord.{here}
 use Rattle.model_records.proofs.places.place_records.Given as goal
 
 abbrev pub invariant-loop-here : goal.invariant-loop-here

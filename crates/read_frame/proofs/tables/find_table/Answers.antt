@@ -1,8 +1,6 @@
 -- `read_frame::find_table` meets its contract. Assumes nothing.
 use Rattle.read_frame.proofs.Finds.{table_start, table_none, table_hit, table_pass, table_other, owed_start, owed_more, owed_other, table_found}
-use Prim.Native.Nat.{◌-◌}
 use mathlib.Core.Path.{sym, ◌∙◌}
-use mathlib.Core.Logic.{⊎_elim}
 use native.Mathlib.Omega.{arith}
 use Rattle.read_frame.proofs.tables.find_table.Goals as goal
 use Rattle.read_frame.proofs.tables.find_table.Goals.{then-topic_of-topic+else-is_table, else-topic_of-topic}
@@ -50,18 +48,18 @@ loop-t-preserved c =
     let k = c.loop-t-test.true in
     let o = sym (c.topic_of.ensures ∙ q.noted.owner _ k) in
     elim c.if-topic_of-topic.branch [
-        then-topic_of-topic+else-is_table w ↦
-            let e = rw (w.table_at.ensures, (q.noted.table _ k).name) at (sym w.is_table.ensures ∙ w.if-is_table.false) in (
-              omega (arith, i.0),
-              w.mandatory-is ∙ w.either-mandatory.ensures
-                  ∙ owed_more _ _ _ _ (omega (arith, k, q.tables)) _ _ i.0 (o ∙ w.if-topic_of-topic.true) i.1 w.is_optional.ensures,
-              i.2 ∙ table_pass _ _ _ _ _ (omega (arith, k, q.tables)) e,
-            )
-        | else-topic_of-topic w ↦ (
-          omega (arith, i.0),
-          w.mandatory-is ∙ owed_other _ _ _ _ (omega (arith, k, q.tables)) _ (λ e. w.if-topic_of-topic.false (sym o ∙ e)) i.1,
-          i.2 ∙ table_other _ _ _ _ _ (omega (arith, k, q.tables)) (λ e. w.if-topic_of-topic.false (sym o ∙ e)),
-        )
+      | then-topic_of-topic+else-is_table w ↦
+          let e = rw (w.table_at.ensures, (q.noted.table _ k).name) at (sym w.is_table.ensures ∙ w.if-is_table.false) in (
+            omega (arith, i.0),
+            w.mandatory-is ∙ w.either-mandatory.ensures
+                ∙ owed_more _ _ _ _ (omega (arith, k, q.tables)) _ _ i.0 (o ∙ w.if-topic_of-topic.true) i.1 w.is_optional.ensures,
+            i.2 ∙ table_pass _ _ _ _ _ (omega (arith, k, q.tables)) e,
+          )
+      | else-topic_of-topic w ↦ (
+        omega (arith, i.0),
+        w.mandatory-is ∙ owed_other _ _ _ _ (omega (arith, k, q.tables)) _ (λ e. w.if-topic_of-topic.false (sym o ∙ e)) i.1,
+        i.2 ∙ table_other _ _ _ _ _ (omega (arith, k, q.tables)) (λ e. w.if-topic_of-topic.false (sym o ∙ e)),
+      )
     ]
 
 pub returns : goal.returns

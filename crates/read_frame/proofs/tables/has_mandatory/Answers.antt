@@ -1,8 +1,6 @@
 -- `read_frame::has_mandatory` meets its contract. Assumes nothing.
 use Rattle.read_frame.proofs.Finds.{owed_start, owed_more, owed_other, owed_end}
-use Prim.Native.Nat.{◌-◌}
 use mathlib.Core.Path.{sym, ◌∙◌}
-use mathlib.Core.Logic.{⊎_elim}
 use native.Mathlib.Omega.{arith}
 use Rattle.read_frame.proofs.tables.has_mandatory.Goals as goal
 use Rattle.read_frame.proofs.tables.has_mandatory.Goals.{then-topic_of-topic, else-topic_of-topic}
@@ -34,9 +32,9 @@ loop-t-preserved c =
     let o = sym (c.topic_of.ensures ∙ q.noted.owner _ k) in (
       omega (arith, i.0),
       elim c.if-topic_of-topic.branch [
-          then-topic_of-topic w ↦ w.mandatory-is ∙ w.either-mandatory.ensures
-              ∙ owed_more _ _ _ _ (omega (arith, k, q.tables)) _ _ i.0 (o ∙ w.if-topic_of-topic.true) i.1 w.is_optional.ensures
-          | else-topic_of-topic w ↦ w.mandatory-is ∙ owed_other _ _ _ _ (omega (arith, k, q.tables)) _ (λ e. w.if-topic_of-topic.false (sym o ∙ e)) i.1
+        | then-topic_of-topic w ↦ w.mandatory-is ∙ w.either-mandatory.ensures
+            ∙ owed_more _ _ _ _ (omega (arith, k, q.tables)) _ _ i.0 (o ∙ w.if-topic_of-topic.true) i.1 w.is_optional.ensures
+        | else-topic_of-topic w ↦ w.mandatory-is ∙ owed_other _ _ _ _ (omega (arith, k, q.tables)) _ (λ e. w.if-topic_of-topic.false (sym o ∙ e)) i.1
       ],
     )
 

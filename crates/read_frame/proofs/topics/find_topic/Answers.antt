@@ -1,6 +1,5 @@
 -- `read_frame::find_topic` meets its contract. Assumes nothing.
 use Rattle.read_frame.proofs.Finds.{topic_start, topic_hit, topic_pass, topic_none}
-use Prim.Native.Nat.{◌-◌}
 use mathlib.Core.Path.{sym, ◌∙◌}
 use native.Mathlib.Omega.{arith}
 use Rattle.read_frame.proofs.topics.find_topic.Goals as goal

@@ -1,5 +1,4 @@
 -- `read_objects::has_mandatory` meets its contract. Assumes nothing.
-use Prim.Native.Nat.{◌-◌}
 use native.Mathlib.Omega.{arith}
 use mathlib.Core.Path.{refl, sym, ◌∙◌}
 use Rattle.read_objects.proofs.Records.{counted, record_here, good_here, next_from, mandatory_turn, mandatory_found, mandatory_end}

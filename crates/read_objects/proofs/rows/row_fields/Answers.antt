@@ -1,8 +1,7 @@
 -- `read_objects::row_fields` meets its contract. Assumes nothing.
-use Prim.Native.Nat.{◌*◌, ◌-◌}
+use Prim.Native.Nat.{◌*◌}
 use native.Mathlib.Omega.{arith}
 use mathlib.Core.Path.{refl, sym, ◌∙◌, subst}
-use mathlib.Core.Bool.{true}
 use lib.ListN.{length}
 use Rattle.read_fields.specs.RowProgress.{Fills, going_over}
 use Rattle.read_objects.specs.Fields.{record_pairs}

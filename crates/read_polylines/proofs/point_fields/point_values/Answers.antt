@@ -1,5 +1,4 @@
 -- `read_polylines::point_values` meets its contract. Assumes nothing.
-use Prim.Native.Nat.{◌-◌}
 use native.Mathlib.Omega.{arith}
 use mathlib.Core.Path.{refl, subst}
 use lib.ListN.{take, drop, length-drop, length-set}

@@ -1,5 +1,4 @@
 -- `read_references::resolve_references` meets its contract. Assumes nothing.
-use Prim.Native.Nat.{◌-◌}
 use native.Mathlib.Omega.{arith}
 use mathlib.Core.Path.{ap, ◌∙◌}
 use Rattle.model_records.specs.Records.{model_at}

@@ -1,5 +1,4 @@
 -- `read_references::resolve_row` meets its contract. Assumes nothing.
-use Prim.Native.Nat.{◌-◌}
 use native.Mathlib.Omega.{arith}
 use mathlib.Core.Path.{refl, sym, ◌∙◌}
 use Rattle.model_records.proofs.AtRecord.{here}

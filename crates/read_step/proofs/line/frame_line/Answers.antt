@@ -35,8 +35,8 @@ returns-in-Opening c =
     let m = c.opening_line in
     let p = c.plain_step in
     let t = plain_frame b a.state a.line.now a.marks.now a.due frame.Opening c.in-Opening.is m.result p.result (m.ensures.held (model_at b) b) (p.ensures.by_index b) (p.ensures.by_index_2 b)
-        (λ rooms text start x. m.ensures.meant (model_at b) rooms text b start x) in
-    record { step = t.0; holds = t.1; }
+    (λ rooms text start x. m.ensures.meant (model_at b) rooms text b start x) in
+    record { step = t.0; holds = t.1 }
 
 pub returns-in-Description : goal.returns-in-Description
 unfolding line_due frame_due_of
@@ -46,8 +46,8 @@ returns-in-Description c =
     let m = c.description_line in
     let p = c.plain_step-in-Description in
     let t = plain_frame b a.state a.line.now a.marks.now a.due frame.Description c.in-Description.is m.result p.result (m.ensures.held (model_at b) b) (p.ensures.by_index b) (p.ensures.by_index_2 b)
-        (λ rooms text start x. m.ensures.meant (model_at b) rooms text b start x) in
-    record { step = t.0; holds = t.1; }
+    (λ rooms text start x. m.ensures.meant (model_at b) rooms text b start x) in
+    record { step = t.0; holds = t.1 }
 
 pub returns-in-Transfer : goal.returns-in-Transfer
 unfolding line_due frame_due_of
@@ -57,8 +57,8 @@ returns-in-Transfer c =
     let m = c.transfer_line in
     let p = c.plain_step-in-Transfer in
     let t = plain_frame b a.state a.line.now a.marks.now a.due frame.Transfer c.in-Transfer.is m.result p.result m.ensures.held (p.ensures.by_index b) (p.ensures.by_index_2 b)
-        (λ rooms text start x. m.ensures.meant rooms text start x) in
-    record { step = t.0; holds = t.1; }
+    (λ rooms text start x. m.ensures.meant rooms text start x) in
+    record { step = t.0; holds = t.1 }
 
 pub returns-in-ModelName : goal.returns-in-ModelName
 unfolding line_due frame_due_of
@@ -68,8 +68,8 @@ returns-in-ModelName c =
     let m = c.model_line in
     let p = c.plain_step-in-ModelName in
     let t = plain_frame b a.state a.line.now a.marks.now a.due frame.ModelName c.in-ModelName.is m.result p.result m.ensures.held (p.ensures.by_index b) (p.ensures.by_index_2 b)
-        (λ rooms text start x. m.ensures.meant rooms text start x) in
-    record { step = t.0; holds = t.1; }
+    (λ rooms text start x. m.ensures.meant rooms text start x) in
+    record { step = t.0; holds = t.1 }
 
 pub returns-in-Topic : goal.returns-in-Topic
 unfolding line_due frame_due_of
@@ -79,8 +79,8 @@ returns-in-Topic c =
     let m = c.topic_line in
     let p = c.marked_step in
     let t = marked_frame b a.state a.line.now a.marks.now a.due (frame.Topic c.in-Topic.from) c.in-Topic.is m.result p.result m.ensures.held _ a.shape.topics c.requires.prepared.placed.topics (p.ensures.by_index b) (p.ensures.by_index_2 b)
-        m.ensures.meant in
-    record { step = t.0; holds = t.1; }
+    m.ensures.meant in
+    record { step = t.0; holds = t.1 }
 
 pub returns-in-Table : goal.returns-in-Table
 unfolding line_due frame_due_of
@@ -90,8 +90,8 @@ returns-in-Table c =
     let m = c.table_line in
     let p = c.marked_step-in-Table in
     let t = marked_frame b a.state a.line.now a.marks.now a.due (frame.Table c.in-Table.topic c.in-Table.from) c.in-Table.is m.result p.result m.ensures.held _ a.shape.topics c.requires.prepared.placed.topics (p.ensures.by_index b) (p.ensures.by_index_2 b)
-        m.ensures.meant in
-    record { step = t.0; holds = t.1; }
+    m.ensures.meant in
+    record { step = t.0; holds = t.1 }
 
 pub returns-in-Closing : goal.returns-in-Closing
 unfolding line_due frame_due_of
@@ -101,5 +101,5 @@ returns-in-Closing c =
     let m = c.closing_line in
     let p = c.plain_step-in-Closing in
     let t = plain_frame b a.state a.line.now a.marks.now a.due frame.Closing c.in-Closing.is m.result p.result (m.ensures.held (model_at b) b) (p.ensures.by_index b) (p.ensures.by_index_2 b)
-        (λ rooms text start x. m.ensures.meant (model_at b) rooms text b start x) in
-    record { step = t.0; holds = t.1; }
+    (λ rooms text start x. m.ensures.meant (model_at b) rooms text b start x) in
+    record { step = t.0; holds = t.1 }

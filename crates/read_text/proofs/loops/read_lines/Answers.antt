@@ -1,5 +1,4 @@
 -- `read_text::loops::read_lines` meets its contract: the loop keeps `Going`. Assumes nothing.
-use Prim.Native.Nat.{◌-◌}
 use native.Mathlib.Omega.{arith}
 use Rattle.read_text.proofs.Going.{begin, again, stops, ends}
 use Rattle.read_text.proofs.loops.read_lines.Goals as goal

@@ -1,10 +1,8 @@
 -- `table::size_at` meets its contract. Assumes nothing.
 use native.Mathlib.Omega.{arith}
-use mathlib.Core.Path.{sym, ap, ◌∙◌}
-use mir.Syntax.{w64}
-use mir.ValLaws.{to_z-of_z}
+use mathlib.Core.Path.{sym, ap}
 use lib.IntN.{pos, nat_abs}
-use lib.ListN.{get_or, get_or-eq_default}
+use lib.ListN.{get_or-eq_default}
 use Rattle.table.proofs.cells.size_at.Goals as goal
 
 pub returns-else-cell-cells : goal.returns-else-cell-cells

@@ -19,12 +19,12 @@ pub returns-in-4 : goal.returns-in-4
 unfolding days_of_month choose
 returns-in-4 c =
     go _ c.in-4.is where
-  go : (month : ℕ) → (month ≡ 4) ⊎ ((month ≡ 6) ⊎ ((month ≡ 9) ⊎ (month ≡ 11)))
-      → 30 ≡ days_of_month c.args.year month
-  go month (inl e) = rw e
-  go month (inr (inl e)) = rw e
-  go month (inr (inr (inl e))) = rw e
-  go month (inr (inr (inr e))) = rw e
+      go : (month : ℕ) → (month ≡ 4) ⊎ ((month ≡ 6) ⊎ ((month ≡ 9) ⊎ (month ≡ 11)))
+          → 30 ≡ days_of_month c.args.year month
+      go month (inl e) = rw e
+      go month (inr (inl e)) = rw e
+      go month (inr (inr (inl e))) = rw e
+      go month (inr (inr (inr e))) = rw e
 
 pub returns-in_default : goal.returns-in_default
 unfolding days_of_month choose

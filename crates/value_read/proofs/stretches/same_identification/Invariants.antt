@@ -1,6 +1,6 @@
 -- `value_read::stretches::same_identification` meets its contract: the first i bytes compare as the whole slices do.
 -- Assumes nothing.
-use Prim.Native.Nat.{◌-◌, ◌≤◌}
+use Prim.Native.Nat.{◌≤◌}
 use mathlib.Core.Path.{◌≡◌}
 use lib.ListN.{length, take}
 use Rattle.meaning.specs.Bytes.{same}

@@ -1,5 +1,5 @@
 -- `write_file::behind_topic` meets its contract. Assumes nothing.
-use Prim.Native.Nat.{ℕ, ◌-◌}
+use Prim.Native.Nat.{ℕ}
 use mathlib.Core.Path.{sym, ap, ◌∙◌}
 use Rattle.meaning.specs.Model.{table_at}
 use Rattle.model_records.specs.Records.{model_at}

@@ -1,5 +1,4 @@
 -- `write_file::behind_table` meets its contract. Assumes nothing.
-use Prim.Native.Nat.{◌-◌}
 use mathlib.Core.Path.{sym, ◌∙◌}
 use Rattle.write_file.proofs.Walks.{run_start, run_on, run_stop, run_end}
 use native.Mathlib.Omega.{arith}

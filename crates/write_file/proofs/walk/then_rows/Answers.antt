@@ -1,5 +1,4 @@
 -- `write_file::then_rows` meets its contract. Assumes nothing.
-use Prim.Native.Nat.{◌-◌}
 use mathlib.Core.Path.{refl}
 use Rattle.model_records.specs.Records.{model_at, pairs_at}
 use Rattle.write_lines.proofs.Left.{left_start, left_on, left_end}

@@ -1,5 +1,4 @@
 -- `write_judge::marks::judge_tables` meets its contract: the tables from here on mean what all mean. Assumes nothing.
-use Prim.Native.Nat.{◌-◌}
 use native.Mathlib.Omega.{arith}
 use mathlib.Core.Path.{refl, ap, ◌∙◌}
 use mathlib.Core.Bool.{not}

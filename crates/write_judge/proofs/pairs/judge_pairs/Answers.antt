@@ -1,5 +1,5 @@
 -- `write_judge::pairs::judge_pairs` meets its contract. Assumes nothing.
-use Prim.Native.Nat.{ℕ, ◌-◌}
+use Prim.Native.Nat.{ℕ}
 use native.Mathlib.Omega.{arith}
 use mathlib.Core.Path.{◌≡◌, sym, ◌∙◌}
 use Rattle.model_records.proofs.AtRecord.{here}

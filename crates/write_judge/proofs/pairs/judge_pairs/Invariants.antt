@@ -1,7 +1,6 @@
 -- `write_judge::pairs::judge_pairs` meets its contract. Assumes nothing.
 use Prim.Native.Nat.{◌-◌}
 use lib.ListN.{length}
-use Rattle.model_records.proofs.AtRecord.{here}
 use Rattle.write_judge.proofs.Walk.{PairsLeft}
 use Rattle.write_judge.proofs.pairs.judge_pairs.Given as goal
 

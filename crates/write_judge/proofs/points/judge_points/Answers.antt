@@ -1,5 +1,4 @@
 -- `write_judge::points::judge_points` meets its contract. Assumes nothing.
-use Prim.Native.Nat.{◌-◌}
 use native.Mathlib.Omega.{arith}
 use mathlib.Core.Path.{◌∙◌}
 use Rattle.write_judge.proofs.Drawn.{points_start, points_end, points_stop, points_on}

@@ -1,5 +1,4 @@
 -- `write_judge::rows::judge_rows` meets its contract. Assumes nothing.
-use Prim.Native.Nat.{◌-◌}
 use native.Mathlib.Omega.{arith}
 use mathlib.Core.Path.{◌∙◌}
 use Rattle.model_records.specs.Records.{model_at}

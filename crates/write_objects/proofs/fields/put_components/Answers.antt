@@ -1,5 +1,4 @@
 -- `write_objects::fields::put_components` meets its contract. Assumes nothing.
-use Prim.Native.Nat.{◌-◌}
 use native.Mathlib.Omega.{arith}
 use Rattle.write_lines.proofs.Left.{left_start, left_on, left_end}
 use Rattle.write_objects.proofs.Typed.{listed_good}
