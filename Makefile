@@ -35,9 +35,11 @@ hosts: $(hosts)
 test: all
 	VENDORFINCH="$(patsubst %,'$(CURDIR)/%',$(run) $(build)/vendorfinch)" tests/command/run
 
-# proved again where a crate's source is newer, or its folder, from which one may have gone
-sources := -type d -o -name '*.rt' -o -name '*.antt' -o -name crates.txt -o -name library
-target/libproved.a: $(shell find crates crates.txt host/library \( $(sources) \) -newer target/libproved.a 2>/dev/null)
+# proved again where a source below a crate is newer, or a folder of sources, from which one may have gone; a crate's
+# out/ is rt's own
+sources := \( -path 'crates/*/*' -type d -o -name '*.rt' -o -name '*.antt' -o -name crates.txt -o -name library \)
+newer := -newer target/libproved.a -print
+target/libproved.a: $(shell find crates crates.txt host/library -name out -prune -o $(sources) $(newer) 2>/dev/null)
 	host/library
 
 $(build)/%.o: %.c $(headers) Makefile
