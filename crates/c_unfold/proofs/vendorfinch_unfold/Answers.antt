@@ -1,5 +1,6 @@
 -- `c_unfold::vendorfinch_unfold` meets its contract. Assumes nothing.
 use Prim.Native.Nat.{ℕ}
+use native.Mathlib.Omega.{arith}
 use mathlib.Core.Path.{sym, ap, ◌∙◌}
 use lib.ListN.{length}
 use Rattle.meaning.specs.Unfold.{unfold_file}
@@ -30,7 +31,7 @@ mark_of-requires c =
 
 pub code_of_text-requires : goal.code_of_text-requires
 code_of_text-requires c =
-    within_limit _ c.unfold_with.result c.if-file-gt16777216.false c.unfold_with.ensures.within
+    within_limit (length c.args.file.now) c.unfold_with.result (omega arith) c.unfold_with.ensures.within
 
 pub returns-in-Bad : goal.returns-in-Bad
 unfolding code_for_c checked_meant
