@@ -29,14 +29,17 @@ pub extern "C" fn vendorfinch_write(
     seed: u64,
     answer: &mut [u64],
 ) -> u64
-    ensures code { let table = lent_of text.now marks.now rows.now cells.now points.now objects cells_used points_used in
+    ensures code { let table =
+        lent_of text.now marks.now rows.now cells.now points.now objects cells_used points_used in
         let meant = writes.write model.now table width (length out.old) in
         result ≡ code_for_c meant.answer }
-    ensures output { let table = lent_of text.now marks.now rows.now cells.now points.now objects cells_used points_used in
+    ensures output { let table =
+        lent_of text.now marks.now rows.now cells.now points.now objects cells_used points_used in
         let meant = writes.write model.now table width (length out.old) in
         out.new ≡ meant.output }
     ensures index { index.new ≡ replicate (length index.old) 0 }
-    ensures answer { let table = lent_of text.now marks.now rows.now cells.now points.now objects cells_used points_used in
+    ensures answer { let table =
+        lent_of text.now marks.now rows.now cells.now points.now objects cells_used points_used in
         let meant = writes.write model.now table width (length out.old) in
         answer.new ≡ numbers_in (length answer.old) meant.answer }
 {

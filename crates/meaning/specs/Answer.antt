@@ -59,7 +59,8 @@ text_checked file room (good m) = text_unfolded room (unfold_file m.mark file)
 
 -- unfolding a file under a model, into lent text room
 unfoldable pub unfold_text : List ℕ → List ℕ → ℕ → TextResult
-unfold_text model file room = refuse (too_long file) (text_refused room 1 0) (text_checked file room (check_model model))
+unfold_text model file room =
+    refuse (too_long file) (text_refused room 1 0) (text_checked file room (check_model model))
 
 -- "C gets each as one u64: first number plus 256 times the second"
 unfoldable pub code_for_c : Answer → ℕ

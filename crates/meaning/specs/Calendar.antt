@@ -1,5 +1,6 @@
 -- The calendar (02, request 1), computed: days read and written, and the calendar's own figures.
-use Rattle.std.specs.Prelude.{ℕ, zero, suc, ◌+◌, ◌≡◌, refl, Bool, ◌&&◌, List, [], ◌∷◌, ◌++◌, leb, ℤ, pos, negsuc, get_or}
+use Rattle.std.specs.Prelude.{ℕ, zero, suc, ◌+◌, ◌≡◌, refl, Bool, ◌&&◌, List, [], ◌∷◌, ◌++◌, leb, ℤ, pos, negsuc}
+use Rattle.std.specs.Prelude.{get_or}
 use Prim.Native.String.{String}
 use Rattle.meaning.specs.Bytes.{bytes_of, choose}
 use Rattle.meaning.specs.Answer.{accepted, refusal}

@@ -1,5 +1,6 @@
 -- The check of a compiled model (01, "The compiled model"): the rules, and the first bad record.
-use Rattle.std.specs.Prelude.{ℕ, ◌+◌, ◌-◌, ◌^◌, ◌≤◌, ◌<◌, ◌≡◌, Bool, true, false, not, ◌&&◌, ◌||◌, List, [], ◌∷◌, ◌++◌, leb, ltb, eqb, ℤ, pos, negsuc, length, drop}
+use Rattle.std.specs.Prelude.{ℕ, ◌+◌, ◌-◌, ◌^◌, ◌≤◌, ◌<◌, ◌≡◌, Bool, true, false, not, ◌&&◌, ◌||◌, List, [], ◌∷◌}
+use Rattle.std.specs.Prelude.{◌++◌, leb, ltb, eqb, ℤ, pos, negsuc, length, drop}
 use Rattle.std.specs.Int.Signed.{lt_z}
 use Rattle.meaning.specs.Bytes.{choose, refuse, all_of, digit, letter, every, same, byte_at}
 use Rattle.meaning.specs.Model.{Records, finish, overrun, entry, records_from, Component, AttributeType, Reference}

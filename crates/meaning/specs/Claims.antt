@@ -99,7 +99,8 @@ CutUnfoldsToText =
 
 -- "under a bad one both files get 2"
 abbrev pub BadModelReads : Type 0
-BadModelReads = (model : List ℕ) (at : ℕ) (f : List ℕ) (rooms : Rooms) → check_model model ≡ bad at → length f ≤ 16777216
+BadModelReads = (model : List ℕ) (at : ℕ) (f : List ℕ) (rooms : Rooms)
+    → check_model model ≡ bad at → length f ≤ 16777216
     → read model f rooms ≡ refused_with rooms 2 at 0
 
 -- "A good model gives its mark": a cut under a checked model; under a bad one there is no mark, and nothing is asked

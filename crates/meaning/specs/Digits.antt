@@ -1,5 +1,6 @@
 -- From a value to its bytes (01, "Writing"): "the shortest digits that read as the value, - only below zero".
-use Rattle.std.specs.Prelude.{ℕ, zero, suc, ◌+◌, ◌-◌, ◌/◌, ◌%◌, ◌&&◌, List, [], ◌∷◌, ◌++◌, leb, eqb, ℤ, pos, nat_abs, length, take, drop}
+use Rattle.std.specs.Prelude.{ℕ, zero, suc, ◌+◌, ◌-◌, ◌/◌, ◌%◌, ◌&&◌, List, [], ◌∷◌, ◌++◌, leb, eqb, ℤ, pos, nat_abs}
+use Rattle.std.specs.Prelude.{length, take, drop}
 use Rattle.std.specs.Int.Signed.{lt_z}
 use Rattle.meaning.specs.Bytes.{choose}
 

@@ -3,7 +3,8 @@
 -- (WritingClaims, JudgedExactly).
 -- Short names: m the model, c a table's content, cs its cells, u the undefined byte, ps the pairs that are left, k the
 -- points before, a b the cells of a pair.
-use Rattle.std.specs.Prelude.{ℕ, zero, suc, ◌+◌, ◌*◌, ◌-◌, ◌/◌, ◌%◌, ◌^◌, Bool, true, false, not, ◌&&◌, ◌||◌, List, [], ◌∷◌, ◌++◌, leb, ltb, eqb, ℤ, pos, nat_abs, length, drop, get_or}
+use Rattle.std.specs.Prelude.{ℕ, zero, suc, ◌+◌, ◌*◌, ◌-◌, ◌/◌, ◌%◌, ◌^◌, Bool, true, false, not, ◌&&◌, ◌||◌, List}
+use Rattle.std.specs.Prelude.{[], ◌∷◌, ◌++◌, leb, ltb, eqb, ℤ, pos, nat_abs, length, drop, get_or}
 use Rattle.std.specs.Int.Signed.{lt_z}
 use Rattle.meaning.specs.Bytes.{choose, all_of, text_byte, every, same}
 use Rattle.meaning.specs.Model.{Component, AttributeType, Reference, Coordinate, Number, Text, Date, Enumeration}

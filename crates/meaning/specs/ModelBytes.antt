@@ -1,6 +1,7 @@
 -- A model's bytes (01, "The compiled model"), written forwards from what it says. It names nothing of the check; that
 -- the check takes exactly these bytes is proved (ModelClaims).
-use Rattle.std.specs.Prelude.{ℕ, ◌+◌, ◌-◌, ◌/◌, ◌%◌, ◌^◌, Bool, true, false, ◌&&◌, List, [], ◌∷◌, ◌++◌, leb, eqb, ℤ, pos, negsuc, length}
+use Rattle.std.specs.Prelude.{ℕ, ◌+◌, ◌-◌, ◌/◌, ◌%◌, ◌^◌, Bool, true, false, ◌&&◌, List, [], ◌∷◌, ◌++◌, leb, eqb, ℤ}
+use Rattle.std.specs.Prelude.{pos, negsuc, length}
 use Rattle.meaning.specs.Bytes.{choose}
 use Rattle.meaning.specs.Model.{Component, AttributeType, Reference, Coordinate, Number, Text, Date, Enumeration}
 use Rattle.meaning.specs.Model.{Line, Attribute, Table, Model}

@@ -31,14 +31,16 @@ abbrev pub reference : ℕ → String → List ℕ
 reference target name = record_bytes 5 (0 ∷ 1 ∷ target ∷ 0 ∷ bytes_of name)
 
 abbrev pub number : (decimals least greatest : ℕ) → String → List ℕ
-number decimals least greatest name = record_bytes 5 (0 ∷ 4 ∷ (component_of_bits decimals least greatest ++ bytes_of name))
+number decimals least greatest name =
+    record_bytes 5 (0 ∷ 4 ∷ (component_of_bits decimals least greatest ++ bytes_of name))
 
 abbrev pub two : String → List ℕ
 two name = record_bytes 5 (0 ∷ 2 ∷ (component_of_bits 0 0 9 ++ component_of_bits 0 0 9 ++ bytes_of name))
 
 abbrev pub three : String → List ℕ
 three name =
-    record_bytes 5 (0 ∷ 3 ∷ (component_of_bits 0 0 9 ++ component_of_bits 0 0 9 ++ component_of_bits 0 0 9 ++ bytes_of name))
+    record_bytes 5
+    (0 ∷ 3 ∷ (component_of_bits 0 0 9 ++ component_of_bits 0 0 9 ++ component_of_bits 0 0 9 ++ bytes_of name))
 
 -- an enumeration of so many leaves
 abbrev pub leaves : ℕ → String → List ℕ
@@ -46,7 +48,8 @@ leaves count name = record_bytes 5 (0 ∷ 7 ∷ count ∷ 0 ∷ bytes_of name)
 
 -- a line of these forms; one of three components
 abbrev pub line : ℕ → String → List ℕ
-line forms name = record_bytes 5 (0 ∷ 8 ∷ forms ∷ 2 ∷ (component_of_bits 0 0 9 ++ component_of_bits 0 0 9 ++ bytes_of name))
+line forms name =
+    record_bytes 5 (0 ∷ 8 ∷ forms ∷ 2 ∷ (component_of_bits 0 0 9 ++ component_of_bits 0 0 9 ++ bytes_of name))
 
 abbrev pub line_of_three : String → List ℕ
 line_of_three name = record_bytes 5

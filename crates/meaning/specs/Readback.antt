@@ -1,6 +1,7 @@
 -- Reading back (01, refusal 19): "writing: no lines read as this table".
 -- Short names: m the model, c a table's content, cs its cells, ps the pairs that are left.
-use Rattle.std.specs.Prelude.{ℕ, ◌+◌, ◌-◌, Bool, true, false, not, ◌&&◌, List, [], ◌∷◌, leb, eqb, ℤ, pos, nat_abs, length, drop, get_or}
+use Rattle.std.specs.Prelude.{ℕ, ◌+◌, ◌-◌, Bool, true, false, not, ◌&&◌, List, [], ◌∷◌, leb, eqb, ℤ, pos, nat_abs}
+use Rattle.std.specs.Prelude.{length, drop, get_or}
 use Rattle.std.specs.Int.Signed.{lt_z}
 use Rattle.meaning.specs.Bytes.{choose, all_of, same}
 use Rattle.meaning.specs.Unfold.{unfolded_text}
@@ -32,7 +33,9 @@ is_within text start size = not (lt_z start (pos 0)) && leb (nat_abs start + siz
 unfoldable pub shown_stretch : (text : List ℕ) (start : ℤ) (more : ℕ) (cell : ℤ) → Shown
 shown_stretch text start more cell =
     let size : ℕ = nat_abs cell - more in
-    choose (not (lt_z cell (pos more)) && is_within text start size) (of_bytes (stretch text (nat_abs start) size)) outside
+    choose (not (lt_z cell (pos more)) && is_within text start size)
+    (of_bytes (stretch text (nat_abs start) size))
+    outside
 
 unfoldable pub is_text : AttributeType → Bool
 is_text (Reference t) = false

@@ -179,7 +179,10 @@ answers_b rooms = (compute_read small_model
 -- 2 "model bad", before the file; 6 "too little room for unfolded text or marks": the text has 102 bytes, the marks are
 -- 4; 16 "no room for a row, its cells or a point", behind the fields of its line
 pub each_room :
-    ((compute_read (record_bytes 1 (bytes_of "_@\\T") ++ record_bytes 3 (bytes_of "N")) (bytes_of "x") listing_rooms).answer
+    ((compute_read
+    (record_bytes 1 (bytes_of "_@\\T") ++ record_bytes 3 (bytes_of "N"))
+    (bytes_of "x")
+    listing_rooms).answer
     ∷ answers_b (rooms_with 102 4 1 7 8)
     ∷ answers_b (rooms_with 101 4 1 7 8)
     ∷ answers_b (rooms_with 102 3 1 7 8)

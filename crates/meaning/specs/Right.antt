@@ -3,7 +3,8 @@
 -- It names no state, no step and no refusal. `RightClaims` says that reading accepts exactly these.
 -- Short names: m the model, u the undefined byte, p a topic's number, t a table's, l a line, f a field, i an
 -- identification's field, os objects.
-use Rattle.std.specs.Prelude.{ℕ, ◌+◌, ◌*◌, ◌≤◌, ◌<◌, ◌≡◌, Bool, true, false, List, [], ◌∷◌, ◌++◌, ℤ, pos, length, get_or, set, replicate}
+use Rattle.std.specs.Prelude.{ℕ, ◌+◌, ◌*◌, ◌≤◌, ◌<◌, ◌≡◌, Bool, true, false, List, [], ◌∷◌, ◌++◌, ℤ, pos, length}
+use Rattle.std.specs.Prelude.{get_or, set, replicate}
 use Rattle.meaning.specs.Bytes.{every, text_byte, prefix}
 use Rattle.meaning.specs.Model.{Component, AttributeType, Reference, Coordinate, Number, Text, Date, Enumeration}
 use Rattle.meaning.specs.Model.{Found, found, missing, Attribute, Model, mark_count, table_at}

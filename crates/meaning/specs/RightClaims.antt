@@ -171,7 +171,8 @@ pub data First (model file : List ℕ) (rooms : Rooms) : (number first second : 
   -- object
   object_missing : {m : Model} {ls : List (List ℕ)} {ds : List DeliveredTopic} {object field : ℕ}
       → Opened model file m ls → File m (with_starts 0 ls) ds → Unique (objects_of_topics ds)
-      → Enough m ls (table_of m ds) rooms → FirstOfObjects m (objects_of_topics ds) 0 (objects_of_topics ds) object field
+      → Enough m ls (table_of m ds) rooms
+      → FirstOfObjects m (objects_of_topics ds) 0 (objects_of_topics ds) object field
       → First model file rooms 17 object field
 
 -- "otherwise the first refusal in the fixed order is given": a refusal is the first one

@@ -1,6 +1,7 @@
 -- What is proved of answers and rooms: a refusal's number is one of 01's, at a place as its row says; more room gives
 -- the same answer; which rooms suffice for every file. Proved in proofs/Right/RoomClaims.antt.
-use Rattle.std.specs.Prelude.{ℕ, ◌+◌, ◌*◌, ◌-◌, ◌/◌, ◌^◌, ◌≤◌, max, ◌≡◌, Bool, true, false, ◌&&◌, ◌||◌, List, [], ◌∷◌, leb, eqb, ℤ, pos, negsuc, length, drop, replicate}
+use Rattle.std.specs.Prelude.{ℕ, ◌+◌, ◌*◌, ◌-◌, ◌/◌, ◌^◌, ◌≤◌, max, ◌≡◌, Bool, true, false, ◌&&◌, ◌||◌, List, [], ◌∷◌}
+use Rattle.std.specs.Prelude.{leb, eqb, ℤ, pos, negsuc, length, drop, replicate}
 use Rattle.std.specs.Int.Signed.{lt_z}
 use Rattle.meaning.specs.Bytes.{choose}
 use Rattle.meaning.specs.Unfold.{unfolded_text}

@@ -1,6 +1,7 @@
 -- Fields and values by a grammar (01, "Lines and fields"): a second statement beside `Field` and `Value`, of which it
 -- names the record of a field, the bounds (`within`) and the days (`is_day`). ValueClaims says that both are the same.
-use Rattle.std.specs.Prelude.{ℕ, suc, ◌+◌, ◌*◌, ◌-◌, ◌^◌, ◌≤◌, ◌≡◌, true, not, List, [], ◌∷◌, ◌++◌, ℤ, pos, neg_ℤ, length, take, drop}
+use Rattle.std.specs.Prelude.{ℕ, suc, ◌+◌, ◌*◌, ◌-◌, ◌^◌, ◌≤◌, ◌≡◌, true, not, List, [], ◌∷◌, ◌++◌, ℤ, pos, neg_ℤ}
+use Rattle.std.specs.Prelude.{length, take, drop}
 use Rattle.std.specs.Int.Signed.{lt_z}
 use Rattle.meaning.specs.Bytes.{separator, digit, text_byte, every}
 use Rattle.meaning.specs.Model.{Component, AttributeType, Reference, Coordinate, Number, Text, Date, Enumeration}

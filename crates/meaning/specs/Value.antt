@@ -1,5 +1,6 @@
 -- Values (01, "Lines and fields" and "The table"): what a defined field means, or why it is refused.
-use Rattle.std.specs.Prelude.{ℕ, zero, suc, ◌+◌, ◌*◌, ◌-◌, ◌%◌, Bool, not, ◌&&◌, ◌||◌, List, [], ◌∷◌, ◌++◌, leb, ltb, eqb, ℤ, pos, neg_ℤ, length, take, drop}
+use Rattle.std.specs.Prelude.{ℕ, zero, suc, ◌+◌, ◌*◌, ◌-◌, ◌%◌, Bool, not, ◌&&◌, ◌||◌, List, [], ◌∷◌, ◌++◌, leb, ltb}
+use Rattle.std.specs.Prelude.{eqb, ℤ, pos, neg_ℤ, length, take, drop}
 use Rattle.std.specs.Int.Signed.{lt_z}
 use Rattle.meaning.specs.Bytes.{choose, refuse, digit, text_byte, every, same, begins, byte_at}
 use Rattle.meaning.specs.Model.{Component, AttributeType, Reference, Coordinate, Number, Text, Date, Enumeration}
@@ -43,7 +44,8 @@ unfoldable pub is_number : ℕ → List ℕ → Bool
 is_number zero s = is_digits 1 18 s
 is_number (suc d) s =
     let whole : ℕ = whole_size (suc d) s in
-    eqb (byte_at s whole) 0x2e && is_digits 1 (18 - suc d) (take whole s) && is_digits (suc d) (suc d) (drop (whole + 1) s)
+    eqb (byte_at s whole) 0x2e && is_digits 1 (18 - suc d) (take whole s)
+    && is_digits (suc d) (suc d) (drop (whole + 1) s)
 
 -- the digits of a number, without its point
 unfoldable pub number_digits : ℕ → List ℕ → List ℕ
@@ -83,7 +85,9 @@ is_day year month day = leb 1 month && leb month 12 && leb 1 day && leb day (day
 unfoldable pub date_of : List ℕ → Value
 date_of s =
     refuse (not (is_digits 8 8 s)) (wrong 13)
-    (refuse (not (is_day (digits_value (take 4 s)) (digits_value (take 2 (drop 4 s))) (digits_value (drop 6 s)))) (wrong 14)
+    (refuse
+    (not (is_day (digits_value (take 4 s)) (digits_value (take 2 (drop 4 s))) (digits_value (drop 6 s))))
+    (wrong 14)
     (pair (pos 1) (pos (digits_value s))))
 
 -- "Enumeration: 1 to 18 digits, below the count of leaves"

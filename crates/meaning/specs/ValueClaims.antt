@@ -1,7 +1,8 @@
 -- What is proved of fields, values and their bytes: fields and values are those of the grammar (`Shapes`), and each
 -- written value reads as itself, is told from every other, and is the shortest. Proved in
 -- proofs/Values/ValueClaims.antt.
-use Rattle.std.specs.Prelude.{ℕ, ◌+◌, ◌/◌, ◌%◌, ◌^◌, ◌≤◌, ◌<◌, ◌≡◌, true, not, ◌&&◌, ◌||◌, List, ◌↔◌, eqb, ℤ, pos, nat_abs, length}
+use Rattle.std.specs.Prelude.{ℕ, ◌+◌, ◌/◌, ◌%◌, ◌^◌, ◌≤◌, ◌<◌, ◌≡◌, true, not, ◌&&◌, ◌||◌, List, ◌↔◌, eqb, ℤ, pos}
+use Rattle.std.specs.Prelude.{nat_abs, length}
 use Rattle.meaning.specs.Model.{Component, AttributeType, Reference, Coordinate, Number, Text, Date, Enumeration}
 use Rattle.meaning.specs.Model.{Line}
 use Rattle.meaning.specs.Field.{Field, fields_of}

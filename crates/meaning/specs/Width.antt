@@ -1,5 +1,6 @@
 -- The cut to a width, and the call of writing (01, "Writing" and "Refusal numbers").
-use Rattle.std.specs.Prelude.{ℕ, zero, suc, ◌+◌, ◌-◌, Bool, not, ◌&&◌, ◌||◌, List, [], ◌∷◌, ◌++◌, leb, ltb, length, take, drop, replicate}
+use Rattle.std.specs.Prelude.{ℕ, zero, suc, ◌+◌, ◌-◌, Bool, not, ◌&&◌, ◌||◌, List, [], ◌∷◌, ◌++◌, leb, ltb, length}
+use Rattle.std.specs.Prelude.{take, drop, replicate}
 use Rattle.meaning.specs.Bytes.{choose, refuse, ends, cont}
 use Rattle.meaning.specs.Check.{Checked, good, bad, check_model}
 use Rattle.meaning.specs.Answer.{Answer, accepted, refusal, filled}

@@ -1,6 +1,7 @@
 -- What is proved of writing: unwritable exactly when no lines read as the table, the judge that says so, and the round
 -- trip. Proved in proofs/Writing/WritingClaims.antt.
-use Rattle.std.specs.Prelude.{ℕ, ◌+◌, ◌*◌, ◌-◌, ◌≤◌, ◌<◌, ◌≡◌, Bool, true, false, ◌&&◌, List, [], ◌∷◌, ◌++◌, ◌↔◌, ℤ, ltb, eqb, length, take, drop, replicate}
+use Rattle.std.specs.Prelude.{ℕ, ◌+◌, ◌*◌, ◌-◌, ◌≤◌, ◌<◌, ◌≡◌, Bool, true, false, ◌&&◌, List, [], ◌∷◌, ◌++◌, ◌↔◌, ℤ}
+use Rattle.std.specs.Prelude.{ltb, eqb, length, take, drop, replicate}
 use Rattle.meaning.specs.Bytes.{choose, ends, cont}
 use Rattle.meaning.specs.Unfold.{unfolded_text}
 use Rattle.meaning.specs.Cut.{Cut, Permitted}

@@ -3,7 +3,8 @@ ghost use Rattle.std.specs.Prelude.{◌≡◌, ◌+◌, ◌≤◌, ◌<◌, leng
 ghost use Rattle.meaning.specs.Bytes.{all_of, byte_at};
 ghost use Rattle.model_records.specs.Components.{component_of, components_of};
 ghost use Rattle.meaning.specs.Model.{parameters_size};
-ghost use Rattle.meaning.specs.Check.{is_dimension, good_component, good_components, good_type, is_type, keeps_attribute};
+ghost use Rattle.meaning.specs.Check.{is_dimension, good_component, good_components, good_type, is_type};
+ghost use Rattle.meaning.specs.Check.{keeps_attribute};
 ghost use Rattle.model_check.specs.Names.{names_of};
 ghost use Rattle.model_records.specs.Attributes.{type_of, first_of};
 ghost use Rattle.model_check.specs.Attributes.{attributes_seen};

@@ -1,13 +1,15 @@
 -- How a row is filled: what the fields that are left mean for it, and what a step leaves.
 -- Short names as in the meaning: u the undefined byte, place the number of a field on its line, fs the fields from that
 -- place on, ps the pairs that are left.
-use Rattle.std.specs.Prelude.{ℕ, zero, suc, ◌+◌, ◌≤◌, ◌<◌, ◌^◌, Bool, true, false, not, ◌&&◌, ◌||◌, ◌≡◌, List, [], ◌∷◌, ◌++◌, eqb, ℤ, pos, length, drop}
+use Rattle.std.specs.Prelude.{ℕ, zero, suc, ◌+◌, ◌≤◌, ◌<◌, ◌^◌, Bool, true, false, not, ◌&&◌, ◌||◌, ◌≡◌, List, []}
+use Rattle.std.specs.Prelude.{◌∷◌, ◌++◌, eqb, ℤ, pos, length, drop}
 use Rattle.std.proofs.lemmas.List.Edits.{sets}
 use Rattle.meaning.specs.Bytes.{choose, refuse}
 use Rattle.meaning.specs.Model.{Component, AttributeType, Reference, Number, Text, Date, Enumeration, Line}
 use Rattle.meaning.specs.Field.{Field, fields_of}
 use Rattle.meaning.specs.Value.{Value, pair, wrong, value_of, is_undefined, is_undefined_twice}
-use Rattle.meaning.specs.Row.{Pair, OfAttribute, Cells, cells, refused, put_pair, undefined_pair, has_mandatory, pair_cells}
+use Rattle.meaning.specs.Row.{Pair, OfAttribute, Cells, cells, refused, put_pair, undefined_pair, has_mandatory}
+use Rattle.meaning.specs.Row.{pair_cells}
 use Rattle.model_records.specs.declared.Component as declared
 use Rattle.model_records.specs.Components.{component_of}
 use Rattle.model_records.specs.declared.Attribute.{Attribute}
@@ -52,7 +54,8 @@ defined_or false v = undefined_pair
 
 -- a field that is due, and the pairs behind it: an attribute's own field must be defined where the attribute is
 -- mandatory, a further component must be defined where the first one is, and undefined where that one is
-unfoldable pub due_cells : (u : ℕ) (needed forbidden : Bool) (place : ℕ) → AttributeType → List Pair → List Field → Cells
+unfoldable pub due_cells : (u : ℕ) (needed forbidden : Bool) (place : ℕ)
+    → AttributeType → List Pair → List Field → Cells
 due_cells u needed forbidden place type ps [] = refused 11 place
 due_cells u needed forbidden place type ps (f ∷ fs) =
     let defined : Bool = not (is_undefined u f) in

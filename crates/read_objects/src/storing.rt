@@ -1,5 +1,6 @@
 // A row that joins the table: its fields, its first three cells, its entry in the row list, and its link in the index.
-ghost use Rattle.std.specs.Prelude.{◌≡◌, true, ◌||◌, [], ◌∷◌, ℕ, ◌+◌, ◌*◌, ◌-◌, ◌≤◌, ◌<◌, ◌^◌, leb, ltb, pos, length, set};
+ghost use Rattle.std.specs.Prelude.{◌≡◌, true, ◌||◌, [], ◌∷◌, ℕ, ◌+◌, ◌*◌, ◌-◌, ◌≤◌, ◌<◌, ◌^◌, leb, ltb, pos, length};
+ghost use Rattle.std.specs.Prelude.{set};
 ghost use Rattle.std.proofs.lemmas.List.Edits.{sets};
 ghost use Rattle.meaning.specs.Field.{fields_of};
 ghost use Rattle.meaning.specs.Row.{pair_cells};
@@ -118,7 +119,8 @@ pub(crate) fn store_row(
 ) -> Step
     requires table_holds { TableHolds (model_at model.now) model.now here }
     requires size_bound { (name.start + name.size ≤ end) × (end ≤ length text.now) × (length text.now < 2 ^ 62) }
-    requires model_len_bound { (length model.now ≤ 65536) × (state.cells ≤ length cells.old) × (name.hash < 4294967296) }
+    requires model_len_bound { (length model.now ≤ 65536) × (state.cells ≤ length cells.old)
+        × (name.hash < 4294967296) }
     ensures { (seed : ℕ) → let b = model.now in let t = text.now in
         NewName t seed name state rows.old cells.old index.old
         → RowAdds b t seed state (row_meant b t undefined here name.start name.size end)

@@ -53,7 +53,8 @@ pub(crate) fn undefined_line(
     ensures { (a : Attribute) (rooms : Rooms) (text : List ℕ) (fs : List Field) (start : ℕ)
         (cells points : List ℤ) → let b = model.now in
         a.optional ≡ optional → drop 1 fs ≡ fields_of start rest.now
-        → LineDoes b polyline state (λ c. attribute_line (model_at b) rooms text (way_of b a polyline) fs c undefined_line)
+        → LineDoes b polyline state
+        (λ c. attribute_line (model_at b) rooms text (way_of b a polyline) fs c undefined_line)
         cells points cells points result }
 {
     if !optional {

@@ -89,7 +89,8 @@ pub(crate) fn point_line(
         → (model_at b).undefined ≡ undefined → rooms.points ≡ length points.old
         → drop 1 fs ≡ fields_of start rest.now → meaning.line_code_of fs ≡ line_code_of code
         → LineDoes b polyline state
-        (λ c. attribute_line (model_at b) rooms text (way_of b attribute polyline) fs c (point kind (line_state_of next)))
+        (λ c. attribute_line (model_at b) rooms text (way_of b attribute polyline) fs c
+        (point kind (line_state_of next)))
         cells points.old cells points.new result }
 {
     let before = polyline.state;

@@ -115,7 +115,8 @@ content_of mark_count s marks rows cells points =
       points = take (4 * s.points) points;
     }
 
-abbrev pub step_of : (model : List ℕ) (mark_count : ℕ) → Step → (marks rows : List ℕ) (cells points : List ℤ) → lines.Step
+abbrev pub step_of : (model : List ℕ) (mark_count : ℕ)
+    → Step → (marks rows : List ℕ) (cells points : List ℤ) → lines.Step
 step_of model mark_count (Go s) marks rows cells points =
     lines.go (due_of model s.due) (content_of mark_count s marks rows cells points)
 step_of model mark_count (Step.No number field) marks rows cells points = lines.no number field

@@ -23,7 +23,8 @@ use read_state::{Due, FrameDue, NextDue, State, Step};
 // A line that adds nothing to the table.
 fn plain_step(state: State, moved: NextDue) -> Step
     ensures by_index { (b : List ℕ) (k : ℕ) (marks rows : List ℕ) (cells points : List ℤ)
-        → step_of b k result marks rows cells points ≡ next_due_of b moved (content_of k state marks rows cells points) }
+        → step_of b k result marks rows cells points
+        ≡ next_due_of b moved (content_of k state marks rows cells points) }
     ensures by_index_2 { (b text : List ℕ) (seed : ℕ) (marks rows : List ℕ) (cells points : List ℤ) (index : List ℕ)
         → NextDueHolds (model_at b) b moved → Holds (model_at b) b text seed state marks rows cells points index
         → StepHolds (model_at b) b text seed result marks rows cells points index }

@@ -62,7 +62,8 @@ used_of marks rows cells points o c p =
 abbrev pub TableRead : Result → Rooms → (text marks rows : List ℕ) (cells points : List ℤ) → Answer → Type 0
 TableRead r rooms text marks rows cells points (Accepted o c p) =
     r ≡ accepted_with rooms text (used_of marks rows cells points o c p) (take c cells)
-TableRead r rooms text marks rows cells points (Refused number first second) = r ≡ refused_with rooms number first second
+TableRead r rooms text marks rows cells points (Refused number first second) =
+    r ≡ refused_with rooms number first second
 
 -- the same with zeros behind the marks
 pub record Marked (r : Result) (rooms : Rooms) (text marks rows : List ℕ) (cells points : List ℤ)
@@ -73,7 +74,8 @@ pub record Marked (r : Result) (rooms : Rooms) (text marks rows : List ℕ) (cel
 
 abbrev pub MarksRead : Result → Rooms → (text marks rows : List ℕ) (cells points : List ℤ) → Answer → Type 0
 MarksRead r rooms text marks rows cells points (Accepted o c p) = Marked r rooms text marks rows cells points o c p
-MarksRead r rooms text marks rows cells points (Refused number first second) = r ≡ refused_with rooms number first second
+MarksRead r rooms text marks rows cells points (Refused number first second) =
+    r ≡ refused_with rooms number first second
 
 -- and behind the text
 pub record Unfinished (r : Result) (rooms : Rooms) (text marks rows : List ℕ) (cells points : List ℤ)

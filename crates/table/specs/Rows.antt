@@ -19,7 +19,8 @@ pub record Row (text : List ℕ) (cells : List ℤ) (row : ℕ) : Type 0 where
 
 -- the identification of an object: "start and length of the identification in the unfolded text"
 unfoldable pub identification_of : (text rows : List ℕ) → List ℤ → ℕ → List ℕ
-identification_of text rows cells o = stretch text (cell_at cells (get_or rows o 0 + 1)) (cell_at cells (get_or rows o 0 + 2))
+identification_of text rows cells o =
+    stretch text (cell_at cells (get_or rows o 0 + 1)) (cell_at cells (get_or rows o 0 + 2))
 
 -- the first n objects have such rows
 pub record RowsListed (text rows : List ℕ) (cells : List ℤ) (n : ℕ) : Type 0 where
@@ -55,4 +56,5 @@ pub record PairsInRow (rows : List ℕ) (n o cell pairs size : ℕ) : Type 0 whe
 pub record RowsLaidOut (m : Model) (n used : ℕ) (rows : List ℕ) (cells : List ℤ) : Type 0 where
   pub table : (o : ℕ) → o < n → cell_at cells (get_or rows o 0) < length m.tables
   pub ends : (o : ℕ) → o < n → get_or rows o 0 + row_size m (cell_at cells (get_or rows o 0)) ≤ used
-  pub apart : (o p : ℕ) → o < p → p < n → get_or rows o 0 + row_size m (cell_at cells (get_or rows o 0)) ≤ get_or rows p 0
+  pub apart : (o p : ℕ) → o < p → p < n
+      → get_or rows o 0 + row_size m (cell_at cells (get_or rows o 0)) ≤ get_or rows p 0

@@ -1,5 +1,6 @@
 -- The index: chains of objects whose identifications have the same head.
-use Rattle.std.specs.Prelude.{ℕ, zero, suc, ◌+◌, ◌*◌, ◌-◌, ◌/◌, ◌%◌, ◌<◌, ◌≡◌, List, [], ◌∷◌, Bool, true, ◌&&◌, eqb, ltb, ℤ, length, get_or, set}
+use Rattle.std.specs.Prelude.{ℕ, zero, suc, ◌+◌, ◌*◌, ◌-◌, ◌/◌, ◌%◌, ◌<◌, ◌≡◌, List, [], ◌∷◌, Bool, true, ◌&&◌, eqb}
+use Rattle.std.specs.Prelude.{ltb, ℤ, length, get_or, set}
 use Rattle.meaning.specs.Bytes.{choose}
 use Rattle.table_index.specs.Objects.{last_of}
 use Rattle.table.specs.Rows.{identification_of}

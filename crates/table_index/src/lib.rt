@@ -3,7 +3,8 @@
 //! costs time.
 #![tactic(auto)]
 
-ghost use Rattle.std.specs.Prelude.{◌≡◌, true, false, ◌+◌, ◌*◌, ◌-◌, ◌/◌, ◌%◌, ◌≤◌, ◌<◌, T, pos, length, get_or, take, replicate};
+ghost use Rattle.std.specs.Prelude.{◌≡◌, true, false, ◌+◌, ◌*◌, ◌-◌, ◌/◌, ◌%◌, ◌≤◌, ◌<◌, T, pos, length, get_or};
+ghost use Rattle.std.specs.Prelude.{take, replicate};
 ghost use Rattle.std.specs.Int.Signed.{non_neg};
 ghost use Rattle.meaning.specs.Reading.{stretch, objects_of, is_used};
 ghost use Rattle.meaning.specs.Table.{find_object};
@@ -120,7 +121,8 @@ fn find_chained(
 ) -> usize
     requires rows_listed { RowsListed text.now rows.now cells.now objects }
     requires index_value { usable_of (length rows.now) (length index.now) ≡ true }
-    requires chained { Chained seed (identification_of text.now rows.now cells.now) (length rows.now) index.now objects }
+    requires chained { Chained seed (identification_of text.now rows.now cells.now)
+        (length rows.now) index.now objects }
     requires hash_value { hash ≡ hash_of seed identification.now }
     ensures { result
         ≡ last_named text.now rows.now cells.now identification.now

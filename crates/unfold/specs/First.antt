@@ -1,5 +1,6 @@
 -- What the functions that find the first physical line promise.
-use Rattle.std.specs.Prelude.{ℕ, suc, ◌<◌, ◌≤◌, ◌≡◌, Bool, true, false, not, ◌&&◌, List, [], ◌∷◌, length, take, drop, eqb}
+use Rattle.std.specs.Prelude.{ℕ, suc, ◌<◌, ◌≤◌, ◌≡◌, Bool, true, false, not, ◌&&◌, List, [], ◌∷◌, length, take, drop}
+use Rattle.std.specs.Prelude.{eqb}
 use Rattle.meaning.specs.Bytes.{choose, begins}
 use Rattle.meaning.specs.Unfold.{permitted, every, without_last_if, tail, line, physical}
 use Rattle.unfold.specs.declared.lines.First.{First}

@@ -1,5 +1,6 @@
 -- What the loop over the physical lines keeps, and what the functions in it promise.
-use Rattle.std.specs.Prelude.{ℕ, ◌+◌, ◌-◌, ◌<◌, ◌≤◌, ◌≡◌, Bool, true, false, List, [], ◌∷◌, ◌++◌, length, take, drop, replicate}
+use Rattle.std.specs.Prelude.{ℕ, ◌+◌, ◌-◌, ◌<◌, ◌≤◌, ◌≡◌, Bool, true, false, List, [], ◌∷◌, ◌++◌, length, take, drop}
+use Rattle.std.specs.Prelude.{replicate}
 use Rattle.meaning.specs.Unfold.{Unfolded, lines, fault, physical, unfold_lines, unfold_file}
 use Rattle.meaning.specs.Unfold.{unfolded_text}
 use Rattle.meaning.specs.Answer.{TextResult, text_refused, text_unfolded}

@@ -36,10 +36,12 @@ pub fn write(
     index: &mut [u64],
     seed: u64,
 ) -> Answer
-    ensures answer { let table = lent_of text.now marks.now rows.now cells.now points.now objects cells_used points_used in
+    ensures answer { let table =
+        lent_of text.now marks.now rows.now cells.now points.now objects cells_used points_used in
         let meant = meaning.write model.now table width (length out.old) in
         answer_of result ≡ meant.answer }
-    ensures output { let table = lent_of text.now marks.now rows.now cells.now points.now objects cells_used points_used in
+    ensures output { let table =
+        lent_of text.now marks.now rows.now cells.now points.now objects cells_used points_used in
         let meant = meaning.write model.now table width (length out.old) in
         out.new ≡ meant.output }
     ensures index { index.new ≡ replicate (length index.old) 0 }

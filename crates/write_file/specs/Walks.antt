@@ -5,7 +5,8 @@ use Rattle.meaning.specs.Model.{Table, Model, table_at}
 use Rattle.meaning.specs.Field.{TABL, ETAB, TOPI, ETOP}
 use Rattle.meaning.specs.Row.{pairs_of}
 use Rattle.meaning.specs.Reading.{Content}
-use Rattle.meaning.specs.Writing.{row_lines, rows_of_table, rows_behind_table, rows_behind_topic, table_lines, topic_lines}
+use Rattle.meaning.specs.Writing.{row_lines, rows_of_table, rows_behind_table, rows_behind_topic, table_lines}
+use Rattle.meaning.specs.Writing.{topic_lines}
 use Rattle.write_lines.specs.declared.Put.{Put}
 use Rattle.write_lines.specs.Puts.{Puts}
 use Rattle.write_file.specs.declared.lines.LineStyle.{LineStyle}

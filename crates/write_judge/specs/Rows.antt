@@ -1,5 +1,6 @@
 -- What judging rows needs and answers. Short names: m the model, o an object's number, p the place of its row.
-use Rattle.std.specs.Prelude.{ℕ, ◌+◌, ◌*◌, ◌≤◌, ◌≡◌, Bool, false, not, ◌&&◌, List, [], ◌∷◌, eqb, ℤ, pos, length, get_or, take, drop}
+use Rattle.std.specs.Prelude.{ℕ, ◌+◌, ◌*◌, ◌≤◌, ◌≡◌, Bool, false, not, ◌&&◌, List, [], ◌∷◌, eqb, ℤ, pos, length}
+use Rattle.std.specs.Prelude.{get_or, take, drop}
 use Rattle.std.specs.Int.Signed.{lt_z}
 use Rattle.meaning.specs.Bytes.{all_of}
 use Rattle.meaning.specs.Model.{Model}

@@ -229,7 +229,8 @@ fn judge_coordinate(optional: bool, components: Components, cells: &[i64], cell:
     requires le_count { (2 ≤ components.count) × (components.count ≤ 3) × (length components.items ≡ 3) }
     requires count_in_bounds { cell + 2 * components.count ≤ length cells.now }
     ensures { (undefined k : ℕ) (text : List ℕ) (c : Content) →
-        fine_if result k ≡ judge_pairs undefined text c true k (pairs_of_type optional (Coordinate (components_of components)))
+        fine_if result k
+        ≡ judge_pairs undefined text c true k (pairs_of_type optional (Coordinate (components_of components)))
         (drop cell cells.now) }
 {
     let items = components.items;
@@ -299,7 +300,8 @@ fn judge_attribute(
     first: usize,
 ) -> PairsJudged
     requires components_of_kind { ComponentsOfKind attribute }
-    requires attribute_in_bounds { cell + 2 * length (pairs_of_type attribute.optional (type_of attribute)) ≤ length cells.now }
+    requires attribute_in_bounds { cell + 2 * length (pairs_of_type attribute.optional (type_of attribute))
+        ≤ length cells.now }
     requires first_in_bounds { 4 * first ≤ length points.now }
     ensures { (marks : List ℕ) → fine_of result ≡ judge_pairs undefined text.now
         (content_in marks rows.now cells.now points.now) true first

@@ -1,5 +1,6 @@
 // Rows: "An object's row: table number, start and length of the identification in the unfolded text", then its pairs.
-ghost use Rattle.std.specs.Prelude.{◌≡◌, true, not, ◌&&◌, [], ◌+◌, ◌*◌, ◌≤◌, ◌<◌, leb, pos, length, get_or, take, replicate};
+ghost use Rattle.std.specs.Prelude.{◌≡◌, true, not, ◌&&◌, [], ◌+◌, ◌*◌, ◌≤◌, ◌<◌, leb, pos, length, get_or, take};
+ghost use Rattle.std.specs.Prelude.{replicate};
 ghost use Rattle.std.specs.Int.Signed.{lt_z};
 ghost use Rattle.meaning.specs.Bytes.{choose};
 ghost use Rattle.meaning.specs.Reading.{objects_of, is_used};

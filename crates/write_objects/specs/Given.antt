@@ -13,7 +13,8 @@ use Rattle.model_records.specs.Attributes.{type_of}
 unfoldable pub component_fields : (u : ℕ) → List Component → List ℤ → List (List ℕ)
 component_fields u [] cs = []
 component_fields u (k ∷ ks) cs =
-    field_bytes u (get_or cs 0 (pos 0)) (number_bytes k.decimals (get_or cs 1 (pos 0))) ∷ component_fields u ks (drop 2 cs)
+    field_bytes u (get_or cs 0 (pos 0)) (number_bytes k.decimals (get_or cs 1 (pos 0)))
+    ∷ component_fields u ks (drop 2 cs)
 
 -- the components of a good attribute
 pub record GoodComponents (ks : Components) : Type 0 where

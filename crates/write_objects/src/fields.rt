@@ -3,7 +3,8 @@
 ghost use Rattle.std.specs.Prelude.{◌≡◌, [], ◌∷◌, ◌+◌, ◌-◌, ◌≤◌, ◌<◌, ◌^◌, pos, nat_abs, drop, get_or};
 ghost use Rattle.meaning.specs.Digits.{number_bytes};
 ghost use Rattle.meaning.specs.Row.{pairs_of_type};
-ghost use Rattle.meaning.specs.Writing.{stretch_bytes, identification_bytes, type_bytes, field_bytes, pair_fields, spaced};
+ghost use Rattle.meaning.specs.Writing.{stretch_bytes, identification_bytes, type_bytes, field_bytes, pair_fields};
+ghost use Rattle.meaning.specs.Writing.{spaced};
 ghost use Rattle.model_records.specs.Components.{components_of};
 ghost use Rattle.model_records.specs.Attributes.{type_of};
 ghost use Rattle.write_lines.specs.Puts.{Puts};

@@ -1,5 +1,6 @@
 // The lines of an object, put into a lent room, each cut to the width.
-ghost use Rattle.std.specs.Prelude.{◌≡◌, List, [], ◌∷◌, ◌++◌, ℕ, ◌+◌, ◌*◌, ◌-◌, ◌/◌, ◌≤◌, ◌<◌, ◌^◌, min, pos, length, drop, get_or};
+ghost use Rattle.std.specs.Prelude.{◌≡◌, List, [], ◌∷◌, ◌++◌, ℕ, ◌+◌, ◌*◌, ◌-◌, ◌/◌, ◌≤◌, ◌<◌, ◌^◌, min, pos, length};
+ghost use Rattle.std.specs.Prelude.{drop, get_or};
 ghost use Rattle.meaning.specs.Field.{OBJE, ELIN};
 ghost use Rattle.meaning.specs.Model.{attribute_of};
 ghost use Rattle.meaning.specs.Row.{pairs_of_type};
