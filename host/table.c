@@ -40,7 +40,7 @@ static uint64_t seed(const void *something)
     return getrandom(&number, sizeof number, 0) == sizeof number ? number : (uint64_t)(uintptr_t)something;
 }
 
-/* The rooms that are enough for every file of this length: `roomsFor` in crates/meaning/specs/RoomClaims.antt. */
+/* The rooms that are enough for every file of this length: `rooms_for` in crates/meaning/specs/RoomClaims.antt. */
 static struct rooms rooms_enough(const struct vendorfinch_model *open, size_t length)
 {
     size_t longest = 0;

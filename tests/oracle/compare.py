@@ -25,41 +25,36 @@ CALLS = {"listing": oracle.listing, "check": oracle.check, "unfold": oracle.unfo
 PER_THEOREM = {"listing": 60, "check": 150, "unfold": 100, "read": 30, "write": 40}
 PER_CRATE = {"listing": 600, "check": 1500, "unfold": 700, "read": 120, "write": 400}
 
-USES = """use Prim.Native.Nat.{ℕ, _+_}
-use mathlib.Core.Path.{_≡_, refl}
-use mathlib.Core.Bool.{Bool, true, false, _&&_}
-use mathlib.Core.List.{List, [], _∷_, _++_}
-use lib.Dec.{eqb}
-use lib.IntN.{ℤ, pos, negsuc}
-use lib.ListN.{replicate}
-use Rattle·meaning.specs.Bytes.{bytesOf}
-use Rattle·meaning.specs.Answer.{Answer, accepted, refusal, TextResult}
-use Rattle·meaning.specs.Reading.{Rooms}
-use Rattle·meaning.specs.Table.{Result}
-use Rattle·meaning.specs.Writing.{Lent}
-use Rattle·meaning.specs.Width.{Written}
-use Rattle·meaning.specs.Listing.{listingRooms}
-use Rattle·meaning.specs.Compute.{computeListing, computeRead, computeWrite, computeCheck, computeUnfold}
+USES = """use Rattle.std.specs.Prelude.{ℕ, ◌≡◌, refl, Bool, true, false, ◌&&◌, List, [], ◌∷◌, ◌++◌}
+use Rattle.std.specs.Prelude.{eqb, ℤ, pos, negsuc, replicate}
+use Rattle.meaning.specs.Bytes.{bytes_of}
+use Rattle.meaning.specs.Answer.{Answer, accepted, refusal, TextResult}
+use Rattle.meaning.specs.Reading.{Rooms}
+use Rattle.meaning.specs.Table.{Result}
+use Rattle.meaning.specs.Writing.{Lent}
+use Rattle.meaning.specs.Width.{Written}
+use Rattle.meaning.specs.Listing.{listing_rooms}
+use Rattle.meaning.specs.Compute.{compute_listing, compute_read, compute_write, compute_check, compute_unfold}
 """
 
 COMMON = "-- Tests of equality, and one test for each call.\n" + USES + """
-unfoldable pub eqNats : List ℕ → List ℕ → Bool
-eqNats [] [] = true
-eqNats [] (b ∷ k) = false
-eqNats (a ∷ l) [] = false
-eqNats (a ∷ l) (b ∷ k) = eqb a b && eqNats l k
+unfoldable pub eq_nats : List ℕ → List ℕ → Bool
+eq_nats [] [] = true
+eq_nats [] (b ∷ k) = false
+eq_nats (a ∷ l) [] = false
+eq_nats (a ∷ l) (b ∷ k) = eqb a b && eq_nats l k
 
-unfoldable pub eqInt : ℤ → ℤ → Bool
-eqInt (pos a) (pos b) = eqb a b
-eqInt (pos a) (negsuc b) = false
-eqInt (negsuc a) (pos b) = false
-eqInt (negsuc a) (negsuc b) = eqb a b
+unfoldable pub eq_int : ℤ → ℤ → Bool
+eq_int (pos a) (pos b) = eqb a b
+eq_int (pos a) (negsuc b) = false
+eq_int (negsuc a) (pos b) = false
+eq_int (negsuc a) (negsuc b) = eqb a b
 
-unfoldable pub eqInts : List ℤ → List ℤ → Bool
-eqInts [] [] = true
-eqInts [] (b ∷ k) = false
-eqInts (a ∷ l) [] = false
-eqInts (a ∷ l) (b ∷ k) = eqInt a b && eqInts l k
+unfoldable pub eq_ints : List ℤ → List ℤ → Bool
+eq_ints [] [] = true
+eq_ints [] (b ∷ k) = false
+eq_ints (a ∷ l) [] = false
+eq_ints (a ∷ l) (b ∷ k) = eq_int a b && eq_ints l k
 
 unfoldable pub numbers : Answer → List ℕ
 numbers (accepted a b c) = 0 ∷ a ∷ b ∷ c ∷ []
@@ -70,44 +65,44 @@ unfoldable pub note : ℕ → Bool → List ℕ → List ℕ
 note n true others = others
 note n false others = n ∷ others
 
-unfoldable pub asListing : List ℕ → List ℕ → Bool
-unfolding eqNats computeListing
-asListing input output = eqNats (computeListing listingRooms input) output
+unfoldable pub as_listing : List ℕ → List ℕ → Bool
+unfolding eq_nats compute_listing
+as_listing input output = eq_nats (compute_listing listing_rooms input) output
 
-unfoldable pub asCheck : List ℕ → List ℕ → Bool
-unfolding eqNats numbers computeCheck
-asCheck model answer = eqNats (numbers (computeCheck model)) answer
+unfoldable pub as_check : List ℕ → List ℕ → Bool
+unfolding eq_nats numbers compute_check
+as_check model answer = eq_nats (numbers (compute_check model)) answer
 
-unfoldable pub sameText : TextResult → List ℕ → List ℕ → Bool
-unfolding eqNats numbers
-sameText r answer text = eqNats (numbers (r .answer)) answer && eqNats (r .text) text
+unfoldable pub same_text : TextResult → List ℕ → List ℕ → Bool
+unfolding eq_nats numbers
+same_text r answer text = eq_nats (numbers r.answer) answer && eq_nats r.text text
 
-unfoldable pub asUnfold : List ℕ → List ℕ → ℕ → List ℕ → List ℕ → Bool
-unfolding sameText computeUnfold
-asUnfold model file room answer text = sameText (computeUnfold model file room) answer text
+unfoldable pub as_unfold : List ℕ → List ℕ → ℕ → List ℕ → List ℕ → Bool
+unfolding same_text compute_unfold
+as_unfold model file room answer text = same_text (compute_unfold model file room) answer text
 
-unfoldable pub sameResult : Result → List ℕ → List ℕ → List ℕ → List ℕ → List ℤ → List ℤ → Bool
-unfolding eqNats eqInts eqInt numbers
-sameResult r answer text marks rows cells points =
-    eqNats (numbers (r .answer)) answer && eqNats (r .text) text && eqNats (r .marks) marks && eqNats (r .rows) rows
-    && eqInts (r .cells) cells && eqInts (r .points) points
+unfoldable pub same_result : Result → List ℕ → List ℕ → List ℕ → List ℕ → List ℤ → List ℤ → Bool
+unfolding eq_nats eq_ints eq_int numbers
+same_result r answer text marks rows cells points =
+    eq_nats (numbers r.answer) answer && eq_nats r.text text && eq_nats r.marks marks && eq_nats r.rows rows
+    && eq_ints r.cells cells && eq_ints r.points points
 
-unfoldable pub asRead : List ℕ → List ℕ → Rooms → List ℕ → List ℕ → List ℕ → List ℕ → List ℤ → List ℤ → Bool
-unfolding sameResult computeRead
-asRead model file rooms answer text marks rows cells points =
-    sameResult (computeRead model file rooms) answer text marks rows cells points
+unfoldable pub as_read : List ℕ → List ℕ → Rooms → List ℕ → List ℕ → List ℕ → List ℕ → List ℤ → List ℤ → Bool
+unfolding same_result compute_read
+as_read model file rooms answer text marks rows cells points =
+    same_result (compute_read model file rooms) answer text marks rows cells points
 
-unfoldable pub sameWritten : Written → List ℕ → List ℕ → Bool
-unfolding eqNats numbers
-sameWritten r answer output = eqNats (numbers (r .answer)) answer && eqNats (r .output) output
+unfoldable pub same_written : Written → List ℕ → List ℕ → Bool
+unfolding eq_nats numbers
+same_written r answer output = eq_nats (numbers r.answer) answer && eq_nats r.output output
 
-unfoldable pub asWrite : List ℕ → Lent → ℕ → ℕ → List ℕ → List ℕ → Bool
-unfolding sameWritten computeWrite
-asWrite model t width room answer output = sameWritten (computeWrite model t width room) answer output
+unfoldable pub as_write : List ℕ → Lent → ℕ → ℕ → List ℕ → List ℕ → Bool
+unfolding same_written compute_write
+as_write model t width room answer output = same_written (compute_write model t width room) answer output
 """
 
-NAMES = ("eqNats, eqInt, eqInts, numbers, note, asListing, asCheck, asUnfold, asRead, asWrite, sameText, sameResult, "
-         "sameWritten")
+NAMES = ("eq_nats, eq_int, eq_ints, numbers, note, as_listing, as_check, as_unfold, as_read, as_write, same_text, "
+         "same_result, same_written")
 
 
 # ---- Values as expressions of the definitions -----------------------------------------------------------------
@@ -130,7 +125,7 @@ def is_plain(b):
 
 
 def quoted(content):
-    return 'bytesOf "%s"' % "".join("\\n" if b == 10 else chr(b) for b in content)
+    return 'bytes_of "%s"' % "".join("\\n" if b == 10 else chr(b) for b in content)
 
 
 def byte_list(content):
@@ -167,8 +162,8 @@ def rooms_of(r):
 
 
 def lent_of(t):
-    return ("(record { text = %s; marks = %s; rows = %s; cells = %s; points = %s; objects = %d; cellCount = %d; "
-            "pointCount = %d })" % (byte_list(t.text), nats(t.marks), nats(t.rows), ints(t.cells), ints(t.points),
+    return ("(record { text = %s; marks = %s; rows = %s; cells = %s; points = %s; objects = %d; cell_count = %d; "
+            "point_count = %d })" % (byte_list(t.text), nats(t.marks), nats(t.rows), ints(t.cells), ints(t.points),
                                     t.objects, t.cells_used, t.points_used))
 
 
@@ -180,20 +175,20 @@ def test_of(call, arguments, models):
     got = CALLS[call](*arguments)
     if call == "listing":
         m, f = oracle.split_input(arguments[0])
-        return "asListing (%s ++ %s) %s" % (model(m), byte_list(f), byte_list(got.encode()))
+        return "as_listing (%s ++ %s) %s" % (model(m), byte_list(f), byte_list(got.encode()))
     if call == "check":
-        return "asCheck (%s) (%s)" % (nats(arguments[0]), nats(got))
+        return "as_check (%s) (%s)" % (nats(arguments[0]), nats(got))
     if call == "unfold":
         m, f, room = arguments
-        return "asUnfold %s %s %d (%s) %s" % (model(m), byte_list(f), room, nats(got[0]), buffer(got[1], nats, "0"))
+        return "as_unfold %s %s %d (%s) %s" % (model(m), byte_list(f), room, nats(got[0]), buffer(got[1], nats, "0"))
     if call == "read":
         m, f, r = arguments
-        return "asRead %s %s %s (%s) %s %s %s %s %s" % (
+        return "as_read %s %s %s (%s) %s %s %s %s %s" % (
             model(m), byte_list(f), rooms_of(r), nats(got.answer), buffer(got.text, nats, "0"),
             buffer(got.marks, nats, "0"), buffer(got.rows, nats, "0"), buffer(got.cells, ints, "(pos 0)"),
             buffer(got.points, ints, "(pos 0)"))
     m, t, width, room = arguments
-    return "asWrite %s %s %d %d (%s) (%s ++ replicate %d 0)" % (
+    return "as_write %s %s %d %d (%s) (%s ++ replicate %d 0)" % (
         model(m), lent_of(t), width, room, nats(got[0]), byte_list(got[1][:got[0][1] if got[0][0] == 0 else 0]),
         room - (got[0][1] if got[0][0] == 0 else 0))
 
@@ -205,10 +200,10 @@ def theorem(crate, items):
     models = {}
     tests = ["note %d (%s)" % (number, test_of(call, arguments, models)) for number, call, arguments in items]
     out = "-- Cases compared with the oracle.\n" + USES
-    out += "use Rattle·%s·specs.specs.Common.{%s}\n" % (crate, NAMES)
+    out += "use Rattle.%s.specs.Common.{%s}\n" % (crate, NAMES)
     for content, name in models.items():
         out += "\nunfoldable pub %s : List ℕ\n%s = %s\n" % (name, name, nats(content))
-    out += "\nunfoldable pub disagreeing : List ℕ\nunfolding note asListing asCheck asUnfold asRead asWrite %s\n" % (
+    out += "\nunfoldable pub disagreeing : List ℕ\nunfolding note as_listing as_check as_unfold as_read as_write %s\n" % (
         " ".join(models.values()))
     out += "disagreeing =\n    " + "\n    (".join(tests) + "\n    []" + ")" * (len(tests) - 1) + "\n"
     return out + "\npub agreed : disagreeing ≡ []\nunfolding disagreeing\nagreed = refl\n"
@@ -223,7 +218,7 @@ def write_file(path, content):
 def make_crate(folder, crate, items, per_theorem):
     base = os.path.join(folder, "crates", crate)
     shutil.rmtree(base, ignore_errors=True)
-    write_file(os.path.join(base, "src", "lib.rt"), "// No code: cases compared with the oracle.\n")
+    write_file(os.path.join(base, "src", "lib.rt"), "//! No code: cases compared with the oracle.\n#![tactic(auto)]\n")
     write_file(os.path.join(base, "specs", "Common.antt"), COMMON)
     modules = ["Common"]
     for at in range(0, len(items), per_theorem):
@@ -234,8 +229,8 @@ def make_crate(folder, crate, items, per_theorem):
 
 
 def is_proved(folder, crate):
-    log = subprocess.run(["rt", "check", crate], cwd=folder, stdout=subprocess.PIPE, stderr=subprocess.STDOUT,
-                         env=dict(os.environ, RT_JOBS="1"), check=False)
+    log = subprocess.run(["rt", "check"], cwd=os.path.join(folder, "crates", crate), stdin=subprocess.DEVNULL,
+                         stdout=subprocess.PIPE, stderr=subprocess.STDOUT, check=False)
     with open(os.path.join(folder, crate + ".out"), "wb") as f:
         f.write(log.stdout)
     return log.returncode == 0
