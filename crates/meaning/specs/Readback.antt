@@ -18,7 +18,7 @@ use Rattle.meaning.specs.Writing.{Lent, counts_fit, content_of, lines_of}
 -- what a table shows:
 --   of_cells   two cells of a pair: undefined, a value, the object of a reference, a line's count and first point
 --   of_bytes   the bytes of a text or of an identification
---   outside   a stretch outside the text, which shows nothing
+--   outside    a stretch outside the text, which shows nothing
 pub data Shown : Type 0 where
   of_cells : (a b : ℤ) → Shown
   of_bytes : List ℕ → Shown

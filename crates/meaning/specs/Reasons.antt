@@ -19,7 +19,7 @@ use Rattle.meaning.specs.Right.{HasArcs, AllOptional}
 
 -- ## Where a file has come to
 
---   start            before SCNT
+--   start             before SCNT
 --   in_description    behind SCNT, before ////
 --   before_transfer   behind ////
 --   before_model      behind MTID
@@ -27,9 +27,9 @@ use Rattle.meaning.specs.Right.{HasArcs, AllOptional}
 --   tables_from p t   in topic p: its table t or a later one may follow
 --   objects_in t      in table t
 --   line_in ..        in the lines of a line attribute of an object of table t: how far they have come, whether the
---                    attribute is optional, its forms and components, and the pairs of the object's row behind it
+--                     attribute is optional, its forms and components, and the pairs of the object's row behind it
 --   before_end        behind EMOD
---   end              behind ENDE
+--   end               behind ENDE
 pub data Place : Type 0 where
   start in_description before_transfer before_model : Place
   topics_from : (p : ℕ) → Place
