@@ -29,7 +29,7 @@ pub struct RecordCursor {
 // Behind the record that the cursor is at.
 fn pass_record(model: &[u8], here: RecordCursor) -> RecordCursor
     requires at_record { AtRecord (model_at model.now) model.now here.at here.topics here.tables }
-    requires fact { kind_at model.now here.at ≡ 6 → ⊥ }
+    requires not_end { kind_at model.now here.at ≡ 6 → ⊥ }
     ensures { RecordPassed (model_at model.now) model.now here result }
 {
     let at = here.at;

@@ -86,7 +86,7 @@ pub fn object_fields(
     requires table_holds { TableHolds (model_at model.now) model.now here }
     requires behind_bound { (at + behind ≤ end) × (end ≤ length text.now) × (length text.now < 2 ^ 62) }
     requires model_len_bound { (length model.now ≤ 65536) × (undefined ≡ (model_at model.now).undefined) }
-    requires fact { let l = stretch text.now at (end - at) in
+    requires fields_behind { let l = stretch text.now at (end - at) in
         (1 ≤ length (fields_of at l)) × (drop 1 (fields_of at l) ≡ fields_of (at + behind) (drop behind l)) }
     requires indexed_table { IndexedTable seed text.now state.rows state.cells rows.old cells.old index.old }
     ensures { let b = model.now in let t = text.now in

@@ -59,15 +59,15 @@ fn put_record(
 ) -> RowProgress
     requires attribute_here { AttributeHere model.now at }
     requires cursor_ready { CursorReady start rest.now 6 cursor }
-    ensures { let rest = rest.entry.now in
-        Fills undefined start rest 6 (going_over undefined start rest (record_pairs model.now at) cursor)
+    ensures { let fields = rest.now in
+        Fills undefined start fields 6 (going_over undefined start fields (record_pairs model.now at) cursor)
         cursor cells.old cells.new result }
 {
     let a = model_records::attribute_at(model, at);
     filling::put_attribute(a, rest, start, undefined, cells, cursor)
 }
 
-// BehindRow the last attribute no field is left.
+// Behind the last attribute no field is left.
 fn end_row(rest: &[u8], cursor: RowCursor) -> RowOut
     requires { cursor.at ≤ length rest.now }
     ensures { EndsHere rest.now cursor result }

@@ -22,10 +22,10 @@ use read_state::{Due, FrameDue, NextDue, State, Step};
 
 // A line that adds nothing to the table.
 fn plain_step(state: State, moved: NextDue) -> Step
-    ensures by_index { (b : List ℕ) (k : ℕ) (marks rows : List ℕ) (cells points : List ℤ)
+    ensures step { (b : List ℕ) (k : ℕ) (marks rows : List ℕ) (cells points : List ℤ)
         → step_of b k result marks rows cells points
         ≡ next_due_of b moved (content_of k state marks rows cells points) }
-    ensures by_index_2 { (b text : List ℕ) (seed : ℕ) (marks rows : List ℕ) (cells points : List ℤ) (index : List ℕ)
+    ensures holds { (b text : List ℕ) (seed : ℕ) (marks rows : List ℕ) (cells points : List ℤ) (index : List ℕ)
         → NextDueHolds (model_at b) b moved → Holds (model_at b) b text seed state marks rows cells points index
         → StepHolds (model_at b) b text seed result marks rows cells points index }
 {
@@ -42,11 +42,11 @@ fn plain_step(state: State, moved: NextDue) -> Step
 
 // A line that may begin a topic or a table; there is a mark for each, and no more.
 fn marked_step(topics: usize, marks: &mut [u8], state: State, moved: NextDue) -> Step
-    ensures by_index { (b rows : List ℕ) (cells points : List ℤ)
+    ensures step { (b rows : List ℕ) (cells points : List ℤ)
         → step_of b (length marks.old) result marks.new rows cells points
         ≡ marked_of b topics moved
         (content_of (length marks.old) state marks.old rows cells points) }
-    ensures by_index_2 { (b text : List ℕ) (seed : ℕ) (rows : List ℕ) (cells points : List ℤ) (index : List ℕ)
+    ensures holds { (b text : List ℕ) (seed : ℕ) (rows : List ℕ) (cells points : List ℤ) (index : List ℕ)
         → NextDueHolds (model_at b) b moved
         → Holds (model_at b) b text seed state marks.old rows cells points index
         → StepHolds (model_at b) b text seed result marks.new rows cells points index }
@@ -174,7 +174,7 @@ pub fn step_line(
 ) -> Step
     requires prepared { Prepared model.now shape places.now marks.old }
     requires at_le_end { (at ≤ end) × (end ≤ length text.now) × (length text.now < 2 ^ 62) }
-    requires fact { let b = model.now in
+    requires holds { let b = model.now in
         Holds (model_at b) b text.now seed state marks.old rows.old cells.old points.old index.old }
     ensures { let b = model.now in let t = text.now in
         Steps b t seed state (line_meant b t at (end - at) state.due)

@@ -8,8 +8,8 @@ use crate::stretches::Part;
 // The stretch of the text that the row's second and third cell say.
 pub fn identification_at(cells: &[i64], row: usize) -> Part
     requires row_in_bounds { row + 2 < length cells.now }
-    requires t { T (non_neg (get_or cells.now (row + 1) (pos 0))) }
-    requires t_2 { T (non_neg (get_or cells.now (row + 2) (pos 0))) }
+    requires start_non_neg { T (non_neg (get_or cells.now (row + 1) (pos 0))) }
+    requires size_non_neg { T (non_neg (get_or cells.now (row + 2) (pos 0))) }
     ensures start { result.start ≡ cell_at cells.now (row + 1) }
     ensures size { result.len ≡ cell_at cells.now (row + 2) }
 {

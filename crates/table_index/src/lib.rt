@@ -85,7 +85,7 @@ fn is_led(
 ) -> bool
     requires object_in_bounds { object < length rows.now }
     requires row { Row text.now cells.now (get_or rows.now object 0) }
-    requires object_value { (word / 4294967296 ≡ hash → ⊥)
+    requires other_hash { (word / 4294967296 ≡ hash → ⊥)
         → is_named (identification_of text.now rows.now cells.now) identification.now object ≡ false }
     ensures { result
         ≡ is_named (identification_of text.now rows.now cells.now)
@@ -232,8 +232,8 @@ pub fn is_used(
 // The object that `at` says, 1 plus its number or 0, if it is of this table.
 fn find_in_table(rows: &[u64], cells: &[i64], at: usize, table: usize) -> Found
     requires at_in_bounds { at ≤ length rows.now }
-    requires at_in_bounds_2 { 0 < at → get_or rows.now (at - 1) 0 < length cells.now }
-    requires t { 0 < at → T (non_neg (get_or cells.now (get_or rows.now (at - 1) 0) (pos 0))) }
+    requires row_in_bounds { 0 < at → get_or rows.now (at - 1) 0 < length cells.now }
+    requires table_non_neg { 0 < at → T (non_neg (get_or cells.now (get_or rows.now (at - 1) 0) (pos 0))) }
     ensures { found_of result ≡ in_table rows.now cells.now table at }
 {
     if at == 0 {

@@ -20,9 +20,9 @@ pub drop_sets : (m : ℕ) (l : List ℕ) (i : ℕ) (vs : List ℕ) → i + lengt
 drop_sets m l i [] h = refl
 drop_sets m l i (v ∷ vs) h = drop_sets m (set l i v) (suc i) vs (omega arith) ∙ drop-set-lt m l i v (omega arith)
 
-pub get_d_sets : (j : ℕ) (l : List ℕ) (i : ℕ) (vs : List ℕ) (d : ℕ) → j < i → get_or (sets l i vs) j d ≡ get_or l j d
-get_d_sets j l i [] d h = refl
-get_d_sets j l i (v ∷ vs) d h = get_d_sets j (set l i v) (suc i) vs d (omega arith) ∙ get_or-set_other l i j v d (λ e. omega arith)
+pub get_or_sets : (j : ℕ) (l : List ℕ) (i : ℕ) (vs : List ℕ) (d : ℕ) → j < i → get_or (sets l i vs) j d ≡ get_or l j d
+get_or_sets j l i [] d h = refl
+get_or_sets j l i (v ∷ vs) d h = get_or_sets j (set l i v) (suc i) vs d (omega arith) ∙ get_or-set_other l i j v d (λ e. omega arith)
 
 -- the list from the run on
 pub drop_run : (l : List ℕ) (i : ℕ) (vs : List ℕ) → i + length vs ≤ length l → drop i (sets l i vs) ≡ vs ++ drop (i + length vs) l
@@ -82,4 +82,4 @@ shift_turn (suc j) to by d now a h room e =
     let z : suc j - 1 ≡ j = omega arith in
     let s : suc j + by ≡ suc (j + by) = omega arith in
     let t : to - j ≡ suc (to - suc j) = omega arith in
-    rw (z, t, drop-cons d j 0 (omega arith), e, s, get_d_sets j d (suc (j + by)) (between (suc j) to d) 0 (omega arith)) (set_sets (j + by) (get_or d j 0) d (suc (j + by)) (between (suc j) to d) (omega arith))
+    rw (z, t, drop-cons d j 0 (omega arith), e, s, get_or_sets j d (suc (j + by)) (between (suc j) to d) 0 (omega arith)) (set_sets (j + by) (get_or d j 0) d (suc (j + by)) (between (suc j) to d) (omega arith))

@@ -87,9 +87,9 @@ unfolding field_cells
 on_tested b place p ps f fs others t e = ap (λ (x : Bool). refuse x (refused 12 place) (undefined_rest place (p ∷ ps) fs)) e
 
 -- by cases of a test that holds exactly when something is so
-so_or-not : (t : Bool) {P C : Type 0} → (t ≡ true) ↔ P → (P → C) → ((P → ⊥) → C) → C
-so_or-not true s h k = h (s.0 refl)
-so_or-not false s h k = k (λ e. false≢true (s.1 e))
+so_or_not : (t : Bool) {P C : Type 0} → (t ≡ true) ↔ P → (P → C) → ((P → ⊥) → C) → C
+so_or_not true s h k = h (s.0 refl)
+so_or_not false s h k = k (λ e. false≢true (s.1 e))
 
 module _ {u : ℕ} {b : Bool} {place : ℕ} {p : Pair} {type : AttributeType} {ps : List Pair} {f : Field} {fs : List Field} (of : FieldType p type) where
   pub field_is : {k : Cells} → FieldRead u b place p type ps f fs k → pair_cells u b place (p ∷ ps) (f ∷ fs) ≡ k
@@ -110,8 +110,8 @@ module _ {u : ℕ} {b : Bool} {place : ℕ} {p : Pair} {type : AttributeType} {p
     where
       by : (two one some : Bool) → is_undefined_twice u f ≡ two → is_undefined u f ≡ one → has_mandatory ps ≡ some → FieldRead u b place p type ps f fs (pair_cells u b place (p ∷ ps) (f ∷ fs))
       by true one true h g m = by_rule (FieldRead.covers h (λ _. m))
-      by true one false h g m = so_or-not (may_be_undefined b p) (may_undefined of b) (λ may. by_rule (FieldRead.twice h may m)) (λ never. by_rule (FieldRead.covers h (λ may. absurd (never may))))
-      by false true some h g m = so_or-not (may_be_undefined b p) (may_undefined of b) (λ may. by_rule (FieldRead.undefined g may)) (λ never. by_rule (FieldRead.mandatory g never))
+      by true one false h g m = so_or_not (may_be_undefined b p) (may_undefined of b) (λ may. by_rule (FieldRead.twice h may m)) (λ never. by_rule (FieldRead.covers h (λ may. absurd (never may))))
+      by false true some h g m = so_or_not (may_be_undefined b p) (may_undefined of b) (λ may. by_rule (FieldRead.undefined g may)) (λ never. by_rule (FieldRead.mandatory g never))
       by false false some h g m =
           let d : Defined u f = record { one = g; two = h } in
-          so_or-not (may_be_defined b p) (may_defined of b) (λ may. by_rule (FieldRead.defined d may)) (λ never. by_rule (FieldRead.mixed d never))
+          so_or_not (may_be_defined b p) (may_defined of b) (λ may. by_rule (FieldRead.defined d may)) (λ never. by_rule (FieldRead.mixed d never))

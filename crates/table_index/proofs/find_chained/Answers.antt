@@ -37,7 +37,7 @@ is_led-requires c =
     record {
       object_in_bounds = omega (arith, c.requires.rows_listed.in_rows);
       row = c.requires.rows_listed.row _ l;
-      object_value = along_other a.seed _ a.objects a.identification.now (let known : c.args.objects < 4294967296 = omega (arith, (let known : (length c.args.rows.now < length c.args.index.now) × (length c.args.rows.now < 4294967295) = usable_lt _ _ c.requires.index_value in known), c.requires.rows_listed.in_rows) in known) _ w.word w.invariant _ _ (let known : c.loop-word.word % 4294967296 ≡ suc (c.loop-word.word % 4294967296 - 1) = let a = c.args in omega (arith, along_some a.seed (identification_of a.text.now a.rows.now a.cells.now) a.objects a.identification.now (let known : c.args.objects < 4294967296 = omega (arith, (let known : (length c.args.rows.now < length c.args.index.now) × (length c.args.rows.now < 4294967295) = usable_lt _ _ c.requires.index_value in known), c.requires.rows_listed.in_rows) in known) _ c.loop-word.word c.loop-word.invariant c.loop-word-test.true) in known) c.requires.hash_value;
+      other_hash = along_other a.seed _ a.objects a.identification.now (let known : c.args.objects < 4294967296 = omega (arith, (let known : (length c.args.rows.now < length c.args.index.now) × (length c.args.rows.now < 4294967295) = usable_lt _ _ c.requires.index_value in known), c.requires.rows_listed.in_rows) in known) _ w.word w.invariant _ _ (let known : c.loop-word.word % 4294967296 ≡ suc (c.loop-word.word % 4294967296 - 1) = let a = c.args in omega (arith, along_some a.seed (identification_of a.text.now a.rows.now a.cells.now) a.objects a.identification.now (let known : c.args.objects < 4294967296 = omega (arith, (let known : (length c.args.rows.now < length c.args.index.now) × (length c.args.rows.now < 4294967295) = usable_lt _ _ c.requires.index_value in known), c.requires.rows_listed.in_rows) in known) _ c.loop-word.word c.loop-word.invariant c.loop-word-test.true) in known) c.requires.hash_value;
     }
 
 pub returns-then-is_led : goal.returns-then-is_led

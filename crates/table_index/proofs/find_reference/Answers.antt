@@ -18,8 +18,8 @@ find_in_table-requires c =
     let k = c.requires.objects_known.listed in
     record {
       at_in_bounds = omega (arith, l, k.in_rows);
-      at_in_bounds_2 = (λ g. omega (arith, (k.row (c.find_hashed-at.result - 1) (omega arith)).in_cells));
-      t = (λ g. (k.row (c.find_hashed-at.result - 1) (omega arith)).table_pos);
+      row_in_bounds = (λ g. omega (arith, (k.row (c.find_hashed-at.result - 1) (omega arith)).in_cells));
+      table_non_neg = (λ g. (k.row (c.find_hashed-at.result - 1) (omega arith)).table_pos);
     }
 
 pub returns : goal.returns

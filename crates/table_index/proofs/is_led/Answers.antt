@@ -3,4 +3,4 @@ use mathlib.Core.Path.{sym}
 use Rattle.table_index.proofs.is_led.Goals as goal
 
 pub returns-then-word-hash : goal.returns-then-word-hash
-returns-then-word-hash c = sym (c.requires.object_value c.if-word-hash.true)
+returns-then-word-hash c = sym (c.requires.other_hash c.if-word-hash.true)

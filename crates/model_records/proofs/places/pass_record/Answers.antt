@@ -29,4 +29,4 @@ pub returns-in_default : goal.returns-in_default
 returns-in_default c =
     let k = c.kind_at.ensures in
     let r = c.in_default.in_default-own.rest in
-    pass_attribute _ _ c.args.here c.requires.at_record _ c.next_at-next.ensures (λ e. r.0.1 (k ∙ e)) (λ e. r.1 (k ∙ e)) c.requires.fact
+    pass_attribute _ _ c.args.here c.requires.at_record _ c.next_at-next.ensures (λ e. r.0.1 (k ∙ e)) (λ e. r.1 (k ∙ e)) c.requires.not_end

@@ -60,7 +60,7 @@ pass_record-here-requires c =
     let i = c.loop-here.invariant in
     record {
       at_record = i.0;
-      fact = λ e. c.if-kind-eq-END.false (c.kind_at-kind.ensures ∙ e);
+      not_end = λ e. c.if-kind-eq-END.false (c.kind_at-kind.ensures ∙ e);
     }
 
 pub loop-here-smaller : goal.loop-here-smaller

@@ -34,7 +34,7 @@ returns-in-Opening c =
     let b = a.model.now in
     let m = c.opening_line in
     let p = c.plain_step in
-    let t = plain_frame b a.state a.line.now a.marks.now a.due frame.Opening c.in-Opening.is m.result p.result (m.ensures.held (model_at b) b) (p.ensures.by_index b) (p.ensures.by_index_2 b)
+    let t = plain_frame b a.state a.line.now a.marks.now a.due frame.Opening c.in-Opening.is m.result p.result (m.ensures.held (model_at b) b) (p.ensures.step b) (p.ensures.holds b)
     (λ rooms text start x. m.ensures.meant (model_at b) rooms text b start x) in
     record { step = t.0; holds = t.1 }
 
@@ -45,7 +45,7 @@ returns-in-Description c =
     let b = a.model.now in
     let m = c.description_line in
     let p = c.plain_step-in-Description in
-    let t = plain_frame b a.state a.line.now a.marks.now a.due frame.Description c.in-Description.is m.result p.result (m.ensures.held (model_at b) b) (p.ensures.by_index b) (p.ensures.by_index_2 b)
+    let t = plain_frame b a.state a.line.now a.marks.now a.due frame.Description c.in-Description.is m.result p.result (m.ensures.held (model_at b) b) (p.ensures.step b) (p.ensures.holds b)
     (λ rooms text start x. m.ensures.meant (model_at b) rooms text b start x) in
     record { step = t.0; holds = t.1 }
 
@@ -56,7 +56,7 @@ returns-in-Transfer c =
     let b = a.model.now in
     let m = c.transfer_line in
     let p = c.plain_step-in-Transfer in
-    let t = plain_frame b a.state a.line.now a.marks.now a.due frame.Transfer c.in-Transfer.is m.result p.result m.ensures.held (p.ensures.by_index b) (p.ensures.by_index_2 b)
+    let t = plain_frame b a.state a.line.now a.marks.now a.due frame.Transfer c.in-Transfer.is m.result p.result m.ensures.held (p.ensures.step b) (p.ensures.holds b)
     (λ rooms text start x. m.ensures.meant rooms text start x) in
     record { step = t.0; holds = t.1 }
 
@@ -67,7 +67,7 @@ returns-in-ModelName c =
     let b = a.model.now in
     let m = c.model_line in
     let p = c.plain_step-in-ModelName in
-    let t = plain_frame b a.state a.line.now a.marks.now a.due frame.ModelName c.in-ModelName.is m.result p.result m.ensures.held (p.ensures.by_index b) (p.ensures.by_index_2 b)
+    let t = plain_frame b a.state a.line.now a.marks.now a.due frame.ModelName c.in-ModelName.is m.result p.result m.ensures.held (p.ensures.step b) (p.ensures.holds b)
     (λ rooms text start x. m.ensures.meant rooms text start x) in
     record { step = t.0; holds = t.1 }
 
@@ -78,7 +78,7 @@ returns-in-Topic c =
     let b = a.model.now in
     let m = c.topic_line in
     let p = c.marked_step in
-    let t = marked_frame b a.state a.line.now a.marks.now a.due (frame.Topic c.in-Topic.from) c.in-Topic.is m.result p.result m.ensures.held _ a.shape.topics c.requires.prepared.placed.topics (p.ensures.by_index b) (p.ensures.by_index_2 b)
+    let t = marked_frame b a.state a.line.now a.marks.now a.due (frame.Topic c.in-Topic.from) c.in-Topic.is m.result p.result m.ensures.held _ a.shape.topics c.requires.prepared.placed.topics (p.ensures.step b) (p.ensures.holds b)
     m.ensures.meant in
     record { step = t.0; holds = t.1 }
 
@@ -89,7 +89,7 @@ returns-in-Table c =
     let b = a.model.now in
     let m = c.table_line in
     let p = c.marked_step-in-Table in
-    let t = marked_frame b a.state a.line.now a.marks.now a.due (frame.Table c.in-Table.topic c.in-Table.from) c.in-Table.is m.result p.result m.ensures.held _ a.shape.topics c.requires.prepared.placed.topics (p.ensures.by_index b) (p.ensures.by_index_2 b)
+    let t = marked_frame b a.state a.line.now a.marks.now a.due (frame.Table c.in-Table.topic c.in-Table.from) c.in-Table.is m.result p.result m.ensures.held _ a.shape.topics c.requires.prepared.placed.topics (p.ensures.step b) (p.ensures.holds b)
     m.ensures.meant in
     record { step = t.0; holds = t.1 }
 
@@ -100,6 +100,6 @@ returns-in-Closing c =
     let b = a.model.now in
     let m = c.closing_line in
     let p = c.plain_step-in-Closing in
-    let t = plain_frame b a.state a.line.now a.marks.now a.due frame.Closing c.in-Closing.is m.result p.result (m.ensures.held (model_at b) b) (p.ensures.by_index b) (p.ensures.by_index_2 b)
+    let t = plain_frame b a.state a.line.now a.marks.now a.due frame.Closing c.in-Closing.is m.result p.result (m.ensures.held (model_at b) b) (p.ensures.step b) (p.ensures.holds b)
     (λ rooms text start x. m.ensures.meant (model_at b) rooms text b start x) in
     record { step = t.0; holds = t.1 }

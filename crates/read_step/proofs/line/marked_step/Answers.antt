@@ -9,14 +9,14 @@ returns-in-To c =
     let a = c.args in
     let m = c.mark_due in
     record {
-      by_index = (λ b rows cells points. marked_to a.topics c.in-To.due a.marks.now m.new.marks m.ensures b a.moved c.in-To.is a.state rows cells points);
-      by_index_2 = (λ b text seed rows cells points index d h. next_holds b text seed a.state a.moved c.in-To.due a.marks.now m.new.marks rows cells points index c.in-To.is (marks_kept a.topics c.in-To.due a.marks.now m.new.marks m.ensures) d h);
+      step = (λ b rows cells points. marked_to a.topics c.in-To.due a.marks.now m.new.marks m.ensures b a.moved c.in-To.is a.state rows cells points);
+      holds = (λ b text seed rows cells points index d h. next_holds b text seed a.state a.moved c.in-To.due a.marks.now m.new.marks rows cells points index c.in-To.is (marks_kept a.topics c.in-To.due a.marks.now m.new.marks m.ensures) d h);
     }
 
 pub returns-in-No : goal.returns-in-No
 returns-in-No c =
     let a = c.args in
     record {
-      by_index = (λ b rows cells points. marked_no b a.topics a.moved c.in-No.number c.in-No.field (content_of (length a.marks.now) a.state a.marks.now rows cells points) c.in-No.is);
-      by_index_2 = (λ b text seed rows cells points index d h. tt);
+      step = (λ b rows cells points. marked_no b a.topics a.moved c.in-No.number c.in-No.field (content_of (length a.marks.now) a.state a.marks.now rows cells points) c.in-No.is);
+      holds = (λ b text seed rows cells points index d h. tt);
     }

@@ -17,10 +17,10 @@ returns-then-head-ne-OBJE c =
     record {
       step = λ k rooms marks points er ec fits.
           let x = content_of k a.state marks a.rows.now a.cells.now points in
-          c.plain_step.ensures.by_index b k marks a.rows.now a.cells.now points
+          c.plain_step.ensures.step b k marks a.rows.now a.cells.now points
           ∙ m.ensures.meant rooms a.text.now a.at x
           ∙ object_none (model_at b) rooms a.text.now l c.head_of-head.result c.head_of-head.ensures a.table a.at x c.if-head-ne-OBJE.true;
-      holds = λ marks points g. c.plain_step.ensures.by_index_2 b a.text.now a.seed marks a.rows.now a.cells.now points a.index.now m.ensures.held g;
+      holds = λ marks points g. c.plain_step.ensures.holds b a.text.now a.seed marks a.rows.now a.cells.now points a.index.now m.ensures.held g;
     }
 
 pub object_fields-requires : goal.object_fields-requires
@@ -34,7 +34,7 @@ object_fields-requires c =
       table_holds = table_open b a.shape a.places.now a.table _ p.records_placed p.table_lt_tables c.attributes_at-first.ensures;
       behind_bound = (behind_within a.text.now a.at a.end h.result.behind t.0 t.1 h.ensures.within, t.1, t.2);
       model_len_bound = (model_short b p.records_placed.good, p.records_placed.undefined);
-      fact = (h.ensures.some (omega (arith, c.if-head-ne-OBJE.false)) a.at, h.ensures.others a.at);
+      fields_behind = (h.ensures.some (omega (arith, c.if-head-ne-OBJE.false)) a.at, h.ensures.others a.at);
       indexed_table = p.indexed_table;
     }
 

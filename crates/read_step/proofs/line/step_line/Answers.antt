@@ -12,7 +12,7 @@ pub object_line-requires : goal.object_line-requires
 object_line-requires c =
     let a = c.args in
     let b = a.model.now in
-    let h = c.requires.fact in
+    let h = c.requires.holds in
     let p = c.requires.prepared.placed in
     let d = subst (DueHolds (model_at b) b a.rows.now a.state.rows a.state.cells a.state.points) c.in-Object.is h.due in
     record {
@@ -26,7 +26,7 @@ pub attribute_line-requires : goal.attribute_line-requires
 attribute_line-requires c =
     let a = c.args in
     given a.model.now a.text.now a.seed a.state a.marks.now a.rows.now a.cells.now a.points.now a.index.now c.in-Line.u a.shape.undefined c.in-Line.is
-    (sym c.requires.prepared.placed.undefined) c.requires.fact
+    (sym c.requires.prepared.placed.undefined) c.requires.holds
 
 pub frame_line-requires : goal.frame_line-requires
 frame_line-requires c =
@@ -34,24 +34,24 @@ frame_line-requires c =
     let b = a.model.now in
     record {
       prepared = c.requires.prepared;
-      frame_holds = subst (DueHolds (model_at b) b a.rows.now a.state.rows a.state.cells a.state.points) c.in-Frame.is c.requires.fact.due;
+      frame_holds = subst (DueHolds (model_at b) b a.rows.now a.state.rows a.state.cells a.state.points) c.in-Frame.is c.requires.holds.due;
     }
 
 pub returns-in-Object : goal.returns-in-Object
 returns-in-Object c =
     let a = c.args in
-    object_steps a.model.now a.text.now a.seed a.state a.at (a.end - a.at) a.marks.now a.rows.now a.cells.now a.points.now a.index.now c.requires.fact c.in-Object.table _ _ _ _ c.in-Object.is
+    object_steps a.model.now a.text.now a.seed a.state a.at (a.end - a.at) a.marks.now a.rows.now a.cells.now a.points.now a.index.now c.requires.holds c.in-Object.table _ _ _ _ c.in-Object.is
     c.object_line.ensures
 
 pub returns-in-Line : goal.returns-in-Line
 returns-in-Line c =
     let a = c.args in
-    line_steps a.model.now a.text.now a.seed a.state a.at (a.end - a.at) a.marks.now a.rows.now a.cells.now a.points.now a.index.now c.requires.fact c.in-Line.u _ _ _ c.in-Line.is
+    line_steps a.model.now a.text.now a.seed a.state a.at (a.end - a.at) a.marks.now a.rows.now a.cells.now a.points.now a.index.now c.requires.holds c.in-Line.u _ _ _ c.in-Line.is
     c.attribute_line.ensures
 
 pub returns-in-Frame : goal.returns-in-Frame
 returns-in-Frame c =
     let a = c.args in
     let f = c.frame_line in
-    frame_steps a.model.now a.text.now a.seed a.state a.at (a.end - a.at) a.marks.now a.rows.now a.cells.now a.points.now a.index.now c.requires.fact c.in-Frame.frame _ f.result c.in-Frame.is
+    frame_steps a.model.now a.text.now a.seed a.state a.at (a.end - a.at) a.marks.now a.rows.now a.cells.now a.points.now a.index.now c.requires.holds c.in-Frame.frame _ f.result c.in-Frame.is
     (f.ensures.step, f.ensures.holds)

@@ -17,7 +17,7 @@ step_line-step-requires c =
     record {
       prepared = c.loop-at.invariant.1.prepared;
       at_le_end = (omega (arith, e.end), e.within, c.requires.text_len_bound);
-      fact = c.loop-at.invariant.1.holds;
+      holds = c.loop-at.invariant.1.holds;
     }
 
 pub returns-in-No : goal.returns-in-No
