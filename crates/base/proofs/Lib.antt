@@ -3,3 +3,5 @@ pub mod Fill
 pub mod Runs
 pub mod Signs
 pub mod Four
+pub mod Results
+pub mod Numbered

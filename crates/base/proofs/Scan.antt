@@ -1,12 +1,15 @@
 -- What one turn of each scanning loop shows: the definition at `drop i l` is that at `drop (i + 1) l` with the byte at i before it.
 -- Assumes nothing.
-use Prim.Native.Nat.{ℕ, zero, suc, ◌+◌, ◌<◌, ◌≤◌}
+use Prim.Native.Nat.{ℕ, zero, suc, ◌+◌, ◌-◌, ◌<◌, ◌≤◌}
 use native.Mathlib.Omega.{arith}
 use mathlib.Core.Path.{◌≡◌, refl, sym, ap, ◌∙◌}
 use mathlib.Core.Bool.{Bool, true, false, ◌&&◌, and_assoc, and-true}
 use mathlib.Core.List.{List, [], ◌∷◌}
 use lib.ListN.{length, get_or, take, drop, drop_of_length-le}
 use lib.Dec.{eqb}
+use Rattle.std.proofs.lemmas.Bool.Decides.{nat_tests}
+use lib.Pointwise.{pointwise}
+use Rattle.std.specs.List.{list_all}
 use borrow.Author.Tests.{eq-eqb, ne_eqb}
 use Rattle.meaning.specs.Bytes.{every, same, prefix, ends}
 use Rattle.meaning.proofs.Lists.{drop_next}
@@ -105,3 +108,34 @@ pub ends_none : (b : ℕ) (l : List ℕ) → length l ≡ 0 → ends b l ≡ fal
 unfolding ends
 ends_none b [] h = refl
 ends_none b (c ∷ l) h = absurd (omega arith)
+
+-- ## The library's comparisons
+
+pub same_pointwise : (a b : List ℕ) → pointwise eqb a b ≡ same a b
+unfolding same
+same_pointwise [] [] = refl
+same_pointwise [] (y ∷ b) = refl
+same_pointwise (x ∷ a) [] = refl
+same_pointwise (x ∷ a) (y ∷ b) = ap (λ (t : Bool). eqb x y && t) (same_pointwise a b)
+
+eqb_sym : (x y : ℕ) → eqb x y ≡ eqb y x
+eqb_sym x y = grind (arith, nat_tests)
+
+pub prefix_pointwise : (word l : List ℕ) → pointwise eqb word (take (length word) l) ≡ prefix word l
+unfolding prefix
+prefix_pointwise [] l = refl
+prefix_pointwise (x ∷ word) [] = refl
+prefix_pointwise (x ∷ word) (y ∷ l) = rw (eqb_sym x y, prefix_pointwise word l)
+
+pub every_all : (kind : ℕ → Bool) (l : List ℕ) → list_all kind l ≡ every kind l
+unfolding every
+every_all kind [] = refl
+every_all kind (b ∷ l) = ap (λ (t : Bool). kind b && t) (every_all kind l)
+
+pub ends_pointwise : (b : ℕ) (l : List ℕ) → pointwise eqb (b ∷ []) (drop (length l - 1) l) ≡ ends b l
+unfolding ends
+ends_pointwise b [] = refl
+ends_pointwise b (c ∷ []) = rw (and-true, eqb_sym b c) refl
+ends_pointwise b (c ∷ (d ∷ l)) =
+    let n : suc (suc (length l)) - 1 ≡ suc (suc (length l) - 1) = omega arith in
+    rw n (ends_pointwise b (d ∷ l))

@@ -1,8 +1,7 @@
 -- What the next field of the rest of a line is, by cases: the fields of the rest, wherever it starts.
-use Rattle.std.specs.Prelude.{ℕ, ◌+◌, ◌≤◌, ◌<◌, ◌≡◌, List, [], ◌∷◌, length, take, drop}
+use Rattle.std.specs.Prelude.{ℕ, ◌+◌, ◌≤◌, ◌<◌, ◌≡◌, Option, Some, None, List, [], ◌∷◌, length, take, drop}
 use Rattle.meaning.specs.Field.{fields_of}
-use Rattle.base.specs.declared.fields.Next.{Next}
-use Rattle.base.specs.declared.fields.Next.TheVariants.{Field, Nothing}
+use Rattle.base.specs.declared.parts.Part.{Part}
 
 -- a field is the first of the rest's fields, and what follows it has the others
 pub record FirstField (rest : List ℕ) (at len : ℕ) : Type 0 where
@@ -12,6 +11,6 @@ pub record FirstField (rest : List ℕ) (at len : ℕ) : Type 0 where
       → fields_of s rest ≡ record { start = s + at; bytes = take len (drop at rest) }
       ∷ fields_of (s + at + len) (drop (at + len) rest)
 
-abbrev pub NextField : List ℕ → Next → Type 0
-NextField rest (Field at len) = FirstField rest at len
-NextField rest Nothing = (s : ℕ) → fields_of s rest ≡ []
+abbrev pub NextField : List ℕ → Option Part → Type 0
+NextField rest (Some part) = FirstField rest part.start part.len
+NextField rest None = (s : ℕ) → fields_of s rest ≡ []

@@ -4,13 +4,7 @@ ghost use Rattle.meaning.specs.Field.{goes_on, fields_of};
 ghost use Rattle.base.specs.Fields.{NextField};
 
 use crate::kinds;
-
-// The next field of the rest of a line: where it starts in the rest, and how long it is.
-#[derive(Clone, Copy)]
-pub enum Next {
-    Field { start: usize, len: usize },
-    Nothing,
-}
+use crate::parts::Part;
 
 // The count of separators in front.
 fn skip_separators(rest: &[u8]) -> usize
@@ -18,14 +12,9 @@ fn skip_separators(rest: &[u8]) -> usize
     ensures same { (s : ℕ) → fields_of s rest.now ≡ fields_of (s + result) (drop result rest.now) }
     ensures stops { result < length rest.now → goes_on (drop result rest.now) ≡ true }
 {
-    let mut i = 0;
-    while i < rest.len() {
-        if !kinds::is_separator(rest[i]) {
-            return i;
-        }
-        i += 1;
-    }
-    i
+    rest.iter()
+        .position(|b| !kinds::is_separator(*b))
+        .unwrap_or(rest.len())
 }
 
 // The size of the field that the rest begins with.
@@ -35,23 +24,22 @@ fn field_size(rest: &[u8]) -> usize
     ensures field { (s : ℕ) → fields_of s rest.now ≡ record { start = s; bytes = take result rest.now }
         ∷ fields_of (s + result) (drop result rest.now) }
 {
-    let mut i = 1;
-    while i < rest.len() {
+    for i in 1..rest.len() {
         if kinds::is_separator(rest[i]) {
             return i;
         }
-        i += 1;
     }
-    i
+    rest.len()
 }
 
-pub fn next_field(rest: &[u8]) -> Next
+// The next field of the rest of a line, by its place in the rest.
+pub fn next_field(rest: &[u8]) -> Option<Part>
     ensures { NextField rest.now result }
 {
     let start = skip_separators(rest);
     if start == rest.len() {
-        return Next::Nothing;
+        return None;
     }
     let len = field_size(&rest[start..]);
-    Next::Field { start, len }
+    Some(Part { start, len })
 }

@@ -2,8 +2,6 @@
 ghost use Rattle.std.specs.Prelude.{◌≡◌};
 ghost use Rattle.meaning.specs.Bytes.{permitted, separator, digit, letter, text_byte, every};
 
-use crate::bools;
-
 // "Permitted content: 09, 20 to 7E, A0 to FF hex"
 pub fn is_permitted(b: u8) -> bool
     ensures { result ≡ permitted b }
@@ -56,21 +54,16 @@ fn is_text_byte(b: u8) -> bool
 fn tests_permitted(b: u8) -> bool
     ensures { result ≡ permitted b }
 {
-    bools::either(
-        b == 0x09,
-        bools::either(bools::both(0x20 <= b, b <= 0x7e), 0xa0 <= b),
-    )
+    (b == 0x09) | (((0x20 <= b) & (b <= 0x7e)) | (0xa0 <= b))
 }
 
-// No early end in the three tests of a slice, for the same reason.
+// No early end, for the same reason.
 pub fn every_permitted(l: &[u8]) -> bool
     ensures { result ≡ every permitted l.now }
 {
     let mut all = true;
-    let mut i = 0;
-    while i < l.len() {
-        all = bools::both(all, tests_permitted(l[i]));
-        i += 1;
+    for b in l {
+        all &= tests_permitted(*b);
     }
     all
 }
@@ -78,11 +71,5 @@ pub fn every_permitted(l: &[u8]) -> bool
 pub fn every_text_byte(l: &[u8]) -> bool
     ensures { result ≡ every text_byte l.now }
 {
-    let mut all = true;
-    let mut i = 0;
-    while i < l.len() {
-        all = bools::both(all, is_text_byte(l[i]));
-        i += 1;
-    }
-    all
+    l.iter().all(|b| is_text_byte(*b))
 }

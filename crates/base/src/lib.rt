@@ -1,9 +1,9 @@
-//! Bytes and lists of bytes: their kinds, comparing, and lent rooms.
+//! Bytes and lists of bytes: their kinds, fields, comparing, parts and lent rooms; what is refused, by name.
 #![tactic(auto)]
 
-pub mod bools;
 pub mod compare;
 pub mod fields;
 pub mod kinds;
-pub mod numbers;
+pub mod parts;
+pub mod reasons;
 pub mod rooms;

@@ -11,18 +11,18 @@ pub(crate) fn store(answer: Answer, room: &mut [u64])
     ensures { room.new ≡ numbers_in (length room.old) (answer_of answer) }
 {
     match answer {
-        Answer::Accepted(objects, cells, points) => put_four(
+        Ok(used) => put_four(
             room,
             0,
-            objects as u64,
-            cells as u64,
-            points as u64,
+            used.objects as u64,
+            used.cells as u64,
+            used.points as u64,
         ),
-        Answer::Refused(number, first, second) => put_four(
+        Err(refused) => put_four(
             room,
-            number as u64,
-            first as u64,
-            second as u64,
+            u64::from(refused.reason.number()),
+            refused.first as u64,
+            refused.second as u64,
             0,
         ),
     }
@@ -34,7 +34,7 @@ pub(crate) fn code_of_read(answer: Answer) -> u64
     ensures { result ≡ code_for_c (answer_of answer) }
 {
     match answer {
-        Answer::Accepted(objects, _, _) => 256 * (objects as u64),
-        Answer::Refused(number, first, _) => number as u64 + 256 * (first as u64),
+        Ok(used) => 256 * (used.objects as u64),
+        Err(refused) => u64::from(refused.reason.number()) + 256 * (refused.first as u64),
     }
 }

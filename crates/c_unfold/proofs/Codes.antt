@@ -12,9 +12,6 @@ use Rattle.meaning.specs.Check.{Checked, good, bad, check_model}
 use Rattle.meaning.specs.Answer.{text_refused, text_unfolded, text_checked, unfold_text, check_answer, check, code_for_c}
 use Rattle.meaning.proofs.Model.Bounds.{BadBelow, bad_below}
 use Rattle.meaning.proofs.Model.GoodModels.{checked_good}
-use Rattle.unfold.specs.Answer.{Within}
-use Rattle.unfold.specs.declared.Answer as unfolded
-use Rattle.unfold.specs.declared.Answer.TheVariants.{Text, Fault, NoRoom}
 
 -- the answer of a check is small
 pub check_small : (b : List ℕ) → code_for_c (check b) ≤ 16777218
@@ -37,9 +34,3 @@ module _ (b file : List ℕ) (room : ℕ) where
   pub under_good : length file ≤ 16777216 → (m : Model) → check_model b ≡ good m → unfold_text b file room ≡ text_unfolded room (unfold_file m.mark file)
   unfolding unfold_text refuse text_checked
   under_good h m e = rw (le-ltb 16777216 (length file) h, e)
-
--- an answer for a file within the limit
-pub within_limit : (n : ℕ) (a : unfolded.Answer) → n ≤ 16777216 → Within n a → Within 16777216 a
-within_limit n (Text bytes) h w = omega arith
-within_limit n (Fault number line) h w = (w.0, w.1, w.2, omega (arith, w.3))
-within_limit n NoRoom h w = tt

@@ -7,29 +7,28 @@ ghost use Rattle.meaning.specs.Answer.{check, unfold_text, code_for_c};
 ghost use Rattle.model_check.specs.Walk.{checked_meant};
 ghost use Rattle.unfold.specs.Answer.{answer_of, Within};
 
-use model_check::check::Checked;
-use unfold::Answer;
+use model_check::check::BadRecord;
+use unfold::Fault;
 
 // The check's one number.
-fn code_of_check(checked: Checked) -> u64
+fn code_of_check(checked: Result<usize, BadRecord>) -> u64
     requires { code_for_c (checked_meant checked) ≤ 16777218 }
     ensures { result ≡ code_for_c (checked_meant checked) }
 {
     match checked {
-        Checked::Good(topics) => 256 * (topics as u64),
-        Checked::Bad(at) => 2 + 256 * (at as u64),
+        Ok(topics) => 256 * (topics as u64),
+        Err(bad) => 2 + 256 * (bad.at as u64),
     }
 }
 
 // The unfolding's one number.
-fn code_of_text(answer: Answer) -> u64
+fn code_of_text(answer: Result<usize, Fault>) -> u64
     requires { Within 16777216 answer }
     ensures { result ≡ code_for_c (answer_of answer) }
 {
     match answer {
-        Answer::Text(bytes) => 256 * (bytes as u64),
-        Answer::Fault(number, line) => number as u64 + 256 * (line as u64),
-        Answer::NoRoom => 6,
+        Ok(bytes) => 256 * (bytes as u64),
+        Err(fault) => u64::from(fault.reason.number()) + 256 * (fault.line as u64),
     }
 }
 
@@ -50,19 +49,15 @@ pub extern "C" fn vendorfinch_unfold(model: &[u8], file: &[u8], text: &mut [u8])
         text.new ≡ meant.text }
 {
     if 16777216 < file.len() {
-        base::rooms::clear(text);
+        text.fill(0);
         return 1;
     }
     let checked = model_check::check::check(model);
     match checked {
-        Checked::Bad(_) => {
-            base::rooms::clear(text);
+        Err(_) => {
+            text.fill(0);
             code_of_check(checked)
         }
-        Checked::Good(_) => code_of_text(unfold::unfold_with(
-            file,
-            model_records::mark_of(model),
-            text,
-        )),
+        Ok(_) => code_of_text(unfold::unfold_with(file, model_records::mark_of(model), text)),
     }
 }

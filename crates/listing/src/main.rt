@@ -47,6 +47,7 @@ fn read_full(rt: &HostRuntime, room: &mut [u8]) -> io::Result<usize>
 {
     let mut from = rt.stdin();
     let mut n = 0;
+    // By hand: `read_exact` fails at a shorter input, and `read_to_end` wants a Vec; memory is fixed here.
     while n < room.len() {
         let more = from.read(&mut room[n..])?;
         if more == 0 {

@@ -3,28 +3,19 @@
 ghost use Rattle.std.specs.Prelude.{◌*◌, ◌<◌, length};
 
 use crate::rooms;
-use base::numbers;
 use listing_lines::rows;
 use read_text::Answer;
 use std::io;
 use std::io::Write;
 
-fn print_number(rt: &HostRuntime, n: usize, behind: &[u8]) -> io::Result<()> {
-    print!(rt; "{n}")?;
-    rt.stdout().write_all(behind)
-}
-
 pub(crate) fn show_answer(
     rt: &HostRuntime,
-    number: usize,
+    number: u8,
     first: usize,
     second: usize,
     third: usize,
 ) -> io::Result<()> {
-    print_number(rt, number, b" ")?;
-    print_number(rt, first, b" ")?;
-    print_number(rt, second, b" ")?;
-    print_number(rt, third, b"\n")
+    println!(rt; "{number} {first} {second} {third}")
 }
 
 // A line of the cells from one to before another.
@@ -45,12 +36,9 @@ fn show_row(
 fn show_objects(rt: &HostRuntime, rows: &[u64], cells: &[i64], out: &mut [u8]) -> io::Result<()>
     requires { 22 * length cells.now < length out.old }
 {
-    let mut i = 0;
-    while i < rows.len() {
-        let from = rows[i] as usize;
+    for (i, first) in rows.iter().enumerate() {
         let to = rows::row_end(rows, i + 1, cells.len());
-        show_row(rt, cells, from, to, out)?;
-        i += 1;
+        show_row(rt, cells, *first as usize, to, out)?;
     }
     Ok(())
 }
@@ -59,10 +47,8 @@ fn show_objects(rt: &HostRuntime, rows: &[u64], cells: &[i64], out: &mut [u8]) -
 fn show_points(rt: &HostRuntime, points: &[i64], out: &mut [u8]) -> io::Result<()>
     requires { 22 * length points.now < length out.old }
 {
-    let mut at = 0;
-    while at < points.len() {
-        show_row(rt, points, at, at + 4, out)?;
-        at += 4;
+    for point in points.chunks(4) {
+        show_row(rt, point, 0, 4, out)?;
     }
     Ok(())
 }
@@ -86,15 +72,19 @@ pub(crate) fn show(
     requires { (length cells.now < 8193) × (length points.now < 8193) }
 {
     match answer {
-        Answer::Refused(number, first, second) => {
-            show_answer(rt, number as usize, first, second, 0)
-        }
-        Answer::Accepted(objects, count, drawn) => {
-            show_answer(rt, 0, objects, count, drawn)?;
-            let o = numbers::least_of(objects, rows.len());
-            let c = numbers::least_of(count, cells.len());
-            let p = 4 * numbers::least_of(drawn, points.len() / 4);
-            show_table(rt, &rows[..o], &cells[..c], &points[..p])
+        Err(refused) => show_answer(
+            rt,
+            refused.reason.number(),
+            refused.first,
+            refused.second,
+            0,
+        ),
+        Ok(used) => {
+            show_answer(rt, 0, used.objects, used.cells, used.points)?;
+            let objects = used.objects.min(rows.len());
+            let count = used.cells.min(cells.len());
+            let drawn = 4 * used.points.min(points.len() / 4);
+            show_table(rt, &rows[..objects], &cells[..count], &points[..drawn])
         }
     }
 }

@@ -1,15 +1,14 @@
 -- A line of cells, cell by cell. Assumes nothing.
-use Prim.Native.Nat.{ℕ, ◌+◌, ◌-◌, ◌≤◌, ◌<◌, min}
+use Prim.Native.Nat.{ℕ, ◌+◌, ◌-◌, ◌≤◌, ◌<◌}
 use native.Mathlib.Numerals.{add-one}
 use native.Mathlib.Omega.{arith}
 use mathlib.Core.Path.{◌≡◌, refl, sym, ap, ◌∙◌}
-use mathlib.Core.Bool.{Bool, true, false}
 use mathlib.Core.List.{List, [], ◌∷◌, ◌++◌, append_assoc, append-nil}
 use lib.Dec.{ltb}
 use lib.IntN.{ℤ, pos}
-use lib.ListN.{length, take, drop, get_or, set, length-append, length-drop, length-take, drop_of_length-le}
-use lib.Seq.{sets, sets-eq, take_at, drop-cons, length-take-le, take_all, take-nil}
-use borrow.Author.Tests.{lt-ltb, le-ltb, ltb-true, ltb-false}
+use lib.ListN.{length, take, drop, get_or, set, length-append, length-drop, length-take}
+use lib.Seq.{sets, sets-eq, take_at, drop-cons, length-take-le}
+use borrow.Author.Tests.{lt-ltb, le-ltb}
 use borrow.Rule.Slice.PartMut.{mid_of, put_mid}
 use Rattle.meaning.specs.Bytes.{choose}
 use Rattle.meaning.specs.Digits.{number_bytes}
@@ -63,51 +62,9 @@ module _ (vs : List ℤ) (i : ℕ) (h : i < length vs) where
       → front' ++ rest (drop (i + 1) vs) ≡ rest vs
   row_more front front' e f = rw (f, append_assoc front, ← row_step) e
 
--- behind the last cell
-pub row_end_lem : (vs : List ℤ) (i : ℕ) (front : List ℕ) → length vs ≤ i → 0 < length vs → front ++ rest (drop i vs) ≡ rest vs → front ≡ print_row vs
-row_end_lem [] i front l h e = absurd (omega arith)
-row_end_lem (v ∷ vs) i front l h e = sym (append-nil front) ∙ (rw (drop_of_length-le (v ∷ vs) l) at e)
-
 -- a line without cells
 pub empty_row : (vs : List ℤ) (xs : List ℕ) → length vs ≡ 0 → 0 < length xs → take 1 (set xs 0 0x0a) ≡ print_row vs
 unfolding print_row
 empty_row [] [] e h = absurd (omega arith)
 empty_row [] (x ∷ xs) e h = refl
 empty_row (v ∷ vs) xs e h = absurd (omega arith)
-
--- the cells from one to before another, where these lie within all
-module _ (cs : List ℤ) (from to : ℕ) where
-  all_behind : (k : ℕ) → length cs ≤ from + k → take k (drop from cs) ≡ drop from cs
-  all_behind k h = take_all k (drop from cs) (omega (arith, length-drop from cs))
-
-  pub within : (start end : ℕ) → end ≡ min to (length cs) → start ≡ min from end → take (end - start) (drop start cs) ≡ take (to - from) (drop from cs)
-  within start end e s = by (ltb to (length cs)) refl (ltb from end) refl
-    where
-      nothing : (k : ℕ) → length cs ≤ from → take k (drop from cs) ≡ []
-      nothing k h = rw (drop_of_length-le cs h, take-nil k)
-
-      by : (x : Bool) → ltb to (length cs) ≡ x → (y : Bool) → ltb from end ≡ y → take (end - start) (drop start cs) ≡ take (to - from) (drop from cs)
-      by true ex true ey =
-          let p : end ≡ to = omega (arith, ltb-true to (length cs) ex) in
-          let q : start ≡ from = omega (arith, ltb-true from end ey) in
-          rw (q, p)
-      by true ex false ey =
-          let p : end ≡ to = omega (arith, ltb-true to (length cs) ex) in
-          let h : end ≤ from = ltb-false from end ey in
-          let q : start ≡ end = omega arith in
-          let z : end - start ≡ 0 = omega arith in
-          let y : to - from ≡ 0 = omega arith in
-          rw (z, y)
-      by false ex true ey =
-          let h : length cs ≤ to = ltb-false to (length cs) ex in
-          let p : end ≡ length cs = omega arith in
-          let l : from < end = ltb-true from end ey in
-          let q : start ≡ from = omega arith in
-          rw q (all_behind (end - from) (omega arith) ∙ sym (all_behind (to - from) (omega arith)))
-      by false ex false ey =
-          let l : length cs ≤ to = ltb-false to (length cs) ex in
-          let p : end ≡ length cs = omega arith in
-          let h : end ≤ from = ltb-false from end ey in
-          let q : start ≡ end = omega arith in
-          let z : end - start ≡ 0 = omega arith in
-          rw z (sym (nothing (to - from) (omega arith)))

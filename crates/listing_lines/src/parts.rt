@@ -11,6 +11,7 @@ pub fn model_size(input: &[u8]) -> usize
     ensures within { result ≤ length input.now }
 {
     let mut at = 0;
+    // By hand: nothing is known of these records yet, and no other walk goes over them.
     while model_records::fits_at(input, at) {
         let kind = model_records::kind_at(input, at);
         at = model_records::next_at(input, at);

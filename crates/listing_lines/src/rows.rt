@@ -4,8 +4,6 @@ ghost use Rattle.meaning.specs.Bytes.{choose};
 ghost use Rattle.meaning.specs.Digits.{number_bytes};
 ghost use Rattle.meaning.specs.Listing.{print_row};
 
-use base::numbers;
-
 // A cell and the byte behind it, behind the first n bytes.
 fn put_cell(v: i64, behind: u8, out: &mut [u8], n: usize) -> usize
     requires { n + 22 ≤ length out.old }
@@ -33,7 +31,7 @@ fn put_row(values: &[i64], out: &mut [u8]) -> usize
     ensures few { result ≤ length out.new }
     ensures bytes { take result out.new ≡ print_row values.now }
 {
-    if values.len() == 0 {
+    if values.is_empty() {
         out[0] = b'\n';
         return 1;
     }
@@ -47,10 +45,8 @@ fn put_values(values: &[i64], out: &mut [u8]) -> usize
     ensures bytes { take result out.new ≡ print_row values.now }
 {
     let mut n = 0;
-    let mut i = 0;
-    while i < values.len() {
-        n = put_cell(values[i], behind(i, values.len()), out, n);
-        i += 1;
+    for (i, v) in values.iter().enumerate() {
+        n = put_cell(*v, behind(i, values.len()), out, n);
     }
     n
 }
@@ -61,8 +57,8 @@ pub fn put_part(cells: &[i64], from: usize, to: usize, out: &mut [u8]) -> usize
     ensures few { result ≤ length out.new }
     ensures bytes { take result out.new ≡ print_row (take (to - from) (drop from cells.now)) }
 {
-    let end = numbers::least_of(to, cells.len());
-    let start = numbers::least_of(from, end);
+    let end = to.min(cells.len());
+    let start = from.min(end);
     put_row(&cells[start..end], out)
 }
 
@@ -70,9 +66,8 @@ pub fn put_part(cells: &[i64], from: usize, to: usize, out: &mut [u8]) -> usize
 pub fn row_end(rows: &[u64], i: usize, all: usize) -> usize
     ensures { result ≡ choose (ltb i (length rows.now)) (get_or rows.now i 0) all }
 {
-    if i < rows.len() {
-        rows[i] as usize
-    } else {
-        all
+    match rows.get(i) {
+        Some(row) => *row as usize,
+        None => all,
     }
 }

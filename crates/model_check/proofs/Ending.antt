@@ -13,8 +13,7 @@ use Rattle.model_records.specs.Records.{records_at}
 use Rattle.model_check.specs.References.{topic_numbers, outside_meant}
 use Rattle.model_check.specs.Walk.{WalkerHolds, checked_records}
 use Rattle.model_check.specs.declared.check.Walker.{Walker}
-use Rattle.model_check.specs.declared.references.Outside.{Outside}
-use Rattle.model_check.specs.declared.references.Outside.TheVariants.{At, Nowhere}
+use Rattle.std.proofs.Common.{Option, Some, None}
 
 module _ (b : List ℕ) (w : Walker) (ps : List ℕ) (k : WalkerHolds b w ps) where
   ended : (w.before ≡ 6 → ⊥) → (rest : check.Checked) → check.check_records 0 check.nothing_seen (records_at b 0) rest ≡ check.bad w.at
@@ -30,7 +29,7 @@ module _ (b : List ℕ) (w : Walker) (ps : List ℕ) (k : WalkerHolds b w ps) wh
   whole e rest = k.checked rest ∙ rw (eq-eqb w.before 6 e)
 
   -- what the judging of references found decides
-  module _ (e : w.before ≡ 6) (o : Outside)
+  module _ (e : w.before ≡ 6) (o : Option ℕ)
       (found : (ts : List Table) (rest : check.Checked) → topic_numbers ts ≡ take w.count ps → outside_meant o rest ≡ check.judge_references ts (tables_of 0 (records_at b 0)) rest) where
     lists : ((model_of (records_at b 0)).topics ≡ topics_of (records_at b 0)) × ((model_of (records_at b 0)).tables ≡ tables_of 0 (records_at b 0))
     lists = model_lists (records_at b 0) (check.good (model_of (records_at b 0))) (model_of (records_at b 0)) (whole e _)
@@ -38,14 +37,14 @@ module _ (b : List ℕ) (w : Walker) (ps : List ℕ) (k : WalkerHolds b w ps) wh
     judged : checked_records b ≡ outside_meant o (check.good (model_of (records_at b 0)))
     judged = whole e _ ∙ rw lists.1 (sym (found (tables_of 0 (records_at b 0)) _ k.placed))
 
-    pub outside : (at : ℕ) → o ≡ At at → meaning.refusal 2 at 0 ≡ meaning.check_answer (checked_records b)
+    pub outside : (at : ℕ) → o ≡ Some at → meaning.refusal 2 at 0 ≡ meaning.check_answer (checked_records b)
     unfolding outside_meant meaning.check_answer
-    outside at q = sym (ap meaning.check_answer (judged ∙ ap (λ (x : Outside). outside_meant x (check.good (model_of (records_at b 0)))) q))
+    outside at q = sym (ap meaning.check_answer (judged ∙ ap (λ (x : Option ℕ). outside_meant x (check.good (model_of (records_at b 0)))) q))
 
-    pub good_model : o ≡ Nowhere → meaning.accepted w.topics 0 0 ≡ meaning.check_answer (checked_records b)
+    pub good_model : o ≡ None → meaning.accepted w.topics 0 0 ≡ meaning.check_answer (checked_records b)
     unfolding outside_meant meaning.check_answer
     good_model q =
-        sym (ap meaning.check_answer (judged ∙ ap (λ (x : Outside). outside_meant x (check.good (model_of (records_at b 0)))) q) ∙ ap (λ (n : ℕ). meaning.accepted n 0 0) (ap length lists.0 ∙ sym k.counted))
+        sym (ap meaning.check_answer (judged ∙ ap (λ (x : Option ℕ). outside_meant x (check.good (model_of (records_at b 0)))) q) ∙ ap (λ (n : ℕ). meaning.accepted n 0 0) (ap length lists.0 ∙ sym k.counted))
 
 -- a model that is too long, or is not
 pub too_long : (b : List ℕ) → 65536 < length b → meaning.refusal 2 0 0 ≡ meaning.check b

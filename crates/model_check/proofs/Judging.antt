@@ -5,8 +5,8 @@ use mathlib.Core.Path.{◌≡◌, refl, sym, ap, ◌∙◌}
 use mathlib.Core.Bool.{Bool, true, false, not, ◌&&◌}
 use mathlib.Core.List.{List, [], ◌∷◌}
 use lib.Dec.{eqb, ltb}
-use lib.ListN.{length, take, drop, get_or}
-use lib.Seq.{length-take-le, get_or-take, get_or-drop}
+use lib.ListN.{length, drop, get_or}
+use lib.Seq.{get_or-drop}
 use borrow.Author.Tests.{lt-ltb, le-ltb, ne_eqb, eqb-true, ltb-true, ltb-false}
 use Rattle.meaning.proofs.Model.Records.{entry_at, overrun_at, finish_at}
 use Rattle.meaning.specs.Bytes.{choose, refuse, byte_at, u16_at}
@@ -29,18 +29,18 @@ number_at [] t = refl
 number_at (x ∷ ts) zero = refl
 number_at (x ∷ ts) (suc t) = number_at ts t
 
-module _ (ts : List Table) (t topic : ℕ) (places : List ℕ) (tables : ℕ) (e : topic_numbers ts ≡ take tables places) (h : tables ≤ length places) where
-  count : length ts ≡ tables
-  count = sym (numbers_length ts) ∙ ap length e ∙ length-take-le tables places h
+module _ (ts : List Table) (t topic : ℕ) (places : List ℕ) (e : topic_numbers ts ≡ places) where
+  count : length ts ≡ length places
+  count = sym (numbers_length ts) ∙ ap length e
 
-  pub foreign_high : tables ≤ t → is_outside ts topic (found t) ≡ true
+  pub foreign_high : length places ≤ t → is_outside ts topic (found t) ≡ true
   unfolding is_outside
   foreign_high l = rw (le-ltb t (length ts) (rw count l))
 
-  pub foreign_other : t < tables → not (eqb (get_or places t 0) topic) ≡ is_outside ts topic (found t)
+  pub foreign_other : t < length places → not (eqb (get_or places t 0) topic) ≡ is_outside ts topic (found t)
   unfolding is_outside
   foreign_other l =
-      let g : get_or places t 0 ≡ (table_at ts t).topic = sym (get_or-take tables places t 0 l) ∙ ap (λ (xs : List ℕ). get_or xs t 0) (sym e) ∙ number_at ts t in
+      let g : get_or places t 0 ≡ (table_at ts t).topic = ap (λ (xs : List ℕ). get_or xs t 0) (sym e) ∙ number_at ts t in
       rw (lt-ltb t (length ts) (rw count l), g)
 
 -- ## A payload's target

@@ -32,7 +32,7 @@ unfolding keeps_transfer
 short_transfer p h = fails _ _ (fails _ _ (fails _ _ (fails _ _ (fails _ _ (fails _ _ (fails_here _ _ (no_name_behind 63 3 p (omega arith))))))))
 
 -- the tests of a transfer record, as they are put together
-pub transfer_tests : (a b c d e f g : Bool) → all_of (a ∷ b ∷ c ∷ (all_of (d ∷ e ∷ f ∷ []) && g) ∷ []) ≡ all_of (a ∷ b ∷ c ∷ d ∷ e ∷ f ∷ g ∷ [])
+pub transfer_tests : (a b c d e f g : Bool) → (a && b && c && all_of (d ∷ e ∷ f ∷ []) && g) ≡ all_of (a ∷ b ∷ c ∷ d ∷ e ∷ f ∷ g ∷ [])
 unfolding all_of
 transfer_tests a b c d e f g = simp (and-true, and_assoc)
 

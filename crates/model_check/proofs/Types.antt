@@ -5,18 +5,17 @@ use native.Mathlib.Omega.{arith}
 use mathlib.Core.Path.{◌≡◌, refl, ap, ◌∙◌}
 use mathlib.Core.Bool.{Bool, true, false, ◌&&◌, and-true}
 use mathlib.Core.List.{List, [], ◌∷◌}
-use lib.Dec.{eqb, leb}
+use lib.Dec.{eqb}
 use lib.ListN.{length, take, drop, length-drop}
 use lib.Seq.{get_or-drop, length-take-le}
-use borrow.Author.Tests.{eqb-true, eqb-false, ne_eqb, le-leb, lt-leb}
+use borrow.Author.Tests.{ne_eqb, le-leb, lt-leb}
 use Rattle.meaning.specs.Bytes.{choose, all_of, byte_at}
 use Rattle.meaning.specs.Model as meaning
-use Rattle.meaning.specs.Check.{is_dimension, good_components, good_type, is_type}
-use Rattle.model_records.specs.declared.Attribute.{Attribute}
+use Rattle.meaning.specs.Check.{is_dimension, good_type, is_type}
 use Rattle.model_records.specs.Components.{components_of, list_of}
-use Rattle.model_records.specs.declared.Component.{Component}
-use Rattle.model_records.specs.declared.Components.{Components}
-use Rattle.model_records.specs.Attributes.{type_of, ParametersFit}
+use Rattle.model_records.specs.declared.attributes.Component.{Component}
+use Rattle.model_records.specs.declared.attributes.Components.{Components}
+use Rattle.model_records.specs.Attributes.{ParametersFit}
 
 -- ## Sizes
 
@@ -46,21 +45,6 @@ listed (c ∷ cs) = ap suc (listed cs)
 
 pub held_length : (c : Components) → c.count ≤ 3 → length c.items ≡ 3 → length (components_of c) ≡ c.count
 held_length c h l = listed (take c.count c.items) ∙ length-take-le c.count c.items (omega arith)
-
--- ## Good types
-
-module _ (a : Attribute) where
-  pub good_coordinate : 2 ≤ a.kind → a.kind ≤ 3 → good_type (type_of a) ≡ all_of (is_dimension (length (components_of a.components)) ∷ good_components (components_of a.components) ∷ [])
-  unfolding good_type type_of choose
-  good_coordinate l g = go (eqb a.kind 2) refl
-    where
-      go : (x : Bool) → eqb a.kind 2 ≡ x → good_type (type_of a) ≡ all_of (is_dimension (length (components_of a.components)) ∷ good_components (components_of a.components) ∷ [])
-      go true e = rw (eqb-true a.kind 2 e)
-      go false e = let d = eqb-false a.kind 2 e in let k : a.kind ≡ 3 = omega arith in rw k
-
-  pub good_line : 8 ≤ a.kind → good_type (type_of a) ≡ (leb 1 a.number && (leb a.number 3 && all_of (is_dimension (length (components_of a.components)) ∷ good_components (components_of a.components) ∷ [])))
-  unfolding good_type type_of choose all_of
-  good_line l = rw (ne_eqb a.kind 1 (omega arith), ne_eqb a.kind 2 (omega arith), ne_eqb a.kind 3 (omega arith), ne_eqb a.kind 4 (omega arith), ne_eqb a.kind 5 (omega arith), ne_eqb a.kind 6 (omega arith), ne_eqb a.kind 7 (omega arith))
 
 -- ## A type's number and parameters
 

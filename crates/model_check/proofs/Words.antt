@@ -1,11 +1,11 @@
 -- Names kept as numbers: the part of the model that one means, and a turn of the search through several.
 -- Assumes nothing.
-use Prim.Native.Nat.{ℕ, suc, ◌+◌, ◌-◌, ◌/◌, ◌%◌, ◌≤◌, ◌<◌, min}
+use Prim.Native.Nat.{ℕ, suc, ◌+◌, ◌-◌, ◌/◌, ◌%◌, ◌<◌, min}
 use native.Mathlib.Omega.{arith}
 use mathlib.Core.Path.{◌≡◌, refl, ap, ◌∙◌}
 use mathlib.Core.Bool.{Bool, true, false, ◌||◌}
 use mathlib.Core.List.{List, [], ◌∷◌, ◌++◌}
-use lib.ListN.{length, take, drop, get_or, set, drop_of_length-le}
+use lib.ListN.{length, take, drop, set, drop_of_length-le}
 use lib.Dec.{leb}
 use lib.Seq.{take-nil, take-suc-set, take-set-le}
 use borrow.Author.Tests.{leb-true, leb-false}
@@ -13,7 +13,8 @@ use native.Mathlib.Numerals.{add-one}
 use Rattle.meaning.specs.Bytes.{same}
 use Rattle.meaning.specs.Check.{is_among}
 use Rattle.model_check.specs.Names.{name_of, names_of}
-use Rattle.meaning.proofs.Lists.{part, drop_next}
+use Rattle.meaning.proofs.Lists.{part}
+use Rattle.std.specs.List.{list_any}
 
 -- the part of the model from the lesser of start and length on
 pub word_part : (b : List ℕ) (word start end : ℕ) → start ≡ min (word / 65536) (length b) → end ≡ start + min (word % 65536) (length b - start)
@@ -38,14 +39,10 @@ word_part b word start end e f = go (leb (word / 65536) (length b)) refl
 
 -- ## A search
 
-module _ (b name words : List ℕ) (i : ℕ) where
-  pub among_at : i < length words → is_among name (names_of b (drop i words)) ≡ (same (name_of b (get_or words i 0)) name || is_among name (names_of b (drop (i + 1) words)))
-  unfolding is_among names_of
-  among_at h = rw (drop_next words i 0 h)
-
-  pub among_end : length words ≤ i → is_among name (names_of b (drop i words)) ≡ false
-  unfolding is_among names_of
-  among_end h = rw (drop_of_length-le words h)
+pub among_any : (b name words : List ℕ) → list_any (λ word. same (name_of b word) name) words ≡ is_among name (names_of b words)
+unfolding is_among names_of
+among_any b name [] = refl
+among_any b name (word ∷ words) = ap (λ (t : Bool). same (name_of b word) name || t) (among_any b name words)
 
 -- ## Names that are added
 

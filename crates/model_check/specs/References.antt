@@ -1,11 +1,9 @@
 -- The judging of references, record by record, in the words of the meaning.
-use Rattle.std.specs.Prelude.{ℕ, ◌+◌, ◌-◌, Bool, true, false, ◌&&◌, List, [], ◌∷◌, eqb, drop}
+use Rattle.std.specs.Prelude.{ℕ, ◌+◌, ◌-◌, Bool, true, false, ◌&&◌, List, [], ◌∷◌, eqb, drop, Option, Some, None}
 use Rattle.meaning.specs.Bytes.{choose, byte_at, u16_at}
 use Rattle.meaning.specs.Model.{Records, Table, attributes_of, tables_of, type_of, target_of}
 use Rattle.meaning.specs.Check.{Checked, bad, judge_attributes, judge_references, is_outside}
 use Rattle.model_records.specs.Records.{payload_at, next_at}
-use Rattle.model_check.specs.declared.references.Outside.{Outside}
-use Rattle.model_check.specs.declared.references.Outside.TheVariants.{At, Nowhere}
 use Rattle.model_check.specs.declared.references.Judge.{Judge}
 
 -- the topic of each table
@@ -14,9 +12,9 @@ topic_numbers [] = []
 topic_numbers (t ∷ ts) = t.topic ∷ topic_numbers ts
 
 -- a reference outside is bad at its byte; else the rest decides
-unfoldable pub outside_meant : Outside → Checked → Checked
-outside_meant (At at) rest = bad at
-outside_meant Nowhere rest = rest
+unfoldable pub outside_meant : Option ℕ → Checked → Checked
+outside_meant (Some at) rest = bad at
+outside_meant None rest = rest
 
 -- the references of these records: those of the attributes that begin here, where they lie behind a table's record, and
 -- those of the tables

@@ -1,5 +1,6 @@
 -- Where the check stands, in the words of the meaning.
 use Rattle.std.specs.Prelude.{ℕ, ◌+◌, ◌≤◌, ◌≡◌, Bool, not, ◌&&◌, List, [], eqb, leb, length, take}
+use Rattle.std.specs.Prelude.{Result, Ok, Err}
 use Rattle.meaning.specs.Bytes.{choose, refuse, u16_at}
 use Rattle.meaning.specs.Answer as meaning
 use Rattle.meaning.specs.Model.{Records, Model, topics_of, tables_of, model_of}
@@ -8,8 +9,7 @@ use Rattle.meaning.specs.Check.{Seen, follows, keeps}
 use Rattle.model_check.specs.Names.{names_of}
 use Rattle.model_records.specs.Records.{records_at, payload_at, next_at}
 use Rattle.model_check.specs.References.{topic_numbers}
-use Rattle.model_check.specs.declared.check.Checked.{Checked}
-use Rattle.model_check.specs.declared.check.Checked.TheVariants.{Good, Bad}
+use Rattle.model_check.specs.declared.check.BadRecord.{BadRecord}
 use Rattle.model_check.specs.declared.check.Walker.{Walker}
 
 -- names of topics, and of tables, that were seen, and nothing else
@@ -75,9 +75,9 @@ abbrev pub advanced : List ℕ → Walker → Walker
 advanced model w = advanced_on (u16_at model (w.at + 2)) (next_at model w.at) w
 
 -- "The check answers 0, topics, 0, 0 or 2"
-unfoldable pub checked_meant : Checked → meaning.Answer
-checked_meant (Good topics) = meaning.accepted topics 0 0
-checked_meant (Bad at) = meaning.refusal 2 at 0
+unfoldable pub checked_meant : Result ℕ BadRecord → meaning.Answer
+checked_meant (Ok topics) = meaning.accepted topics 0 0
+checked_meant (Err bad) = meaning.refusal 2 bad.at 0
 
 -- the check of a model that is not too long
 abbrev pub checked_records : List ℕ → check.Checked

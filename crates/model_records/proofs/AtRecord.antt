@@ -14,7 +14,7 @@ use Rattle.meaning.specs.Bytes.{choose, byte_at, u16_at}
 use Rattle.meaning.specs.Model.{Records, finish, overrun, entry, Table, Model, no_table, table_at, flag_of, attribute_of, attributes_of, tables_of, topics_of, name_of, model_of}
 use Rattle.meaning.specs.Check.{good, special, is_flag, keeps_transfer, keeps_topic, keeps_table, keeps_attribute, keeps, see, nothing_seen, check_records, check_model}
 use Rattle.meaning.proofs.Unfolding.Cuts.{both}
-use Rattle.model_records.specs.Records.{records_at, kind_at, payload_at, next_at, attributes_at, model_at}
+use Rattle.model_records.specs.Records.{records_at, kind_at, payload_at, next_at, attributes_at}
 use Rattle.model_records.specs.AtRecord.{AtRecord, RecordFits, TopicHere, TableHere, AttributeNext, EndHere, Beginning}
 use Rattle.model_records.proofs.Types.{payload_room}
 use Rattle.meaning.proofs.Tests.Refuse.{holds}
@@ -68,10 +68,6 @@ module _ (m : Model) (b : List ℕ) (at k t : ℕ) (s : AtRecord m b at k t) whe
 
   pub here : RecordFits b at
   here = record { room = omega (arith, one.fits); fits = one.fits; least = ordered.0; most = ordered.1 }
-
-  -- a record of no other kind is the end record
-  pub not_others : (kind_at b at ≡ 4 → ⊥) → (kind_at b at ≡ 5 → ⊥) → (kind_at b at ≡ 3 → ⊥) → kind_at b at ≡ 6
-  not_others a b c = omega (arith, here.least, here.most)
 
   -- the topics and tables from this record on
   topics_here : topics_of (entry at (kind_at b at) (payload_at b at) (records_at b (next_at b at))) ≡ drop k m.topics
@@ -278,7 +274,3 @@ module _ (m : Model) (b : List ℕ) (ok : check_model b ≡ good m) where
 
   pub start : AtRecord m b (next_at b (next_at b 0)) 0 0
   start = beginning.topics
-
--- the model that the check finds good is the one that the bytes say
-pub good_model : (m : Model) (b : List ℕ) → check_model b ≡ good m → model_at b ≡ m
-good_model m b ok = (begun m b ok).model

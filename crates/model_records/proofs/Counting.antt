@@ -10,13 +10,13 @@ use Rattle.meaning.specs.Bytes.{choose, byte_at}
 use Rattle.meaning.specs.Model.{Model, type_of, components_of, attribute_of}
 use Rattle.meaning.specs.Row.{Pair, component_pairs, pairs_of_type, pairs_of}
 use Rattle.model_records.specs.Records.{kind_at, payload_at, next_at, pairs_at}
-use Rattle.model_records.specs.AtRecord.{AtRecord, AttributeHere, AttributeNext, AttributesHere}
+use Rattle.model_records.specs.AtRecord.{AtRecord, AttributeHere, AttributeNext}
 use Rattle.model_records.specs.Attributes as means
 use Rattle.model_records.specs.Attributes.{ParametersFit, RecordAttribute}
-use Rattle.model_records.specs.declared.Attribute.{Attribute}
+use Rattle.model_records.specs.declared.attributes.Attribute.{Attribute}
 use Rattle.model_records.specs.Counts.{fields_of, pair_count, CountsOf}
-use Rattle.model_records.proofs.AtRecord.{attribute_here, no_attribute}
-use Rattle.model_records.proofs.Types.{sized, type_at, parts_room}
+use Rattle.model_records.proofs.AtRecord.{attribute_here}
+use Rattle.model_records.proofs.Types.{sized, type_at}
 
 -- ## By the number of its type
 
@@ -66,29 +66,19 @@ module _ (m : Model) (b : List ℕ) (at k t : ℕ) (a : AttributeNext m b at k t
 -- ## The attribute that is decoded
 
 module _ (b : List ℕ) (at : ℕ) (a : Attribute) (h : AttributeHere b at) (d : RecordAttribute b at a) where
-  pub own_count : length (pairs_of_type a.optional (means.type_of a)) ≡ pair_count a.kind
+  pub own_count : length (pairs_of_type a.optional (means.type_of a)) ≡ pair_count (byte_at (payload_at b at) 1)
   unfolding attribute_of
   own_count =
       let q = drop 2 (payload_at b at) in
       let t = byte_at (payload_at b at) 1 in
-      rw (d.type, d.kind) (omega (arith, length-append (pairs_of_type a.optional (type_of t q)) [], count_type a.optional q [] t (sized b at h)))
+      rw d.type (omega (arith, length-append (pairs_of_type a.optional (type_of t q)) [], count_type a.optional q [] t (sized b at h)))
 
 -- ## The records from a byte on
 
 module _ (m : Model) (b : List ℕ) (at k t : ℕ) (s : AtRecord m b at k t) where
-  pub pairs_none : (kind_at b at ≡ 5 → ⊥) → length (pairs_at b at) ≡ 0
-  unfolding pairs_of
-  pairs_none n = rw (no_attribute m b at k t s n)
-
   module _ (e : kind_at b at ≡ 5) where
     a : AttributeNext m b at k t
     a = attribute_here m b at k t s e
-
-    pub pairs_room : at + 6 ≤ next_at b at
-    pairs_room = parts_room b at a.good
-
-    pub pairs_next : AttributesHere m b (next_at b at)
-    pairs_next = record { topics = k; tables = t; standing = a.next }
 
     pub pairs_turn : (p : ℕ) → p ≡ pair_count (byte_at b (at + 5)) → length (pairs_at b at) ≡ p + length (pairs_at b (next_at b at))
     pairs_turn p h = pairs_more m b at k t a (fields_of (byte_at b (at + 5))) p (record { fields = refl; pairs = h })

@@ -5,3 +5,4 @@ pub mod Types
 pub mod AtRecord
 pub mod Noting
 pub mod Counting
+pub mod Walking

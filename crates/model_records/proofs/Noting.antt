@@ -5,15 +5,17 @@ use mathlib.Core.Path.{◌≡◌, refl, sym, ap, ◌∙◌}
 use mathlib.Core.Bool.{Bool, true, false}
 use mathlib.Core.List.{List}
 use lib.Dec.{eqb}
-use lib.ListN.{length, set, length-set}
+use lib.ListN.{length, get_or, set, length-set}
 use lib.Seq.{get_or-set_same, get_or-set_other}
 use borrow.Author.Tests.{eqb-true, eqb-false}
 use Rattle.meaning.specs.Bytes.{choose}
 use Rattle.meaning.specs.Model.{Model, Table, table_at}
 use Rattle.model_records.specs.Records.{kind_at, next_at}
 use Rattle.model_records.specs.AtRecord.{AtRecord, RecordFits}
-use Rattle.model_records.specs.Places.{topic_place, table_place, topic_of, noted_by, RecordPassed, TopicRecord, TableRecord, RecordsNoted}
+use Rattle.model_records.specs.Places.{noted_by, RecordPassed, TopicRecord, TableRecord, RecordsNoted}
 use Rattle.model_records.specs.declared.places.RecordCursor.{RecordCursor}
+use Rattle.model_records.specs.declared.places.TablePlace.{TablePlace}
+use Rattle.model_records.specs.declared.places.Places.{Places}
 use Rattle.model_records.proofs.AtRecord.{here, topic_here, table_here, attribute_here}
 
 -- ## One record
@@ -39,42 +41,45 @@ module _ (m : Model) (b : List ℕ) (s : RecordCursor) (h : AtRecord m b s.at s.
 
 -- ## Noting
 
-module _ (m : Model) (b places : List ℕ) (k n : ℕ) (old : RecordsNoted m b places k n) where
-  pub noted_topic : (at : ℕ) → k < 64 → TopicRecord m b k at → RecordsNoted m b (set places k at) (k + 1) n
+module _ (m : Model) (b : List ℕ) (places : Places) (k n : ℕ) (old : RecordsNoted m b places k n) where
+  pub noted_topic : (at : ℕ) → k < 64 → TopicRecord m b k at
+      → RecordsNoted m b (record { topics = set places.topics k at; tables = places.tables }) (k + 1) n
   noted_topic at l q = record {
-    room = length-set places k at ∙ old.room;
+    topic_room = length-set places.topics k at ∙ old.topic_room;
+    table_room = old.table_room;
     topic = λ p a. topic p a (eqb p k) refl;
-    table = λ t a. rw (get_or-set_other places k (64 + t) at 0 (λ w. absurd (omega arith))) (old.table t a);
-    owner = λ t a. rw (get_or-set_other places k (576 + t) at 0 (λ w. absurd (omega arith))) (old.owner t a);
+    table = old.table;
+    owner = old.owner;
   }
     where
-      topic : (p : ℕ) → p < k + 1 → (x : Bool) → eqb p k ≡ x → TopicRecord m b p (topic_place (set places k at) p)
-      topic p a true e = let same : p ≡ k = eqb-true p k e in rw (same, get_or-set_same places k at 0 (omega (arith, old.room))) q
-      topic p a false e = let other : p ≡ k → ⊥ = eqb-false p k e in rw (get_or-set_other places k p at 0 other) (old.topic p (omega (arith, other)))
+      topic : (p : ℕ) → p < k + 1 → (x : Bool) → eqb p k ≡ x → TopicRecord m b p (get_or (set places.topics k at) p 0)
+      topic p a true e = let same : p ≡ k = eqb-true p k e in rw (same, get_or-set_same places.topics k at 0 (omega (arith, old.topic_room))) q
+      topic p a false e = let other : p ≡ k → ⊥ = eqb-false p k e in rw (get_or-set_other places.topics k p at 0 other) (old.topic p (omega (arith, other)))
 
-  pub noted_table : (at owner : ℕ) → k ≤ 64 → n < 512 → TableRecord m b n at → owner ≡ (table_at m.tables n).topic
-      → RecordsNoted m b (set (set places (64 + n) at) (576 + n) owner) k (n + 1)
-  noted_table at owner l f q o = record {
-    room = length-set (set places (64 + n) at) (576 + n) owner ∙ length-set places (64 + n) at ∙ old.room;
-    topic = λ p a. rw (get_or-set_other (set places (64 + n) at) (576 + n) p owner 0 (λ w. absurd (omega arith)), get_or-set_other places (64 + n) p at 0 (λ w. absurd (omega arith))) (old.topic p a);
-    table = λ t a. rw (get_or-set_other (set places (64 + n) at) (576 + n) (64 + t) owner 0 (λ w. absurd (omega arith))) (table t a (eqb t n) refl);
+  abbrev none : TablePlace
+  none = record { at = 0; topic = 0 }
+
+  pub noted_table : (entry : TablePlace) → n < 512 → TableRecord m b n entry.at → entry.topic ≡ (table_at m.tables n).topic
+      → RecordsNoted m b (record { topics = places.topics; tables = set places.tables n entry }) k (n + 1)
+  noted_table entry f q o = record {
+    topic_room = old.topic_room;
+    table_room = length-set places.tables n entry ∙ old.table_room;
+    topic = old.topic;
+    table = λ t a. table t a (eqb t n) refl;
     owner = λ t a. mine t a (eqb t n) refl;
   }
     where
-      table : (t : ℕ) → t < n + 1 → (x : Bool) → eqb t n ≡ x → TableRecord m b t (table_place (set places (64 + n) at) t)
-      table t a true e = let same : t ≡ n = eqb-true t n e in rw (same, get_or-set_same places (64 + n) at 0 (omega (arith, old.room))) q
+      table : (t : ℕ) → t < n + 1 → (x : Bool) → eqb t n ≡ x → TableRecord m b t (get_or (set places.tables n entry) t none).at
+      table t a true e = let same : t ≡ n = eqb-true t n e in rw (same, get_or-set_same places.tables n entry none (omega (arith, old.table_room))) q
       table t a false e =
           let other : t ≡ n → ⊥ = eqb-false t n e in
-          rw (get_or-set_other places (64 + n) (64 + t) at 0 (λ w. other (omega arith))) (old.table t (omega (arith, other)))
+          rw (get_or-set_other places.tables n t entry none other) (old.table t (omega (arith, other)))
 
-      mine : (t : ℕ) → t < n + 1 → (x : Bool) → eqb t n ≡ x → topic_of (set (set places (64 + n) at) (576 + n) owner) t ≡ (table_at m.tables t).topic
-      mine t a true e =
-          let same : t ≡ n = eqb-true t n e in
-          rw (same, get_or-set_same (set places (64 + n) at) (576 + n) owner 0 (omega (arith, old.room, length-set places (64 + n) at))) o
+      mine : (t : ℕ) → t < n + 1 → (x : Bool) → eqb t n ≡ x → (get_or (set places.tables n entry) t none).topic ≡ (table_at m.tables t).topic
+      mine t a true e = let same : t ≡ n = eqb-true t n e in rw (same, get_or-set_same places.tables n entry none (omega (arith, old.table_room))) o
       mine t a false e =
           let other : t ≡ n → ⊥ = eqb-false t n e in
-          rw (get_or-set_other (set places (64 + n) at) (576 + n) (576 + t) owner 0 (λ w. other (omega arith)), get_or-set_other places (64 + n) (576 + t) at 0 (λ w. absurd (omega arith)))
-          (old.owner t (omega (arith, other)))
+          rw (get_or-set_other places.tables n t entry none other) (old.owner t (omega (arith, other)))
 
 -- a topic's record, and a table's
 topic_record : (m : Model) (b : List ℕ) (at k t : ℕ) → AtRecord m b at k t → kind_at b at ≡ 3 → TopicRecord m b k at
@@ -106,7 +111,7 @@ module _ (m : Model) (b : List ℕ) (s : RecordCursor) (h : AtRecord m b s.at s.
   pub table_room_lem : kind_at b s.at ≡ 4 → (s.tables < 512) × (1 ≤ s.topics)
   table_room_lem e = let t = table_here m b _ _ _ h e in (omega (arith, t.inside), t.begun)
 
-  pub noted_on : (places : List ℕ) (r : RecordCursor) → RecordsNoted m b places s.topics s.tables → RecordPassed m b s r → RecordsNoted m b (noted_by (kind_at b s.at) s places) r.topics r.tables
+  pub noted_on : (places : Places) (r : RecordCursor) → RecordsNoted m b places s.topics s.tables → RecordPassed m b s r → RecordsNoted m b (noted_by (kind_at b s.at) s places) r.topics r.tables
   unfolding noted_by choose
   noted_on places r old p = go (eqb (kind_at b s.at) 3) refl (eqb (kind_at b s.at) 4) refl
     where
@@ -121,7 +126,7 @@ module _ (m : Model) (b : List ℕ) (s : RecordCursor) (h : AtRecord m b s.at s.
           let u : r.topics ≡ s.topics = rw k at p.topics in
           let v : r.tables ≡ s.tables + 1 = rw k at p.tables in
           rw (k, u, v)
-          (noted_table m b places s.topics s.tables old s.at (s.topics - 1) (omega (arith, h.topic_count)) (table_room_lem k).0 (table_record_lem m b _ _ _ h k) (owner_is m b _ _ _ h k))
+          (noted_table m b places s.topics s.tables old _ (table_room_lem k).0 (table_record_lem m b _ _ _ h k) (owner_is m b _ _ _ h k))
       go false e false f =
           let u : r.topics ≡ s.topics = rw e at p.topics in
           let v : r.tables ≡ s.tables = rw f at p.tables in

@@ -1,20 +1,18 @@
--- Two's complement: the machine's -1 - m. Assumes nothing.
-use Prim.Native.Nat.{ℕ, zero, suc, ◌<◌, ◌^◌}
-use mathlib.Core.Path.{◌≡◌, refl, ◌∙◌}
-use native.Mathlib.Nat.{zero-add}
-use lib.IntN.{pos, negsuc, ◌-ℤ◌}
+-- Two's complement, as the library's cast reads it. Assumes nothing.
+use Prim.Native.Nat.{ℕ, suc, ◌-◌, ◌^◌}
+use native.Mathlib.Omega.{arith}
+use mathlib.Core.Path.{◌≡◌, refl, ap}
+use mathlib.Core.Bool.{Bool, true, false}
+use lib.IntN.{pos, negsuc}
+use lib.Dec.{ltb}
 use mir.Syntax.{w64}
-use mir.Val.{SFits, to_z, of_z}
-use mir.ValLaws.{to_z-of_z, to_z_pos}
+use mir.Val.{to_z, sel}
+use Rattle.meaning.specs.Bytes.{choose, twos}
 
--- -1 - n is -(n + 1)
-pub below : (n : ℕ) → negsuc 0 -ℤ pos n ≡ negsuc n
-below zero = refl
-below (suc n) = rw zero-add
-
--- the machine's -1 - m of a small m
-pub below_fits : (m : ℕ) → m < 2 ^ 63 → SFits w64 (negsuc 0 -ℤ to_z w64 m)
-below_fits m h = rw (to_z_pos w64 m h, below m) (record { sfits = h })
-
-pub below_is : (m : ℕ) → m < 2 ^ 63 → to_z w64 (of_z w64 (negsuc 0 -ℤ to_z w64 m)) ≡ negsuc m
-below_is m h = to_z-of_z w64 _ (below_fits m h) ∙ rw (to_z_pos w64 m h) (below m)
+pub cast_twos : (n : ℕ) → to_z w64 n ≡ twos n
+unfolding choose
+cast_twos n = go (ltb n (2 ^ 63))
+  where
+    go : (t : Bool) → sel t (pos n) (negsuc (2 ^ 64 - suc n)) ≡ choose t (pos n) (negsuc (2 ^ 64 - 1 - n))
+    go true = refl
+    go false = ap negsuc (omega arith)

@@ -4,20 +4,22 @@ use native.Mathlib.Omega.{arith}
 use mathlib.Core.Path.{◌≡◌, refl, sym, ap, ◌∙◌}
 use mathlib.Core.Bool.{Bool, true, false, false≢true}
 use mathlib.Core.List.{List, [], ◌∷◌}
-use mathlib.Core.Logic.{◌⊎◌, inl, inr, ⊎_elim}
+use mathlib.Core.Logic.{◌⊎◌, ⊎_elim}
 use lib.Dec.{eqb}
-use lib.ListN.{length, take, drop, get_or, length-take, length-drop}
+use lib.ListN.{length, take, drop, length-take, length-drop}
 use lib.Seq.{get_or-take, get_or-drop, drop-drop}
-use borrow.Author.Tests.{leb-true, eq-eqb, ne_eqb, eqb-true, eqb-false}
+use borrow.Author.Tests.{leb-true, eqb-true}
 use Rattle.meaning.specs.Bytes.{choose, letter, byte_at, u16_at}
 use Rattle.meaning.specs.Model as meaning
+use Rattle.meaning.specs.Model.{AttributeType, attribute_of}
+use Rattle.model_records.specs.Components.{component_of, components_of}
+use Rattle.model_records.specs.declared.attributes.Components.{Components}
+use Rattle.model_records.specs.declared.attributes.Kind.{Kind}
+use Rattle.model_records.specs.declared.attributes.Kind.TheVariants as kind
 use Rattle.meaning.specs.Check.{is_name, is_type, is_dimension}
-use Rattle.model_records.specs.declared.Component.{Component}
-use Rattle.model_records.specs.Components.{component_of, components_of, list_of}
-use Rattle.model_records.specs.declared.Attribute.{Attribute}
-use Rattle.model_records.specs.ComponentsAre.{ComponentsAre}
+use Rattle.model_records.specs.declared.attributes.Attribute.{Attribute}
 use Rattle.model_records.specs.Records.{payload_at, next_at}
-use Rattle.model_records.specs.Attributes.{type_of, number_of, count_of, start_of, ParametersFit, PayloadAttribute, RecordAttribute}
+use Rattle.model_records.specs.Attributes.{of_kind, ParametersFit, PayloadAttribute, RecordAttribute}
 use Rattle.model_records.specs.AtRecord.{AttributeHere}
 use Rattle.meaning.proofs.Tests.Refuse.{holds}
 use Rattle.meaning.proofs.Lists.{drop-take}
@@ -79,16 +81,6 @@ module _ (b : List ℕ) (at : ℕ) (h : AttributeHere b at) where
   pub payload_at_lem : (next : ℕ) → next ≡ next_at b at → take (next - (at + 4)) (drop (at + 4) b) ≡ payload_at b at
   payload_at_lem next e = rw e (payload_part b at 0 (at + 4) (omega arith))
 
-dimension_is : (x : Bool) → is_dimension (choose x 3 2) ≡ true
-unfolding is_dimension choose
-dimension_is true = refl
-dimension_is false = refl
-
-dimension_most : (x : Bool) → choose x 3 2 ≤ 3
-unfolding choose
-dimension_most true = omega arith
-dimension_most false = omega arith
-
 module _ (q : List ℕ) where
   -- a number or a word is there
   pub word_size : (t : ℕ) → (t ≡ 1) ⊎ ((t ≡ 5) ⊎ (t ≡ 7)) → ParametersFit t q → 2 ≤ length q
@@ -99,96 +91,49 @@ module _ (q : List ℕ) where
   unfolding meaning.parameters_size choose
   line_size t e s = rw e at s.room
 
-  -- the components are there
-  pub components_fit : (t : ℕ) → ParametersFit t q → (start_of t + 17 * count_of t q ≤ length q) × (count_of t q ≤ 3)
-  unfolding meaning.parameters_size meaning.dimension_of count_of start_of choose
-  components_fit zero s = absurd (omega (arith, s.least))
-  components_fit (suc zero) s = (omega arith, omega arith)
-  components_fit (suc (suc zero)) s = (omega (arith, s.room), omega arith)
-  components_fit (suc (suc (suc zero))) s = (omega (arith, s.room), omega arith)
-  components_fit (suc (suc (suc (suc zero)))) s = (omega (arith, s.room), omega arith)
-  components_fit (suc (suc (suc (suc (suc zero))))) s = (omega arith, omega arith)
-  components_fit (suc (suc (suc (suc (suc (suc zero)))))) s = (omega arith, omega arith)
-  components_fit (suc (suc (suc (suc (suc (suc (suc zero))))))) s = (omega arith, omega arith)
-  components_fit (suc (suc (suc (suc (suc (suc (suc (suc zero)))))))) s = (s.room, dimension_most (eqb (byte_at q 1) 3))
-  components_fit (suc (suc (suc (suc (suc (suc (suc (suc (suc n))))))))) s = absurd (omega (arith, s.most))
+  -- three components or two, or one, are there
+  pub coordinate_size : (t : ℕ) → (2 ≤ t) × (t ≤ 3) → ParametersFit t q → 17 * t ≤ length q
+  unfolding meaning.parameters_size choose
+  coordinate_size zero e s = absurd (omega arith)
+  coordinate_size (suc zero) e s = absurd (omega arith)
+  coordinate_size (suc (suc zero)) e s = omega (arith, s.room)
+  coordinate_size (suc (suc (suc zero))) e s = omega (arith, s.room)
+  coordinate_size (suc (suc (suc (suc n)))) e s = absurd (omega arith)
 
--- the first of some components
-first_is : (cs : List Component) (d : Component) (c : meaning.Component) → list_of (take 1 cs) ≡ c ∷ [] → component_of (get_or cs 0 d) ≡ c
-unfolding list_of
-first_is [] d c e = absurd (nil-cons c [] e)
-first_is (x ∷ cs) d c e = cc
+  pub number_size : (t : ℕ) → t ≡ 4 → ParametersFit t q → 17 ≤ length q
+  unfolding meaning.parameters_size choose
+  number_size t e s = rw e at s.room
 
--- what is decoded means the type
-pub meant : (q : List ℕ) (t : ℕ) (a : Attribute) → a.kind ≡ t → a.number ≡ number_of t q → ComponentsAre (drop (start_of t) q) (count_of t q) a.components → ParametersFit t q
-    → type_of a ≡ meaning.type_of t q
-unfolding type_of meaning.type_of meaning.components_of number_of count_of start_of choose
-meant q zero a k n h s = absurd (omega (arith, s.least))
-meant q (suc zero) a k n h s = rw (k, n)
-meant q (suc (suc zero)) a k n h s = rw (k, h.meant)
-meant q (suc (suc (suc zero))) a k n h s = rw (k, h.meant)
-meant q (suc (suc (suc (suc zero)))) a k n h s = rw k (ap meaning.Number (first_is a.components.items _ (meaning.component_of q) (rw h.count at h.meant)))
-meant q (suc (suc (suc (suc (suc zero))))) a k n h s = rw (k, n)
-meant q (suc (suc (suc (suc (suc (suc zero)))))) a k n h s = rw k
-meant q (suc (suc (suc (suc (suc (suc (suc zero))))))) a k n h s = rw (k, n)
-meant q (suc (suc (suc (suc (suc (suc (suc (suc zero)))))))) a k n h s = rw (k, n, h.meant)
-meant q (suc (suc (suc (suc (suc (suc (suc (suc (suc n'))))))))) a k n h s = absurd (omega (arith, s.most))
+  pub coordinate_is : (t : ℕ) → (2 ≤ t) × (t ≤ 3) → meaning.Coordinate (meaning.components_of t q) ≡ meaning.type_of t q
+  unfolding meaning.type_of choose
+  coordinate_is zero e = absurd (omega arith)
+  coordinate_is (suc zero) e = absurd (omega arith)
+  coordinate_is (suc (suc zero)) e = refl
+  coordinate_is (suc (suc (suc zero))) e = refl
+  coordinate_is (suc (suc (suc (suc n)))) e = absurd (omega arith)
 
--- the attribute of a payload, from what is read of it
-pub payload_attribute : (p : List ℕ) (a : Attribute) → ParametersFit (byte_at p 1) (drop 2 p) → a.optional ≡ meaning.flag_of p → a.kind ≡ byte_at p 1
-    → a.number ≡ number_of (byte_at p 1) (drop 2 p) → ComponentsAre (drop (start_of (byte_at p 1)) (drop 2 p)) (count_of (byte_at p 1) (drop 2 p)) a.components
-    → PayloadAttribute p a
-payload_attribute p a s o k n c =
-    record { type = meant (drop 2 p) (byte_at p 1) a k n c s; optional = o; kind = k; room = c.room; count = c.count }
+  -- a line's count of components
+  pub dimension_is : meaning.dimension_of q ≡ choose (eqb (byte_at q 1) 3) 3 2
+  unfolding meaning.dimension_of
+  dimension_is = refl
+
+  pub dimension_fits : (2 ≤ choose (eqb (byte_at q 1) 3) 3 2) × (choose (eqb (byte_at q 1) 3) 3 2 ≤ 3)
+  unfolding choose
+  dimension_fits = of (eqb (byte_at q 1) 3)
+    where
+      of : (x : Bool) → (2 ≤ choose x 3 2) × (choose x 3 2 ≤ 3)
+      of true = (omega arith, omega arith)
+      of false = (omega arith, omega arith)
+
+  pub line_is : (n : ℕ) (cs : List meaning.Component) → n ≡ choose (eqb (byte_at q 1) 3) 3 2 → cs ≡ meaning.components_of n (drop 2 q)
+      → meaning.Line (byte_at q 0) cs ≡ meaning.type_of 8 q
+  unfolding meaning.type_of meaning.dimension_of choose
+  line_is n cs e c = rw (c, e)
 
 -- the attribute of a record, from that of its payload
 pub decoded : (b : List ℕ) (at : ℕ) (a : Attribute) → AttributeHere b at → PayloadAttribute (payload_at b at) a → RecordAttribute b at a
-unfolding meaning.attribute_of is_type count_of meaning.dimension_of choose
-decoded b at a h r =
-    let q : List ℕ = drop 2 (payload_at b at) in
-    let t : ℕ = byte_at (payload_at b at) 1 in
-    let s = sized b at h in
-    let k = r.kind in
-    record {
-      type = r.type;
-      optional = r.optional;
-      kind = k;
-      least = omega (arith, s.least);
-      most = omega (arith, s.most);
-      good = rw r.type (holds _ 3 h.type);
-      room = r.room;
-      two = λ f. rw (sym k ∙ f) at r.count;
-      three = λ f. rw (sym k ∙ f) at r.count;
-      single = λ f. rw (sym k ∙ f) at r.count;
-      line = λ f. rw (rw (sym k ∙ f) at r.count) (dimension_is (eqb (byte_at q 1) 3));
-      count = omega (arith, r.count, (components_fit q t s).1);
-    }
-
--- ## A type by its number
-
-pub coordinate_type : (a : Attribute) → 2 ≤ a.kind → a.kind ≤ 3 → type_of a ≡ meaning.Coordinate (components_of a.components)
-unfolding type_of choose
-coordinate_type a h g = go (eqb a.kind 2) refl
-  where
-    go : (two : Bool) → eqb a.kind 2 ≡ two → type_of a ≡ meaning.Coordinate (components_of a.components)
-    go true e = rw (ne_eqb a.kind 1 (λ x. omega arith), e)
-    go false e =
-        let n : a.kind ≡ 2 → ⊥ = eqb-false a.kind 2 e in
-        rw (ne_eqb a.kind 1 (λ x. omega arith), e, eq-eqb a.kind 3 (omega arith))
-
-pub line_type : (a : Attribute) → (a.kind ≡ 0) ⊎ (8 ≤ a.kind) → type_of a ≡ meaning.Line a.number (components_of a.components)
-unfolding type_of choose
-line_type a (inl z) = rw z
-line_type a (inr z) =
-    rw (
-      ne_eqb a.kind 1 (λ x. omega arith),
-      ne_eqb a.kind 2 (λ x. omega arith),
-      ne_eqb a.kind 3 (λ x. omega arith),
-      ne_eqb a.kind 4 (λ x. omega arith),
-      ne_eqb a.kind 5 (λ x. omega arith),
-      ne_eqb a.kind 6 (λ x. omega arith),
-      ne_eqb a.kind 7 (λ x. omega arith),
-    )
+unfolding meaning.attribute_of is_type
+decoded b at a h r = record { type = r.type; optional = r.optional; good = rw r.type (holds _ 3 h.type) }
 
 -- a line has two or three components
 pub few_components : (n : ℕ) → is_dimension n ≡ true → (2 ≤ n) × (n ≤ 3)
@@ -199,3 +144,36 @@ few_components n h = go (eqb n 2) refl (eqb n 3) refl
     go true e y f = (omega (arith, eqb-true n 2 e), omega (arith, eqb-true n 2 e))
     go false e true f = (omega (arith, eqb-true n 3 f), omega (arith, eqb-true n 3 f))
     go false e false f = absurd (false≢true (rw (e, f) at h))
+
+-- ## A line's type
+
+is_line : AttributeType → Bool
+is_line (meaning.Reference table) = false
+is_line (meaning.Coordinate cs) = false
+is_line (meaning.Number c) = false
+is_line (meaning.Text longest) = false
+is_line meaning.Date = false
+is_line (meaning.Enumeration leaves) = false
+is_line (meaning.Line forms cs) = true
+
+not_line : (t : AttributeType) (forms : ℕ) (cs : List meaning.Component) → is_line t ≡ false → t ≡ meaning.Line forms cs → ⊥
+unfolding is_line
+not_line t forms cs f e = false≢true (sym f ∙ ap is_line e)
+
+-- a type that is a line's is one by its constructor
+pub line_kind : (k : Kind) (forms : ℕ) (cs : List meaning.Component) → of_kind k ≡ meaning.Line forms cs
+    → ((g : ℕ) (ds : Components) → k ≡ kind.Line g ds → ⊥) → ⊥
+unfolding is_line
+line_kind (kind.Reference table) forms cs e n = not_line (meaning.Reference table) forms cs refl e
+line_kind (kind.Coordinate ds) forms cs e n = not_line (meaning.Coordinate (components_of ds)) forms cs refl e
+line_kind (kind.Number c) forms cs e n = not_line (meaning.Number (component_of c)) forms cs refl e
+line_kind (kind.Text longest) forms cs e n = not_line (meaning.Text longest) forms cs refl e
+line_kind kind.Date forms cs e n = not_line meaning.Date forms cs refl e
+line_kind (kind.Enumeration leaves) forms cs e n = not_line (meaning.Enumeration leaves) forms cs refl e
+line_kind (kind.Line g ds) forms cs e n = n g ds refl
+
+-- the type of an attribute record whose type's number is 8
+pub line_type : (b : List ℕ) (at : ℕ) → byte_at (payload_at b at) 1 ≡ 8
+    → (attribute_of at (payload_at b at)).type ≡ meaning.Line (byte_at (drop 2 (payload_at b at)) 0) (meaning.components_of (meaning.dimension_of (drop 2 (payload_at b at))) (drop 2 (drop 2 (payload_at b at))))
+unfolding attribute_of meaning.type_of choose
+line_type b at e = rw e refl

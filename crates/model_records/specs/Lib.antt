@@ -1,7 +1,7 @@
 pub mod Components
 pub mod Records
-pub mod ComponentsAre
 pub mod Attributes
 pub mod AtRecord
 pub mod Places
 pub mod Counts
+pub mod AttributeRecords

@@ -8,6 +8,9 @@ use Rattle.model_records.specs.Records.{kind_at, payload_at, next_at, model_at, 
 use Rattle.model_records.specs.AtRecord.{AtRecord}
 use Rattle.model_records.specs.declared.places.Shape.{Shape}
 use Rattle.model_records.specs.declared.places.RecordCursor.{RecordCursor}
+use Rattle.model_records.specs.declared.places.TablePlace.{TablePlace}
+use Rattle.model_records.specs.declared.places.Places.{Places}
+use Rattle.model_records.specs.declared.places.Records.{Records}
 
 -- ## The walk
 
@@ -18,26 +21,32 @@ pub record RecordPassed (m : Model) (b : List ℕ) (s r : RecordCursor) : Type 0
   pub topics : r.topics ≡ choose (eqb (kind_at b s.at) 3) (s.topics + 1) s.topics
   pub tables : r.tables ≡ choose (eqb (kind_at b s.at) 4) (s.tables + 1) s.tables
 
--- the places with the record of this kind at s noted: 64 for topics, 512 for tables, 512 for the topics of tables
-unfoldable pub noted_by : (kind : ℕ) → RecordCursor → (places : List ℕ) → List ℕ
+-- the places with the record of this kind at s noted
+unfoldable pub noted_by : (kind : ℕ) → RecordCursor → Places → Places
 noted_by kind s places =
-    choose (eqb kind 3) (set places s.topics s.at)
-    (choose (eqb kind 4) (set (set places (64 + s.tables) s.at) (576 + s.tables) (s.topics - 1))
+    choose (eqb kind 3) (record { topics = set places.topics s.topics s.at; tables = places.tables })
+    (choose (eqb kind 4) (record {
+      topics = places.topics;
+      tables = set places.tables s.tables (record { at = s.at; topic = s.topics - 1 });
+    })
     places)
 
 -- ## What is looked up
 
-abbrev pub topic_place : (places : List ℕ) (p : ℕ) → ℕ
-topic_place places p = get_or places p 0
+abbrev pub topic_place : Places → (p : ℕ) → ℕ
+topic_place places p = get_or places.topics p 0
 
-abbrev pub table_place : (places : List ℕ) (t : ℕ) → ℕ
-table_place places t = get_or places (64 + t) 0
+abbrev pub table_entry : Places → (t : ℕ) → TablePlace
+table_entry places t = get_or places.tables t (record { at = 0; topic = 0 })
 
-abbrev pub topic_of : (places : List ℕ) (t : ℕ) → ℕ
-topic_of places t = get_or places (576 + t) 0
+abbrev pub table_place : Places → (t : ℕ) → ℕ
+table_place places t = (table_entry places t).at
+
+abbrev pub topic_of : Places → (t : ℕ) → ℕ
+topic_of places t = (table_entry places t).topic
 
 -- the byte of the first attribute record of table t
-abbrev pub attributes_place : (b places : List ℕ) (t : ℕ) → ℕ
+abbrev pub attributes_place : (b : List ℕ) → Places → (t : ℕ) → ℕ
 attributes_place b places t = next_at b (table_place places t)
 
 -- ## What is noted
@@ -57,14 +66,15 @@ pub record TableRecord (m : Model) (b : List ℕ) (t at : ℕ) : Type 0 where
   pub standing : AtRecord m b (next_at b at) ((table_at m.tables t).topic + 1) (t + 1)
 
 -- of the first k topics and the first n tables
-pub record RecordsNoted (m : Model) (b places : List ℕ) (k n : ℕ) : Type 0 where
-  pub room : length places ≡ 1088
+pub record RecordsNoted (m : Model) (b : List ℕ) (places : Places) (k n : ℕ) : Type 0 where
+  pub topic_room : length places.topics ≡ 64
+  pub table_room : length places.tables ≡ 512
   pub topic : (p : ℕ) → p < k → TopicRecord m b p (topic_place places p)
   pub table : (t : ℕ) → t < n → TableRecord m b t (table_place places t)
   pub owner : (t : ℕ) → t < n → topic_of places t ≡ (table_at m.tables t).topic
 
 -- a good model's bytes, with its shape and its places
-pub record RecordsPlaced (b : List ℕ) (s : Shape) (places : List ℕ) : Type 0 where
+pub record RecordsPlaced (b : List ℕ) (s : Shape) (places : Places) : Type 0 where
   pub good : check_model b ≡ good (model_at b)
   pub topics : s.topics ≡ length (model_at b).topics
   pub tables : s.tables ≡ length (model_at b).tables
@@ -73,3 +83,7 @@ pub record RecordsPlaced (b : List ℕ) (s : Shape) (places : List ℕ) : Type 0
   pub undefined : s.undefined ≡ (model_at b).undefined
   pub mark : s.mark ≡ (model_at b).mark
   pub noted : RecordsNoted (model_at b) b places s.topics s.tables
+
+-- the records of a good model
+abbrev pub Placed : Records → Type 0
+Placed r = RecordsPlaced r.bytes.now r.shape r.places

@@ -4,7 +4,7 @@ ghost use Rattle.model_records.specs.Records.{model_at, pairs_at};
 ghost use Rattle.model_records.specs.AtRecord.{AttributesHere};
 ghost use Rattle.model_records.specs.Counts.{CountsOf};
 
-use crate::{ATTRIBUTE, COORDINATE_2, COORDINATE_3, LINE};
+use crate::LINE;
 
 // How many fields and pairs an attribute has, by its type's number.
 #[derive(Clone, Copy)]
@@ -18,11 +18,11 @@ pub fn count_of(kind: u8) -> Counts
     ensures { CountsOf kind result.fields result.pairs }
 {
     match kind {
-        COORDINATE_2 => Counts {
+        2 => Counts {
             fields: 2,
             pairs: 2,
         },
-        COORDINATE_3 => Counts {
+        3 => Counts {
             fields: 3,
             pairs: 3,
         },
@@ -43,12 +43,9 @@ pub fn count_pairs(model: &[u8], first: usize) -> usize
     ensures count { result ≡ length (pairs_at model.now first) }
     ensures few { first + result ≤ length model.now }
 {
-    let mut at = first;
     let mut pairs = 0;
-    while crate::kind_at(model, at) == ATTRIBUTE {
-        let counts = count_of(model[at + 5]);
-        pairs += counts.pairs;
-        at = crate::next_at(model, at);
+    for at in crate::attribute_records(model, first) {
+        pairs += count_of(model[at + 5]).pairs;
     }
     pairs
 }

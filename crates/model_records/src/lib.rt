@@ -1,19 +1,24 @@
 //! A good model's records: kinds, names, attributes with their type and components by value.
 #![tactic(auto)]
 
-ghost use Rattle.std.specs.Prelude.{◌≡◌, ◌+◌, ◌≤◌, length, drop, eqb, leb};
+ghost use Rattle.std.specs.Prelude.{◌≡◌, ◌+◌, ◌*◌, ◌≤◌, length, drop, eqb, leb};
 ghost use Rattle.meaning.specs.Bytes.{choose, byte_at};
 ghost use Rattle.meaning.specs.Model.{flag_of};
 ghost use Rattle.meaning.specs.Check.{good, check_model};
 ghost use Rattle.model_records.specs.Records.{kind_at, payload_at, next_at, model_at};
-ghost use Rattle.model_records.specs.ComponentsAre.{ComponentsAre};
-ghost use Rattle.model_records.specs.Attributes.{number_of, count_of, start_of, ParametersFit};
-ghost use Rattle.model_records.specs.Attributes.{PayloadAttribute, RecordAttribute};
+ghost use Rattle.meaning.specs.Model as meaning;
+ghost use Rattle.model_records.specs.Components.{components_of};
+ghost use Rattle.model_records.specs.Attributes.{of_kind, ParametersFit, PayloadAttribute, RecordAttribute, RecordLine};
 ghost use Rattle.model_records.specs.AtRecord.{AttributeHere};
 
+pub mod attributes;
 pub mod counts;
 pub mod numbers;
 pub mod places;
+pub mod records;
+
+pub use attributes::{Attribute, Component, Components, Kind, LineAttribute};
+pub use records::attribute_records;
 
 // The kinds of records.
 pub const TRANSFER: u16 = 1;
@@ -28,46 +33,10 @@ pub const ATTRIBUTE: u16 = 5;
 
 pub const END: u16 = 6;
 
-// The types of attributes; a coordinate has two or three components.
+// The types that a record's byte is tested for where its attribute is not decoded.
 pub const REFERENCE: u8 = 1;
 
-pub const COORDINATE_2: u8 = 2;
-
-pub const COORDINATE_3: u8 = 3;
-
-pub const NUMBER: u8 = 4;
-
-pub const TEXT: u8 = 5;
-
-pub const DATE: u8 = 6;
-
-pub const ENUMERATION: u8 = 7;
-
 pub const LINE: u8 = 8;
-
-// A component, and the components of an attribute, by value: a small array and its count.
-#[derive(Clone, Copy)]
-pub struct Component {
-    pub decimals: u8,
-    pub least: i64,
-    pub greatest: i64,
-}
-
-#[derive(Clone, Copy)]
-pub struct Components {
-    pub count: usize,
-    pub items: [Component; 3],
-}
-
-// An attribute: kind is its type's number, 1 to 8; number is a reference's table, a text's longest length, an
-// enumeration's leaves or a line's forms; a number has one component.
-#[derive(Clone, Copy)]
-pub struct Attribute {
-    pub optional: bool,
-    pub kind: u8,
-    pub number: usize,
-    pub components: Components,
-}
 
 // Whether a record at a byte fits the model: its four bytes, and its payload.
 pub fn fits_at(model: &[u8], at: usize) -> bool
@@ -142,46 +111,46 @@ pub fn read_dimension(b: u8) -> usize
     if b == 3 { 3 } else { 2 }
 }
 
-// The number among the parameters of a type by its number.
-fn read_number(parameters: &[u8], kind: u8) -> usize
-    requires { ParametersFit kind parameters.now }
-    ensures { result ≡ number_of kind parameters.now }
+// The components among the parameters: so many, from the first byte on.
+fn read_components(parameters: &[u8], count: usize) -> Components
+    requires count_bound { (2 ≤ count) × (count ≤ 3) }
+    requires in_bounds { 17 * count ≤ length parameters.now }
+    ensures { components_of result ≡ meaning.components_of count parameters.now }
 {
-    match kind {
-        REFERENCE | TEXT | ENUMERATION => numbers::u16_at(parameters, 0) as usize,
-        LINE => parameters[0] as usize,
-        _ => 0,
+    let first = numbers::read_component(parameters);
+    let second = numbers::read_component(&parameters[17..]);
+    let third = if count == 3 {
+        numbers::read_component(&parameters[34..])
+    } else {
+        Component {
+            decimals: 0,
+            least: 0,
+            greatest: 0,
+        }
+    };
+    Components {
+        count,
+        items: [first, second, third],
     }
 }
 
-fn count_components(parameters: &[u8], kind: u8) -> usize
-    requires { ParametersFit kind parameters.now }
-    ensures { result ≡ count_of kind parameters.now }
+// The type of this number, 1 to 8, with its parameters.
+fn read_kind(number: u8, parameters: &[u8]) -> Kind
+    requires { ParametersFit number parameters.now }
+    ensures { of_kind result ≡ meaning.type_of number parameters.now }
 {
-    match kind {
-        COORDINATE_2 => 2,
-        COORDINATE_3 => 3,
-        NUMBER => 1,
-        LINE => read_dimension(parameters[1]),
-        _ => 0,
+    match number {
+        1 => Kind::Reference(numbers::u16_at(parameters, 0) as usize),
+        2..=3 => Kind::Coordinate(read_components(parameters, number as usize)),
+        4 => Kind::Number(numbers::read_component(parameters)),
+        5 => Kind::Text(numbers::u16_at(parameters, 0) as usize),
+        6 => Kind::Date,
+        7 => Kind::Enumeration(numbers::u16_at(parameters, 0) as usize),
+        _ => Kind::Line(
+            parameters[0] as usize,
+            read_components(&parameters[2..], read_dimension(parameters[1])),
+        ),
     }
-}
-
-fn skip_forms(kind: u8) -> usize
-    ensures { result ≡ start_of kind }
-{
-    if kind == LINE { 2 } else { 0 }
-}
-
-// The components among the parameters.
-fn read_dimensions(parameters: &[u8], kind: u8) -> Components
-    requires { ParametersFit kind parameters.now }
-    ensures { let q = parameters.now in
-        ComponentsAre (drop (start_of kind) q) (count_of kind q) result }
-{
-    let count = count_components(parameters, kind);
-    let start = skip_forms(kind);
-    numbers::read_components(&parameters[start..], count)
 }
 
 // The attribute of a payload whose type is one of 1 to 8 and whose parameters are all there.
@@ -190,14 +159,9 @@ pub fn attribute_of(payload: &[u8]) -> Attribute
     requires parameters_fit { ParametersFit (byte_at payload.now 1) (drop 2 payload.now) }
     ensures { PayloadAttribute payload.now result }
 {
-    let kind = payload[1];
-    let number = read_number(&payload[2..], kind);
-    let components = read_dimensions(&payload[2..], kind);
     Attribute {
         optional: payload[0] == 1,
-        kind,
-        number,
-        components,
+        kind: read_kind(payload[1], &payload[2..]),
     }
 }
 
@@ -208,4 +172,21 @@ pub fn attribute_at(model: &[u8], at: usize) -> Attribute
 {
     let next = next_at(model, at);
     attribute_of(&model[at + 4..next])
+}
+
+// The line attribute of the record at a byte.
+pub fn line_at(model: &[u8], at: usize) -> LineAttribute
+    requires attribute { AttributeHere model.now at }
+    requires line { byte_at (payload_at model.now at) 1 ≡ 8 }
+    ensures { RecordLine model.now at result }
+{
+    let attribute = attribute_at(model, at);
+    let Kind::Line(forms, components) = attribute.kind else {
+        unreachable!();
+    };
+    LineAttribute {
+        optional: attribute.optional,
+        forms,
+        components,
+    }
 }

@@ -10,9 +10,8 @@ use borrow.Author.Tests.{lt-ltb, le-ltb}
 use Rattle.meaning.specs.Bytes.{refuse}
 use Rattle.meaning.specs.Reading.{Rooms}
 use Rattle.meaning.specs.Table.{Result, refused_with}
-use Rattle.read_text.specs.Outcomes.{TableRead, MarksRead}
-use Rattle.read_text.specs.declared.Answer.{Answer}
-use Rattle.read_text.specs.declared.Answer.TheVariants.{Accepted, Refused}
+use Rattle.std.proofs.Common.{Ok, Err}
+use Rattle.read_text.specs.Outcomes.{Answer, TableRead, MarksRead}
 
 drop_same : {A : Type 0} (z : A) (k n : ℕ) → n ≤ k → drop n (replicate k z) ≡ replicate (k - n) z
 drop_same z k zero h = ap (λ (j : ℕ). replicate j z) (let e : k ≡ k - 0 = omega arith in e)
@@ -32,9 +31,14 @@ module _ (rooms : Rooms) (n : ℕ) (r : Result) where
   pub marks_read : (k : ℕ) → k ≡ n → (text lent marks rows : List ℕ) (cells points : List ℤ) (a : Answer) → marks ≡ replicate rooms.marks 0 → k ≤ rooms.marks → length lent ≡ k
       → TableRead r rooms text lent rows cells points a
       → MarksRead (refuse (ltb rooms.marks n) (refused_with rooms 6 0 0) r) rooms text (lent ++ drop k marks) rows cells points a
-  marks_read k e text lent marks rows cells points (Accepted o c p) z h l t = record {
+  marks_read k e text lent marks rows cells points (Ok u) z h l t = record {
     delivered = lent;
     is = enough_marks (omega arith) ∙ t;
     marks_are = ap (λ (ks : List ℕ). lent ++ ks) (ap (drop k) z ∙ drop_same 0 rooms.marks k h ∙ ap (λ (j : ℕ). replicate (rooms.marks - j) 0) (sym l));
   }
-  marks_read k e text lent marks rows cells points (Refused number first second) z h l t = enough_marks (omega arith) ∙ t
+  marks_read k e text lent marks rows cells points (Err f) z h l t = enough_marks (omega arith) ∙ t
+
+-- what stands in the buffers of a bundle stands in those it was made of
+pub moved : (r : Result) (rooms : Rooms) (text marks rows : List ℕ) (cells points : List ℤ) (a : Answer) → TableRead r rooms text marks rows cells points a
+    → (marks' rows' : List ℕ) (cells' points' : List ℤ) → marks' ≡ marks → rows' ≡ rows → cells' ≡ cells → points' ≡ points → TableRead r rooms text marks' rows' cells' points' a
+moved r rooms text marks rows cells points a h marks' rows' cells' points' l o c p = rw (l, o, c, p) h

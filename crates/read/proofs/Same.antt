@@ -1,25 +1,31 @@
 -- Two outcomes of a call coincide. Assumes nothing.
-use Prim.Native.Nat.{ℕ}
 use mathlib.Core.Path.{◌≡◌, sym, ◌∙◌}
-use native.Mathlib.Omega.{arith}
 use lib.ListN.{length}
 use borrow.Fn.Kinds.{Dens, ended_of}
 use contract.Lifetimes.{Lfts}
 use denote.Triple.Clauses.{AtExit}
 use Rattle.meaning.specs.Reading.{rooms_of}
-use Rattle.read_text.specs.Outcomes.{answer_of}
+use Rattle.std.proofs.Common.{Ok, Err}
+use Rattle.base.proofs.Numbered.{same_reason}
+use Rattle.read_text.specs.Outcomes.{Answer, answer_of}
 use Rattle.read.specs.Same.{Outcome, Allowed, OutcomesCoincide, SameTable, CallsCoincide}
-use Rattle.read_text.specs.declared.Answer.{Answer}
-use Rattle.read_text.specs.declared.Answer.TheVariants.{Accepted, Refused}
 use Rattle.read.proofs.read.Kinds as kinds
 use Rattle.read.proofs.read.Reads as reads
 
 -- an answer is told by its numbers
 one_answer : (a b : Answer) → answer_of a ≡ answer_of b → a ≡ b
-one_answer (Accepted o c p) (Accepted o' c' p') e = let x : o ≡ o' = cc in let y : c ≡ c' = cc in let z : p ≡ p' = cc in rw (x, y, z)
-one_answer (Accepted o c p) (Refused n f s) e = let z : ◌≡◌ {A = ℕ} 0 1 = cc in absurd (omega arith)
-one_answer (Refused n f s) (Accepted o c p) e = let z : ◌≡◌ {A = ℕ} 0 1 = cc in absurd (omega arith)
-one_answer (Refused n f s) (Refused n' f' s') e = let x : n ≡ n' = cc in let y : f ≡ f' = cc in let z : s ≡ s' = cc in rw (x, y, z)
+one_answer (Ok u) (Ok v) e =
+    let objects : u.objects ≡ v.objects = cc in
+    let cells : u.cells ≡ v.cells = cc in
+    let points : u.points ≡ v.points = cc in
+    rw (objects, cells, points)
+one_answer (Ok u) (Err f) e = cc
+one_answer (Err f) (Ok u) e = cc
+one_answer (Err f) (Err g) e =
+    let reason : f.reason ≡ g.reason = same_reason f.reason g.reason cc in
+    let first : f.first ≡ g.first = cc in
+    let second : f.second ≡ g.second = cc in
+    rw (reason, first, second)
 
 pub calls_coincide : CallsCoincide
 calls_coincide model file rooms words words' o p a b = record {

@@ -19,31 +19,25 @@ use Rattle.meaning.specs.Lines.{read_lines}
 use Rattle.meaning.specs.Table.{Result, refused_with, read_run, read_text, read_unfolded}
 use Rattle.meaning.proofs.Unfolding.Cuts.{unfolds_cut}
 use Rattle.read_text.specs.Text.{lines_of}
+use Rattle.std.proofs.Common.{Ok, Err}
+use Rattle.read_text.specs.Outcomes as reader
 use Rattle.read_text.specs.Outcomes.{MarksRead, ReadInto}
-use Rattle.read_text.specs.declared.Answer as reader
-use Rattle.read_text.specs.declared.Answer.TheVariants.{Accepted, Refused}
 use Rattle.read_text.proofs.TextLines.{lines_back}
 
 module _ (m : Model) (rooms : Rooms) where
-  -- 3 to 5
-  pub fault_read : (u : Unfolded) (number line : ℕ) → refusal number line 0 ≡ (text_unfolded rooms.text u).answer → number ≤ 5 → read_unfolded m rooms u ≡ refused_with rooms number line 0
-  unfolding text_unfolded read_unfolded refuse
-  fault_read (fault k n) number line e h = let a : k ≡ number = cc in let b : n ≡ line = cc in rw (a, b)
-  fault_read (lines ls) number line e h = go (ltb rooms.text (length (unfolded_text ls))) refl
+  -- 3 to 6
+  pub refused_read : (u : Unfolded) (number line : ℕ) → refusal number line 0 ≡ (text_unfolded rooms.text u).answer → read_unfolded m rooms u ≡ refused_with rooms number line 0
+  unfolding text_unfolded read_unfolded read_text refuse
+  refused_read (fault k n) number line e = let a : k ≡ number = cc in let b : n ≡ line = cc in rw (a, b)
+  refused_read (lines ls) number line e = go (ltb rooms.text (length (unfolded_text ls))) refl
     where
       go : (t : Bool) → ltb rooms.text (length (unfolded_text ls)) ≡ t → read_text m rooms ls ≡ refused_with rooms number line 0
-      go true q = let g : refusal number line 0 ≡ refusal 6 0 0 = rw q at e in let a : number ≡ 6 = cc in absurd (omega arith)
+      go true q =
+          let g : refusal 6 0 0 ≡ refusal number line 0 = sym (rw q at e) in
+          let a : 6 ≡ number = cc in
+          let b : 0 ≡ line = cc in
+          rw (q, a, b)
       go false q = let g : refusal number line 0 ≡ accepted (length (unfolded_text ls)) 0 0 = rw q at e in let z : ◌≡◌ {A = ℕ} 0 1 = cc in absurd (omega arith)
-
-  -- 6, for the text
-  pub full_read : (u : Unfolded) → refusal 6 0 0 ≡ (text_unfolded rooms.text u).answer → read_unfolded m rooms u ≡ refused_with rooms 6 0 0
-  unfolding text_unfolded read_unfolded read_text refuse
-  full_read (fault k n) e = let a : k ≡ 6 = cc in let b : n ≡ 0 = cc in rw (a, b)
-  full_read (lines ls) e = go (ltb rooms.text (length (unfolded_text ls))) refl
-    where
-      go : (t : Bool) → ltb rooms.text (length (unfolded_text ls)) ≡ t → read_text m rooms ls ≡ refused_with rooms 6 0 0
-      go true q = rw q
-      go false q = let g : refusal 6 0 0 ≡ accepted (length (unfolded_text ls)) 0 0 = rw q at e in let z : ◌≡◌ {A = ℕ} 0 1 = cc in absurd (omega arith)
 
 -- the unfolded text stands in the room
 pub record Stands (size : ℕ) (u : Unfolded) (used : ℕ) (room : List ℕ) : Type 0 where
@@ -64,8 +58,8 @@ stands size (lines ls) used room e r = go (ltb size (length (unfolded_text ls)))
         let g : accepted used 0 0 ≡ accepted (length (unfolded_text ls)) 0 0 = rw q at e in
         record { logical = ls; is = refl; used_is = cc; fits = ltb-false size (length (unfolded_text ls)) q; room_is = rw q at r }
 
-pub stands_in : (size : ℕ) (u : Unfolded) (used : ℕ) (room : List ℕ) → Stands size u used room → used ≤ size
-stands_in size u used room s = omega (arith, s.used_is, s.fits)
+pub stands_in : (size : ℕ) (u : Unfolded) (used : ℕ) → accepted used 0 0 ≡ (text_unfolded size u).answer → used ≤ size
+stands_in size u used e = let s = stands size u used _ e refl in omega (arith, s.used_is, s.fits)
 
 module _ (m : Model) (rooms : Rooms) where
   -- the text's own lines are those that were unfolded
@@ -75,8 +69,8 @@ module _ (m : Model) (rooms : Rooms) where
   text_result ls h f = rw (le-ltb rooms.text (length (unfolded_text ls)) f, lines_back ls h)
 
   unfinished : (q : Result) (used room marks rows : List ℕ) (cells points : List ℤ) (a : reader.Answer) → room ≡ filled 0 rooms.text used → MarksRead q rooms used marks rows cells points a → ReadInto q rooms room marks rows cells points a
-  unfinished q used room marks rows cells points (Accepted o c p) e h = record { used = used; is = h; text_is = e }
-  unfinished q used room marks rows cells points (Refused number first second) e h = h
+  unfinished q used room marks rows cells points (Ok u) e h = record { used = used; is = h; text_is = e }
+  unfinished q used room marks rows cells points (Err f) e h = h
 
   -- the exact text stands before the zeros behind it
   pub text_read : Mark m.mark → (file : List ℕ) (used : ℕ) (room marks rows : List ℕ) (cells points : List ℤ) (a : reader.Answer) → Stands rooms.text (unfold_file m.mark file) used room

@@ -3,8 +3,7 @@
 use Rattle.std.specs.Prelude.{ℕ, ◌≡◌, List, ℤ, replicate}
 use Rattle.meaning.specs.Reading.{Rooms}
 use Rattle.meaning.specs.Table.{read}
-use Rattle.read_text.specs.Outcomes.{answer_of}
-use Rattle.read_text.specs.declared.Answer.{Answer}
+use Rattle.read_text.specs.Outcomes.{Answer, answer_of}
 
 -- the outcome of a call: its answer, and what each lent buffer then holds
 pub record Outcome : Type 0 where

@@ -6,15 +6,17 @@ use mathlib.Core.Path.{◌≡◌, refl, ap, ◌∙◌}
 use mathlib.Core.List.{List, [], ◌∷◌, ◌++◌}
 use lib.IntN.{ℤ}
 use lib.ListN.{length, take, drop, get_or, length-drop}
-use Rattle.meaning.specs.Bytes.{choose}
 use Rattle.meaning.specs.Model as meaning
 use Rattle.meaning.specs.Field.{Field}
 use Rattle.meaning.specs.Row.{Pair, Cells, refused, component_pairs, has_mandatory}
-use Rattle.model_records.specs.declared.Component.{Component}
+use Rattle.model_records.specs.declared.attributes.Component.{Component}
 use Rattle.model_records.specs.Components.{list_of}
-use Rattle.read_fields.specs.RowProgress.{prefixed, covered, type_asked, further_asked, left, going, going_over, covering, due, RowFilled, Fills}
+use Rattle.read_fields.specs.RowProgress.{prefixed, covered, further_asked, left, going, going_over, covering, due, RowFilled, Fills}
 use Rattle.read_fields.specs.declared.filling.RowCursor.{RowCursor}
-use Rattle.read_fields.specs.declared.filling.RowProgress.TheVariants.{On, RestUndefined, No}
+use Rattle.read_fields.specs.declared.filling.RowProgress.TheVariants.{On, RestUndefined}
+use Rattle.std.proofs.Common.{Ok, Err}
+use Rattle.base.specs.declared.reasons.Refusal.{Refusal}
+use Rattle.base.specs.Reasons.{number_of}
 use Rattle.read_fields.proofs.Pairs.{further}
 use Rattle.read_fields.proofs.RowFilled.{both, renamed, before, refuses}
 use Rattle.model_records.proofs.ComponentLaws.{listed_next, listed_end}
@@ -56,17 +58,17 @@ module _ (u start : ℕ) (rest : List ℕ) (count : ℕ) (items : List Component
 
   component_due : (t : RowCursor) (ps : List Pair)
       → from_component u start rest count items i t ps ≡ due u start rest (further_asked t.before (get_or items i d)) t (component_pairs (drop (i + 1) (list_of (take count items))) ++ ps)
-  unfolding component_pairs type_asked choose
+  unfolding component_pairs
   component_due t ps = rw (listed_next items i count d h g) (further u t.before t.place _ _ _)
 
   module _ {most : ℕ} {whole : List Pair → Cells} {s t : RowCursor} {entry cells : List ℤ} (now : RowFilled rest most whole (from_component u start rest count items i t) s t entry cells) (exit : List ℤ) where
-    pub component_on : (v : RowCursor) → Fills u start rest 2 (due u start rest (further_asked t.before (get_or items i d)) t) t cells exit (On v)
+    pub component_on : (v : RowCursor) → Fills u start rest 2 (due u start rest (further_asked t.before (get_or items i d)) t) t cells exit (Ok (On v))
         → RowFilled rest (most + 2) whole (from_component u start rest count items (i + 1) v) s v entry exit
     component_on v step =
         both now (renamed (from_component u start rest count items i t) (from_component u start rest count items (i + 1) v) (component_due t) (λ ps. refl)
         (before (λ ps. component_pairs (drop (i + 1) (list_of (take count items))) ++ ps) step))
 
-    pub component_rest : (v : RowCursor) (n : ℕ) → Fills u start rest 2 (due u start rest (further_asked t.before (get_or items i d)) t) t cells exit (RestUndefined v n)
+    pub component_rest : (v : RowCursor) (n : ℕ) → Fills u start rest 2 (due u start rest (further_asked t.before (get_or items i d)) t) t cells exit (Ok (RestUndefined v n))
         → RowFilled rest (most + 2) whole (covering start rest v (n + (count - 1 - i))) s v entry exit
     component_rest v n step =
         let e : length (drop (i + 1) (list_of (take count items))) ≡ count - 1 - i = length-drop (i + 1) (list_of (take count items)) ∙ rw (length_listed items count g) (omega arith) in
@@ -74,9 +76,9 @@ module _ (u start : ℕ) (rest : List ℕ) (count : ℕ) (items : List Component
         (λ ps. covered_over v.place n (drop (i + 1) (list_of (take count items))) ps (left start rest v) ∙ rw e)
         (before (λ ps. component_pairs (drop (i + 1) (list_of (take count items))) ++ ps) step.1))
 
-    pub component_no : (k f : ℕ) → Fills u start rest 2 (due u start rest (further_asked t.before (get_or items i d)) t) t cells exit (No k f) → (ps : List Pair) → whole ps ≡ refused k f
+    pub component_no : (r : Refusal) → Fills u start rest 2 (due u start rest (further_asked t.before (get_or items i d)) t) t cells exit (Err r) → (ps : List Pair) → whole ps ≡ refused (number_of r.reason) r.field
     unfolding prefixed
-    component_no k f step ps = refuses (refused k f) (λ qs. component_due t qs ∙ step (component_pairs (drop (i + 1) (list_of (take count items))) ++ qs)) (λ vs. refl) now ps
+    component_no r step ps = refuses (refused (number_of r.reason) r.field) (λ qs. component_due t qs ∙ step (component_pairs (drop (i + 1) (list_of (take count items))) ++ qs)) (λ vs. refl) now ps
 
 -- behind the last component
 pub components_end : (u start : ℕ) (rest : List ℕ) (count : ℕ) (items : List Component) (i most : ℕ) {whole : List Pair → Cells} {s t : RowCursor} {entry exit : List ℤ} → count ≤ i

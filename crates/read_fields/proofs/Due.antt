@@ -1,5 +1,5 @@
 -- A field that is due, as the next field of the rest of a line: what each of its cases means for the row. Assumes nothing.
-use Prim.Native.Nat.{ℕ, ◌+◌, ◌-◌, ◌≤◌, ◌<◌, ◌^◌}
+use Prim.Native.Nat.{ℕ, ◌+◌, ◌-◌, ◌≤◌, ◌<◌}
 use native.Mathlib.Omega.{arith}
 use mathlib.Core.Path.{◌≡◌, refl, sym, ◌∙◌, subst}
 use mathlib.Core.Bool.{Bool, true, false}
@@ -10,18 +10,21 @@ use lib.Seq.{sets, drop-drop}
 use Rattle.meaning.specs.Field.{fields_of}
 use Rattle.meaning.specs.Value.{value_of, is_undefined, is_undefined_twice}
 use Rattle.meaning.specs.Row.{Pair, refused}
-use Rattle.model_records.specs.Components.{component_of}
 use Rattle.base.specs.Fields.{FirstField}
 use Rattle.base.proofs.Fill.{to_end}
 use Rattle.value_read.specs.Meant.{field_of}
-use Rattle.read_fields.specs.FieldForm.{FieldTaken, TwiceTaken, Takes}
-use Rattle.read_fields.specs.declared.taking.FieldForm.{FieldForm}
-use Rattle.read_fields.specs.RowProgress.{type_asked, moved, filled, due, CursorReady, Puts, Fills}
+use Rattle.std.proofs.Common.{Option, Ok, Err}
+use Rattle.base.specs.declared.reasons.Refusal.{Refusal}
+use Rattle.base.specs.Reasons.{number_of}
+use Rattle.read_fields.specs.FieldForm.{FieldTaken, TwiceTaken, TakenAs, Takes}
+use Rattle.read_fields.specs.declared.taking.Form.{Form}
+use Rattle.read_fields.specs.declared.taking.Form.TheVariants.{Defined, Undefined, Twice}
+use Rattle.read_fields.specs.declared.taking.Taken.{Taken}
+use Rattle.model_records.specs.Attributes.{of_kind}
+use Rattle.read_fields.specs.RowProgress.{forbids, moved, filled, due, CursorReady, Puts, Fills}
 use Rattle.read_fields.specs.declared.filling.RowCursor.{RowCursor}
 use Rattle.read_fields.specs.declared.filling.FieldRule.{FieldRule}
-use Rattle.read_fields.specs.declared.filling.RowProgress.{RowProgress}
-use Rattle.read_fields.specs.declared.filling.RowProgress.TheVariants.{On, RestUndefined, No}
-use Rattle.read_fields.proofs.Stores.{part_most}
+use Rattle.read_fields.specs.declared.filling.RowProgress.TheVariants.{On, RestUndefined}
 use Rattle.read_fields.proofs.Pairs.{prefixed_none, due_missing, due_covered, due_covered_needed, due_undefined, due_undefined_needed, due_forbidden, due_wrong, due_defined}
 
 -- the fields that are left begin with the field found in the rest
@@ -37,32 +40,12 @@ pub next_within : (at from len : ℕ) (rest : List ℕ) → at ≤ length rest �
 next_within at from len rest h f = (omega (arith, f.within, length-drop at rest), omega (arith, f.some))
 
 -- what was taken from the bytes behind a place, in its case
-pub taken : (u : ℕ) (rest : List ℕ) (at : ℕ) {r t : FieldForm} → r ≡ t → Takes u (take (length rest - at) (drop at rest)) r → Takes u (drop at rest) t
+pub taken : (u : ℕ) (rest : List ℕ) (at : ℕ) {r t : Option Taken} → r ≡ t → Takes u (take (length rest - at) (drop at rest)) r → Takes u (drop at rest) t
 taken u rest at {r = r} e f = subst (Takes u (drop at rest)) e (subst (λ (l : List ℕ). Takes u l r) (to_end rest at) f)
 
--- the field found behind a place lies in the rest, and there is room for its numbers
-pub record Found (start : ℕ) (rest : List ℕ) (s : RowCursor) (from len : ℕ) : Type 0 where
-  pub within : s.at + from + len ≤ length rest
-  pub begins : s.at + from < 2 ^ 64
-  pub ends : s.at + from + len < 2 ^ 64
-  pub lies : start + (s.at + from) < 2 ^ 64
-  pub holds : start + (s.at + from) + (1 + length (take (s.at + from + len - (s.at + from)) (drop (s.at + from) rest))) < 2 ^ 63
-  pub next : s.place + 1 < 2 ^ 64
-  pub pair : s.used + 2 < 2 ^ 64
-
-pub found : (start : ℕ) (rest : List ℕ) (s : RowCursor) (from len : ℕ) → CursorReady start rest 2 s → FirstField (drop s.at rest) from len → Found start rest s from len
-found start rest s from len ready f =
-    let w = next_within s.at from len rest ready.within f in
-    let n = part_most (s.at + from) len (drop (s.at + from) rest) in
-    record {
-      within = w.0;
-      begins = omega arith;
-      ends = omega arith;
-      lies = omega arith;
-      holds = omega arith;
-      next = omega arith;
-      pair = ready.room;
-    }
+-- the same, by the form of the field
+pub formed : (u : ℕ) (rest : List ℕ) (at len : ℕ) {form x : Form} → form ≡ x → TakenAs u rest at len form → TakenAs u rest at len x
+formed u rest at len e f = subst (TakenAs u rest at len) e f
 
 module _ (u start : ℕ) (rest : List ℕ) (asked : FieldRule) (s : RowCursor) (ready : CursorReady start rest 2 s) where
   pub missing : ((n : ℕ) → fields_of n (drop s.at rest) ≡ []) → (ps : List Pair) → due u start rest asked s ps ≡ refused 11 s.place
@@ -72,11 +55,11 @@ module _ (u start : ℕ) (rest : List ℕ) (asked : FieldRule) (s : RowCursor) (
     twice_at : TwiceTaken u (drop s.at rest) from len → (n : ℕ) → is_undefined_twice u (field_of n (take len (drop (s.at + from) rest))) ≡ true
     twice_at f n = rw (drop-drop from s.at rest) at (f.twice n)
 
-    pub twice_needed : asked.needed ≡ true → TwiceTaken u (drop s.at rest) from len → (ps : List Pair) → due u start rest asked s ps ≡ refused 12 s.place
+    twice_needed : asked.needed ≡ true → TwiceTaken u (drop s.at rest) from len → (ps : List Pair) → due u start rest asked s ps ≡ refused 12 s.place
     twice_needed e f ps = rw (e, next_left start s.at from len rest f.first) (due_covered_needed u s.place _ ps _ _ asked.forbidden (twice_at f _))
 
     pub twice_covers : (l : List ℤ) → asked.needed ≡ false → TwiceTaken u (drop s.at rest) from len
-        → Fills u start rest 2 (due u start rest asked s) s l l (RestUndefined (moved s (s.at + from + len)) 1)
+        → Fills u start rest 2 (due u start rest asked s) s l l (Ok (RestUndefined (moved s (s.at + from + len)) 1))
     twice_covers l e f =
         let w = next_within s.at from len rest ready.within f.first in (
           omega arith,
@@ -98,14 +81,14 @@ module _ (u start : ℕ) (rest : List ℕ) (asked : FieldRule) (s : RowCursor) (
       which : (n : ℕ) → is_undefined u (field_of n (take len (drop (s.at + from) rest))) ≡ undefined
       which n = rw (drop-drop from s.at rest) at (f.single n)
 
-      pub undefined_needed : undefined ≡ true → asked.needed ≡ true → (ps : List Pair) → due u start rest asked s ps ≡ refused 12 s.place
+      undefined_needed : undefined ≡ true → asked.needed ≡ true → (ps : List Pair) → due u start rest asked s ps ≡ refused 12 s.place
       undefined_needed d e ps = rw (e, next_left start s.at from len rest f.first) (due_undefined_needed u s.place _ ps _ _ asked.forbidden (once _) (which _ ∙ d))
 
-      pub defined_forbidden : undefined ≡ false → asked.forbidden ≡ true → (ps : List Pair) → due u start rest asked s ps ≡ refused 12 s.place
+      defined_forbidden : undefined ≡ false → asked.forbidden ≡ true → (ps : List Pair) → due u start rest asked s ps ≡ refused 12 s.place
       defined_forbidden d e ps = rw (e, next_left start s.at from len rest f.first) (due_forbidden u s.place _ ps _ _ asked.needed (once _) (which _ ∙ d))
 
       pub undefined_filled : undefined ≡ true → asked.needed ≡ false → (entry exit : List ℤ) → exit ≡ sets entry s.used (pos 0 ∷ pos 0 ∷ [])
-          → Fills u start rest 2 (due u start rest asked s) s entry exit (On (filled (moved s (s.at + from + len)) false))
+          → Fills u start rest 2 (due u start rest asked s) s entry exit (Ok (On (filled (moved s (s.at + from + len)) false)))
       undefined_filled d e entry exit x =
           let w = next_within s.at from len rest ready.within f.first in
           record {
@@ -118,20 +101,30 @@ module _ (u start : ℕ) (rest : List ℕ) (asked : FieldRule) (s : RowCursor) (
             placed = omega (arith, ready.placed, w.1);
           }
 
-      pub defined_filled : undefined ≡ false → asked.forbidden ≡ false → (entry exit : List ℤ) (r : RowProgress)
-          → Puts (value_of (type_asked asked.kind asked.number (component_of asked.component)) (field_of (start + (s.at + from)) (take len (drop (s.at + from) rest)))) (moved s (s.at + from + len)) entry exit r
-          → Fills u start rest 2 (due u start rest asked s) s entry exit r
-      defined_filled d e entry exit (On t) p =
-          let w = next_within s.at from len rest ready.within f.first in
-          rw p.state (record {
-            values = p.first ∷ p.second ∷ [];
-            meant = λ ps. rw (e, next_left start s.at from len rest f.first) (due_defined u s.place _ ps _ _ asked.needed p.first p.second (once _) (which _ ∙ d) p.value);
-            used = refl;
-            stored = p.stored;
-            few = omega arith;
-            within = w.0;
-            placed = omega (arith, ready.placed, w.1);
-          })
-      defined_filled d e entry exit (RestUndefined t n) p = absurd p
-      defined_filled d e entry exit (No k g) p =
-          λ ps. rw (p.1, e, next_left start s.at from len rest f.first) (due_wrong u s.place _ ps _ _ asked.needed k (once _) (which _ ∙ d) p.0)
+      module _ (d : undefined ≡ false) (e : asked.forbidden ≡ false) (entry exit : List ℤ) where
+        pub defined_filled : (t : RowCursor)
+            → Puts (value_of (of_kind asked.kind) (field_of (start + (s.at + from)) (take len (drop (s.at + from) rest)))) (moved s (s.at + from + len)) entry exit (Ok t)
+            → Fills u start rest 2 (due u start rest asked s) s entry exit (Ok (On t))
+        defined_filled t p =
+            let w = next_within s.at from len rest ready.within f.first in
+            rw p.state (record {
+              values = p.first ∷ p.second ∷ [];
+              meant = λ ps. rw (e, next_left start s.at from len rest f.first) (due_defined u s.place _ ps _ _ asked.needed p.first p.second (once _) (which _ ∙ d) p.value);
+              used = refl;
+              stored = p.stored;
+              few = omega arith;
+              within = w.0;
+              placed = omega (arith, ready.placed, w.1);
+            })
+
+        pub defined_wrong : (r : Refusal)
+            → Puts (value_of (of_kind asked.kind) (field_of (start + (s.at + from)) (take len (drop (s.at + from) rest)))) (moved s (s.at + from + len)) entry exit (Err r)
+            → Fills u start rest 2 (due u start rest asked s) s entry exit (Err r)
+        defined_wrong r p =
+            λ ps. rw (p.1, e, next_left start s.at from len rest f.first) (due_wrong u s.place _ ps _ _ asked.needed (number_of r.reason) (once _) (which _ ∙ d) p.0)
+
+    -- a field against what it has to be
+    pub form_wrong : (form : Form) → TakenAs u (drop s.at rest) from len form → forbids asked form ≡ true → (ps : List Pair) → due u start rest asked s ps ≡ refused 12 s.place
+    form_wrong Defined f e = defined_forbidden false f refl e
+    form_wrong Undefined f e = undefined_needed true f refl e
+    form_wrong Twice f e = twice_needed e f

@@ -2,11 +2,10 @@
 use Prim.Native.Nat.{ℕ, zero, suc, ◌+◌, ◌*◌, ◌-◌, ◌≤◌}
 use native.Mathlib.Nat.{zero-add, add-zero, add-suc, suc-add}
 use native.Mathlib.Omega.{arith}
-use native.Mathlib.Numerals.{add-one}
 use mathlib.Core.Path.{◌≡◌, refl, sym, ap, ◌∙◌}
 use mathlib.Core.List.{List, [], ◌∷◌, ◌++◌}
 use lib.IntN.{ℤ, pos}
-use lib.ListN.{length, set, take, length-take}
+use lib.ListN.{length, set}
 use lib.Seq.{sets, length-sets}
 use Rattle.read_fields.specs.RowProgress.{zeros}
 
@@ -50,9 +49,3 @@ same_sets l x vs i e = ap length e ∙ length-sets l i vs
 
 pub part_size : (at len : ℕ) → at + len - at ≡ len
 part_size at len = omega arith
-
-pub pair_stored : {A : Type 0} (l m x : List A) (at : ℕ) (a b : A) → m ≡ set l at a → x ≡ set m (at + 1) b → x ≡ sets l at (a ∷ b ∷ [])
-pair_stored l m x at a b e g = g ∙ rw (e, add-one at)
-
-pub part_most : (at len : ℕ) (l : List ℕ) → length (take (at + len - at) l) ≤ len
-part_most at len l = rw (part_size at len, length-take len l) (omega arith)

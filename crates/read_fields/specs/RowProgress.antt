@@ -2,22 +2,26 @@
 -- Short names as in the meaning: u the undefined byte, place the number of a field on its line, fs the fields from that
 -- place on, ps the pairs that are left.
 use Rattle.std.specs.Prelude.{ℕ, zero, suc, ◌+◌, ◌≤◌, ◌<◌, ◌^◌, Bool, true, false, not, ◌&&◌, ◌||◌, ◌≡◌, List, []}
-use Rattle.std.specs.Prelude.{◌∷◌, ◌++◌, eqb, ℤ, pos, length, drop}
+use Rattle.std.specs.Prelude.{◌∷◌, ◌++◌, Result, Ok, Err, ℤ, pos, length, drop}
 use Rattle.std.proofs.lemmas.List.Edits.{sets}
+use Rattle.base.specs.declared.reasons.Refusal.{Refusal}
+use Rattle.base.specs.Reasons.{number_of}
 use Rattle.meaning.specs.Bytes.{choose, refuse}
-use Rattle.meaning.specs.Model.{Component, AttributeType, Reference, Number, Text, Date, Enumeration, Line}
+use Rattle.meaning.specs.Model.{AttributeType}
 use Rattle.meaning.specs.Field.{Field, fields_of}
 use Rattle.meaning.specs.Value.{Value, pair, wrong, value_of, is_undefined, is_undefined_twice}
-use Rattle.meaning.specs.Row.{Pair, OfAttribute, Cells, cells, refused, put_pair, undefined_pair, has_mandatory}
+use Rattle.meaning.specs.Row.{Pair, Cells, cells, refused, put_pair, undefined_pair, has_mandatory}
 use Rattle.meaning.specs.Row.{pair_cells}
-use Rattle.model_records.specs.declared.Component as declared
-use Rattle.model_records.specs.Components.{component_of}
-use Rattle.model_records.specs.declared.Attribute.{Attribute}
-use Rattle.model_records.specs.Attributes.{first_of}
+use Rattle.model_records.specs.declared.attributes.Component.{Component}
+use Rattle.model_records.specs.declared.attributes.Kind.{Kind}
+use Rattle.model_records.specs.declared.attributes.Kind.TheVariants as kind
+use Rattle.model_records.specs.Attributes.{of_kind}
+use Rattle.read_fields.specs.declared.taking.Form.{Form}
+use Rattle.read_fields.specs.declared.taking.Form.TheVariants.{Defined, Undefined, Twice}
 use Rattle.read_fields.specs.declared.filling.RowCursor.{RowCursor}
 use Rattle.read_fields.specs.declared.filling.FieldRule.{FieldRule}
 use Rattle.read_fields.specs.declared.filling.RowProgress.{RowProgress}
-use Rattle.read_fields.specs.declared.filling.RowProgress.TheVariants.{On, RestUndefined, No}
+use Rattle.read_fields.specs.declared.filling.RowProgress.TheVariants.{On, RestUndefined}
 
 -- the cells of so many undefined pairs
 unfoldable pub zeros : ℕ → List ℤ
@@ -37,15 +41,11 @@ covered_cells place count (f ∷ fs) = refused 11 (place + 1)
 unfoldable pub covered : (place count : ℕ) → List Pair → List Field → Cells
 covered place count ps fs = refuse (has_mandatory ps) (refused 12 place) (covered_cells place (count + length ps) fs)
 
--- the type of a field by its attribute's number; every number without a field is taken for a line
-unfoldable pub type_asked : (kind number : ℕ) → Component → AttributeType
-type_asked kind number c =
-    choose (eqb kind 1) (Reference number)
-    (choose (eqb kind 4) (Number c)
-    (choose (eqb kind 5) (Text number)
-    (choose (eqb kind 6) Date
-    (choose (eqb kind 7) (Enumeration number)
-    (Line number [])))))
+-- whether a field of this form is against what a field has to be
+abbrev pub forbids : FieldRule → Form → Bool
+forbids asked Defined = asked.forbidden
+forbids asked Undefined = asked.needed
+forbids asked Twice = asked.needed
 
 -- a defined field's value, or the undefined pair
 unfoldable pub defined_or : Bool → Value → Value
@@ -77,29 +77,12 @@ abbrev pub passed : RowCursor → RowCursor
 passed s = record { at = s.at; place = s.place; used = s.used + 2; before = s.before }
 
 -- what a further component has to be
-abbrev pub further_asked : Bool → declared.Component → FieldRule
-further_asked before c = record { needed = before; forbidden = not before; kind = 4; number = 0; component = c }
+abbrev pub further_asked : Bool → Component → FieldRule
+further_asked before c = record { needed = before; forbidden = not before; kind = kind.Number c }
 
 -- what an attribute's own field has to be, and a coordinate's first component
-abbrev pub own_asked : Bool → ℕ → ℕ → declared.Component → FieldRule
-own_asked optional kind number c = record {
-  needed = not optional;
-  forbidden = false;
-  kind = kind;
-  number = number;
-  component = c;
-}
-
--- the pair of an attribute with one field of its own
-abbrev pub own_pairs : Attribute → List Pair
-own_pairs a = OfAttribute a.optional (type_asked a.kind a.number (component_of (first_of a.components.items)))
-    ∷ []
-
--- an attribute has the components of its type
-pub record ComponentsCounted (a : Attribute) : Type 0 where
-  pub room : length a.components.items ≡ 3
-  pub most : a.components.count ≤ 3
-  pub least : 2 ≤ a.kind → a.kind ≤ 3 → 1 ≤ a.components.count
+abbrev pub own_asked : Bool → Kind → FieldRule
+own_asked optional k = record { needed = not optional; forbidden = false; kind = k }
 
 -- the fields that are left
 abbrev pub left : (start : ℕ) → List ℕ → RowCursor → List Field
@@ -143,20 +126,20 @@ pub record PutsPair (v : Value) (s t : RowCursor) (entry exit : List ℤ) : Type
   pub state : t ≡ filled s true
   pub stored : exit ≡ sets entry s.used (first ∷ second ∷ [])
 
-abbrev pub Puts : Value → RowCursor → (entry exit : List ℤ) → RowProgress → Type 0
-Puts v s entry exit (On t) = PutsPair v s t entry exit
-Puts v s entry exit (RestUndefined t count) = ⊥
-Puts v s entry exit (No k f) = (v ≡ wrong k) × (f ≡ s.place)
+abbrev pub Puts : Value → RowCursor → (entry exit : List ℤ) → Result RowCursor Refusal → Type 0
+Puts v s entry exit (Ok t) = PutsPair v s t entry exit
+Puts v s entry exit (Err r) = (v ≡ wrong (number_of r.reason)) × (r.field ≡ s.place)
 
 -- what the rest of the row means where a field is due
 abbrev pub due : (u start : ℕ) → List ℕ → FieldRule → RowCursor → List Pair → Cells
 due u start rest asked s ps =
     due_cells u asked.needed asked.forbidden s.place
-    (type_asked asked.kind asked.number (component_of asked.component)) ps (left start rest s)
+    (of_kind asked.kind) ps (left start rest s)
 
 abbrev pub Fills : (u start : ℕ) (rest : List ℕ) (most : ℕ) (whole : List Pair → Cells) (s : RowCursor)
-    (entry exit : List ℤ) → RowProgress → Type 0
-Fills u start rest most whole s entry exit (On t) = RowFilled rest most whole (going u start rest t) s t entry exit
-Fills u start rest most whole s entry exit (RestUndefined t count) = (t.used + (count + count) ≤ s.used + most)
+    (entry exit : List ℤ) → Result RowProgress Refusal → Type 0
+Fills u start rest most whole s entry exit (Ok (On t)) =
+    RowFilled rest most whole (going u start rest t) s t entry exit
+Fills u start rest most whole s entry exit (Ok (RestUndefined t count)) = (t.used + (count + count) ≤ s.used + most)
     × RowFilled rest most whole (covering start rest t count) s t entry exit
-Fills u start rest most whole s entry exit (No k f) = (ps : List Pair) → whole ps ≡ refused k f
+Fills u start rest most whole s entry exit (Err r) = (ps : List Pair) → whole ps ≡ refused (number_of r.reason) r.field

@@ -4,19 +4,17 @@ ghost use Rattle.std.proofs.lemmas.List.Edits.{sets};
 ghost use Rattle.meaning.specs.Value.{value_of};
 ghost use Rattle.meaning.specs.Model.{Coordinate};
 ghost use Rattle.meaning.specs.Row.{component_pairs, pairs_of_type};
-ghost use Rattle.model_records.specs.Attributes.{type_of};
-ghost use Rattle.model_records.specs.Components.{component_of, components_of};
+ghost use Rattle.model_records.specs.Attributes.{of_kind, type_of};
+ghost use Rattle.model_records.specs.Components.{components_of};
 ghost use Rattle.value_read.specs.Meant.{value_meant, field_of};
-ghost use Rattle.read_fields.specs.RowProgress.{type_asked, due, moved, filled, passed, further_asked, own_asked};
-ghost use Rattle.read_fields.specs.RowProgress.{own_pairs, going_over, ComponentsCounted, CursorReady, Puts, Fills};
+ghost use Rattle.read_fields.specs.RowProgress.{forbids, due, moved, filled, passed, further_asked};
+ghost use Rattle.read_fields.specs.RowProgress.{own_asked, going_over, CursorReady};
+ghost use Rattle.read_fields.specs.RowProgress.{Puts, Fills};
 
-use crate::taking::FieldForm;
+use crate::taking::Form;
 use crate::{storing, taking};
-use model_records::{
-    Attribute, COORDINATE_2, COORDINATE_3, Component, Components, DATE, ENUMERATION, NUMBER,
-    REFERENCE, TEXT,
-};
-use value_read::Value;
+use base::reasons::{Reason, Refusal};
+use model_records::{Attribute, Component, Components, Kind};
 
 // How far a row is filled: the byte of the rest of the line, the place of the next field, the cells used, and whether
 // the field before was defined.
@@ -33,34 +31,39 @@ pub struct RowCursor {
 pub struct FieldRule {
     pub needed: bool,
     pub forbidden: bool,
-    pub kind: u8,
-    pub number: usize,
-    pub component: Component,
+    pub kind: Kind,
 }
 
-// The row goes on; two undefined bytes stood at the place, with so many pairs of the attribute left; or a refusal and
-// its field.
+impl FieldRule {
+    fn forbids(self, form: Form) -> bool
+        ensures { result ≡ forbids self form }
+    {
+        match form {
+            Form::Defined => self.forbidden,
+            Form::Undefined | Form::Twice => self.needed,
+        }
+    }
+}
+
+// The row goes on; or two undefined bytes stood at the place, with so many pairs of the attribute left.
 #[derive(Clone, Copy)]
 pub enum RowProgress {
     On(RowCursor),
     RestUndefined(RowCursor, usize),
-    No(u8, usize),
 }
 
-// The value of a defined field, by the number of its type: coordinates come component by component, and lines have no
-// field.
-fn read_value(kind: u8, number: usize, component: Component, field: &[u8], start: usize) -> Value
+// The value of a defined field, by its type: coordinates come component by component, and lines have no field.
+fn read_value(kind: Kind, field: &[u8], start: usize) -> Result<(i64, i64), Reason>
     requires { start + (1 + length field.now) < 2 ^ 63 }
-    ensures { value_meant result
-        ≡ value_of (type_asked kind number (component_of component)) (field_of start field.now) }
+    ensures { value_meant result ≡ value_of (of_kind kind) (field_of start field.now) }
 {
     match kind {
-        REFERENCE => value_read::stretches::read_reference(field, start),
-        NUMBER => value_read::numbers::read_number(field, component),
-        TEXT => value_read::stretches::read_text(field, start, number),
-        DATE => value_read::dates::read_date(field),
-        ENUMERATION => value_read::dates::read_enumeration(field, number as u64),
-        _ => Value::Wrong(13),
+        Kind::Reference(_) => value_read::stretches::read_reference(field, start),
+        Kind::Number(component) => value_read::numbers::read_number(field, component),
+        Kind::Text(longest) => value_read::stretches::read_text(field, start, longest),
+        Kind::Date => value_read::dates::read_date(field),
+        Kind::Enumeration(leaves) => value_read::dates::read_enumeration(field, leaves as u64),
+        Kind::Coordinate(_) | Kind::Line(_, _) => Err(Reason::WrongShape),
     }
 }
 
@@ -70,62 +73,44 @@ fn behind(cursor: RowCursor, at: usize) -> RowCursor
 {
     RowCursor {
         at,
-        place: cursor.place,
-        used: cursor.used,
         before: false,
+        ..cursor
     }
 }
 
-// An undefined field's pair, at a state behind it: "Undefined is 0 0".
-fn put_undefined(cells: &mut [i64], cursor: RowCursor) -> RowProgress
+// A field's pair, at a state behind the field.
+fn put_next(cells: &mut [i64], cursor: RowCursor, a: i64, b: i64, defined: bool) -> RowCursor
     requires { (cursor.place + 1 < 2 ^ 64) × (cursor.used + 2 < 2 ^ 64) }
-    ensures answer { result ≡ RowProgress.On (filled cursor false) }
-    ensures stored { cells.new ≡ sets cells.old cursor.used (pos 0 ∷ pos 0 ∷ []) }
+    ensures cursor { result ≡ filled cursor defined }
+    ensures stored { cells.new ≡ sets cells.old cursor.used (a ∷ b ∷ []) }
 {
-    storing::put_pair(cells, cursor.used, 0, 0);
-    RowProgress::On(RowCursor {
-        at: cursor.at,
+    storing::put_pair(cells, cursor.used, a, b);
+    RowCursor {
         place: cursor.place + 1,
         used: cursor.used + 2,
-        before: false,
-    })
-}
-
-// A value's two cells, at a state behind its field; or its refusal.
-fn put_value(value: Value, cells: &mut [i64], cursor: RowCursor) -> RowProgress
-    requires { (cursor.place + 1 < 2 ^ 64) × (cursor.used + 2 < 2 ^ 64) }
-    ensures { Puts (value_meant value) cursor cells.old cells.new result }
-{
-    match value {
-        Value::Pair(a, b) => {
-            storing::put_pair(cells, cursor.used, a, b);
-            RowProgress::On(RowCursor {
-                at: cursor.at,
-                place: cursor.place + 1,
-                used: cursor.used + 2,
-                before: true,
-            })
-        }
-        Value::Wrong(k) => RowProgress::No(k, cursor.place),
+        before: defined,
+        ..cursor
     }
 }
 
-// A defined field, at a state behind it.
+// A defined field, at a state behind it: its value's two cells, or its refusal.
 fn put_defined(
     asked: FieldRule,
     field: &[u8],
     start: usize,
     cells: &mut [i64],
     cursor: RowCursor,
-) -> RowProgress
+) -> Result<RowCursor, Refusal>
     requires field_bound { start + (1 + length field.now) < 2 ^ 63 }
     requires place_bound { (cursor.place + 1 < 2 ^ 64) × (cursor.used + 2 < 2 ^ 64) }
-    ensures { Puts (value_of (type_asked asked.kind asked.number (component_of asked.component))
-        (field_of start field.now)) cursor cells.old cells.new result }
+    ensures { Puts (value_of (of_kind asked.kind) (field_of start field.now)) cursor
+        cells.old cells.new result }
 {
-    let component = asked.component;
-    let v = read_value(asked.kind, asked.number, component, field, start);
-    put_value(v, cells, cursor)
+    let (a, b) = read_value(asked.kind, field, start).map_err(|reason| Refusal {
+        reason,
+        field: cursor.place,
+    })?;
+    Ok(put_next(cells, cursor, a, b, true))
 }
 
 // A field that is due, and its pair.
@@ -136,50 +121,45 @@ fn put_field(
     undefined: u8,
     cells: &mut [i64],
     cursor: RowCursor,
-) -> RowProgress
+) -> Result<RowProgress, Refusal>
     requires { CursorReady start rest.now 2 cursor }
     ensures { Fills undefined start rest.now 2 (due undefined start rest.now asked cursor) cursor
         cells.old cells.new result }
 {
-    let at = cursor.at;
-    match taking::take_field(&rest[at..], undefined) {
-        FieldForm::Missing => RowProgress::No(11, cursor.place),
-        FieldForm::Defined(from, len) => {
-            if asked.forbidden {
-                return RowProgress::No(12, cursor.place);
-            }
-            let a = at + from;
-            let e = a + len;
-            put_defined(asked, &rest[a..e], start + a, cells, behind(cursor, e))
+    let taken = taking::take_field(&rest[cursor.at..], undefined).ok_or(Refusal {
+        reason: Reason::FieldCount,
+        field: cursor.place,
+    })?;
+    if asked.forbids(taken.form) {
+        return Err(Refusal {
+            reason: Reason::UndefinedField,
+            field: cursor.place,
+        });
+    }
+    let a = cursor.at + taken.part.start;
+    let e = a + taken.part.len;
+    match taken.form {
+        Form::Defined => {
+            let t = put_defined(asked, &rest[a..e], start + a, cells, behind(cursor, e))?;
+            Ok(RowProgress::On(t))
         }
-        FieldForm::Undefined(from, len) => {
-            if asked.needed {
-                return RowProgress::No(12, cursor.place);
-            }
-            put_undefined(cells, behind(cursor, at + from + len))
-        }
-        FieldForm::Twice(from, len) => {
-            if asked.needed {
-                return RowProgress::No(12, cursor.place);
-            }
-            RowProgress::RestUndefined(behind(cursor, at + from + len), 1)
-        }
+        // "Undefined is 0 0"
+        Form::Undefined => Ok(RowProgress::On(put_next(cells, behind(cursor, e), 0, 0, false))),
+        Form::Twice => Ok(RowProgress::RestUndefined(behind(cursor, e), 1)),
     }
 }
 
 // A line attribute's pair: it has no field here, lines of its own follow.
-fn put_line(cells: &mut [i64], cursor: RowCursor) -> RowProgress
+fn put_line(cells: &mut [i64], cursor: RowCursor) -> RowCursor
     requires { cursor.used + 2 < 2 ^ 64 }
-    ensures answer { result ≡ RowProgress.On (passed cursor) }
+    ensures cursor { result ≡ passed cursor }
     ensures stored { cells.new ≡ sets cells.old cursor.used (pos 0 ∷ pos 0 ∷ []) }
 {
     storing::put_pair(cells, cursor.used, 0, 0);
-    RowProgress::On(RowCursor {
-        at: cursor.at,
-        place: cursor.place,
+    RowCursor {
         used: cursor.used + 2,
-        before: cursor.before,
-    })
+        ..cursor
+    }
 }
 
 // A further component must be defined where the one before is, and undefined where that one is.
@@ -189,9 +169,7 @@ fn ask_further(before: bool, component: Component) -> FieldRule
     FieldRule {
         needed: before,
         forbidden: !before,
-        kind: 4,
-        number: 0,
-        component,
+        kind: Kind::Number(component),
     }
 }
 
@@ -203,9 +181,8 @@ fn put_further(
     undefined: u8,
     cells: &mut [i64],
     cursor: RowCursor,
-) -> RowProgress
-    requires count_bound { (components.count ≤ 3) × (length components.items ≡ 3) }
-    requires cursor_ready { CursorReady start rest.now 4 cursor }
+) -> Result<RowProgress, Refusal>
+    requires { CursorReady start rest.now 4 cursor }
     ensures { Fills undefined start rest.now 4
         (going_over undefined start rest.now (component_pairs (drop 1 (components_of components))) cursor)
         cursor cells.old cells.new result }
@@ -213,41 +190,26 @@ fn put_further(
     let count = components.count;
     let items = components.items;
     let mut t = cursor;
-    let mut i = 1;
-    while i < count {
-        match put_field(
-            ask_further(t.before, items[i]),
-            rest,
-            start,
-            undefined,
-            cells,
-            t,
-        ) {
-            RowProgress::On(v) => {
-                t = v;
-            }
+    for i in 1..count {
+        let asked = ask_further(t.before, items[i]);
+        match put_field(asked, rest, start, undefined, cells, t)? {
+            RowProgress::On(v) => t = v,
             RowProgress::RestUndefined(v, left) => {
-                return RowProgress::RestUndefined(v, left + (count - 1 - i));
-            }
-            RowProgress::No(k, f) => {
-                return RowProgress::No(k, f);
+                return Ok(RowProgress::RestUndefined(v, left + (count - 1 - i)));
             }
         }
-        i += 1;
     }
-    RowProgress::On(t)
+    Ok(RowProgress::On(t))
 }
 
 // An attribute's own field, and a coordinate's first component, must be defined where the attribute is mandatory.
-fn ask_own(optional: bool, kind: u8, number: usize, component: Component) -> FieldRule
-    ensures { result ≡ own_asked optional kind number component }
+fn ask_own(optional: bool, kind: Kind) -> FieldRule
+    ensures { result ≡ own_asked optional kind }
 {
     FieldRule {
         needed: !optional,
         forbidden: false,
         kind,
-        number,
-        component,
     }
 }
 
@@ -260,60 +222,21 @@ fn put_coordinate(
     undefined: u8,
     cells: &mut [i64],
     cursor: RowCursor,
-) -> RowProgress
-    requires le_count { (1 ≤ components.count) × (components.count ≤ 3) × (length components.items ≡ 3) }
-    requires cursor_ready { CursorReady start rest.now 6 cursor }
+) -> Result<RowProgress, Refusal>
+    requires { CursorReady start rest.now 6 cursor }
     ensures { Fills undefined start rest.now 6
         (going_over undefined start rest.now
         (pairs_of_type optional (Coordinate (components_of components))) cursor)
         cursor cells.old cells.new result }
 {
     let count = components.count;
-    let items = components.items;
-    match put_field(
-        ask_own(optional, 4, 0, items[0]),
-        rest,
-        start,
-        undefined,
-        cells,
-        cursor,
-    ) {
+    let asked = ask_own(optional, Kind::Number(components.items[0]));
+    match put_field(asked, rest, start, undefined, cells, cursor)? {
         RowProgress::On(t) => put_further(components, rest, start, undefined, cells, t),
-        RowProgress::RestUndefined(t, left) => RowProgress::RestUndefined(t, left + (count - 1)),
-        RowProgress::No(k, f) => RowProgress::No(k, f),
+        RowProgress::RestUndefined(t, left) => {
+            Ok(RowProgress::RestUndefined(t, left + (count - 1)))
+        }
     }
-}
-
-// An attribute with one field of its own.
-fn put_own(
-    attribute: Attribute,
-    rest: &[u8],
-    start: usize,
-    undefined: u8,
-    cells: &mut [i64],
-    cursor: RowCursor,
-) -> RowProgress
-    requires components_len { length attribute.components.items ≡ 3 }
-    requires cursor_ready { CursorReady start rest.now 6 cursor }
-    ensures { Fills undefined start rest.now 2
-        (going_over undefined start rest.now (own_pairs attribute) cursor)
-        cursor cells.old cells.new result }
-{
-    let components = attribute.components;
-    let items = components.items;
-    put_field(
-        ask_own(
-            attribute.optional,
-            attribute.kind,
-            attribute.number,
-            items[0],
-        ),
-        rest,
-        start,
-        undefined,
-        cells,
-        cursor,
-    )
 }
 
 // An attribute by its type.
@@ -324,26 +247,21 @@ pub fn put_attribute(
     undefined: u8,
     cells: &mut [i64],
     cursor: RowCursor,
-) -> RowProgress
-    requires components_counted { ComponentsCounted attribute }
-    requires cursor_ready { CursorReady start rest.now 6 cursor }
+) -> Result<RowProgress, Refusal>
+    requires { CursorReady start rest.now 6 cursor }
     ensures { Fills undefined start rest.now 6
         (going_over undefined start rest.now (pairs_of_type attribute.optional (type_of attribute)) cursor)
         cursor cells.old cells.new result }
 {
-    let kind = attribute.kind;
-    let components = attribute.components;
-    match kind {
-        COORDINATE_2..=COORDINATE_3 => put_coordinate(
-            attribute.optional,
-            components,
-            rest,
-            start,
-            undefined,
-            cells,
-            cursor,
-        ),
-        REFERENCE..=ENUMERATION => put_own(attribute, rest, start, undefined, cells, cursor),
-        _ => put_line(cells, cursor),
+    let optional = attribute.optional;
+    match attribute.kind {
+        Kind::Coordinate(components) => {
+            put_coordinate(optional, components, rest, start, undefined, cells, cursor)
+        }
+        Kind::Line(_, _) => Ok(RowProgress::On(put_line(cells, cursor))),
+        _ => {
+            let asked = ask_own(optional, attribute.kind);
+            put_field(asked, rest, start, undefined, cells, cursor)
+        }
     }
 }

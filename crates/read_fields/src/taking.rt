@@ -1,32 +1,41 @@
 // A field in its turn.
-ghost use Rattle.read_fields.specs.FieldForm.{Takes};
+ghost use Rattle.read_fields.specs.FieldForm.{HasForm, Takes};
 
-use base::fields::Next;
+use base::parts::Part;
+use value_read::stretches;
 
-// No field is left; or where the next one starts in the rest, and how long it is: a defined one, the undefined byte, or
-// two of them.
+// What a field is: defined, the undefined byte, or two of them.
 #[derive(Clone, Copy)]
-pub enum FieldForm {
-    Missing,
-    Defined(usize, usize),
-    Undefined(usize, usize),
-    Twice(usize, usize),
+pub enum Form {
+    Defined,
+    Undefined,
+    Twice,
 }
 
-pub fn take_field(rest: &[u8], undefined: u8) -> FieldForm
+// The next field, by its place in the rest, and what it is.
+#[derive(Clone, Copy)]
+pub struct Taken {
+    pub part: Part,
+    pub form: Form,
+}
+
+fn form_of(field: &[u8], undefined: u8) -> Form
+    ensures { HasForm undefined field.now result }
+{
+    if stretches::is_undefined_twice(undefined, field) {
+        Form::Twice
+    } else if stretches::is_undefined(undefined, field) {
+        Form::Undefined
+    } else {
+        Form::Defined
+    }
+}
+
+pub fn take_field(rest: &[u8], undefined: u8) -> Option<Taken>
     ensures { Takes undefined rest.now result }
 {
-    match base::fields::next_field(rest) {
-        Next::Field { start, len } => {
-            let end = start + len;
-            if value_read::stretches::is_undefined_twice(undefined, &rest[start..end]) {
-                FieldForm::Twice(start, len)
-            } else if value_read::stretches::is_undefined(undefined, &rest[start..end]) {
-                FieldForm::Undefined(start, len)
-            } else {
-                FieldForm::Defined(start, len)
-            }
-        }
-        Next::Nothing => FieldForm::Missing,
-    }
+    let part = base::fields::next_field(rest)?;
+    let end = part.start + part.len;
+    let form = form_of(&rest[part.start..end], undefined);
+    Some(Taken { part, form })
 }

@@ -10,9 +10,8 @@ use lib.ListN.{length, take, drop, get_or, drop_of_length-le}
 use lib.Seq.{take_all}
 use borrow.Author.Tests.{leb-true, leb-false, eq-eqb, ne_eqb, lt-leb, le-leb, lt-ltb, le-ltb}
 use Rattle.meaning.specs.Bytes.{choose}
-use Rattle.meaning.specs.Model.{Model, Table, found, missing, no_table, table_at}
+use Rattle.meaning.specs.Model.{Table, found, missing, no_table, table_at}
 use Rattle.meaning.specs.Reading.{same_name, find_topic, find_table, mandatory_between}
-use Rattle.read_frame.specs.Finds.{found_at, FoundTable}
 use Rattle.meaning.proofs.Tests.Unequal.{no_found, same_found}
 use Rattle.meaning.proofs.Model.Names.{none_mandatory}
 use Rattle.meaning.proofs.Lists.{drop_next}
@@ -156,10 +155,3 @@ module _ (p from : ℕ) (ts : List Table) where
 
     pub owed_other : (owed : Bool) → ((table_at ts t).topic ≡ p → ⊥) → owed ≡ mandatory_between p from t 0 ts → owed ≡ mandatory_between p from (t + 1) 0 ts
     owed_other owed n old = old ∙ sym (rw (ne_eqb (table_at ts t).topic p n, and-false (leb from t), or-false (mandatory_between p from t 0 ts)) at owed_next)
-
--- the table found, by whether a mandatory one was passed
-pub table_found : (m : Model) (p from : ℕ) (name : List ℕ) (t : ℕ) (owed : Bool) → t < length m.tables → find_table p from 0 name m.tables ≡ found t
-    → owed ≡ mandatory_between p from t 0 m.tables → FoundTable m p from name (found_at t owed)
-unfolding found_at
-table_found m p from name t true l f o = record { table = t; at = record { found = f; inside = l; owed = sym o } }
-table_found m p from name t false l f o = record { found = f; inside = l; owed = sym o }

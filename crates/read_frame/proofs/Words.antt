@@ -1,5 +1,5 @@
 -- Codes as numbers: a field is a code exactly where its number is that code's. Assumes nothing.
-use Prim.Native.Nat.{ℕ, zero, suc, ◌+◌, ◌*◌, ◌≤◌, ◌<◌}
+use Prim.Native.Nat.{ℕ, zero, suc, ◌+◌, ◌-◌, ◌*◌, ◌≤◌, ◌<◌}
 use native.Mathlib.Omega.{arith}
 use mathlib.Core.Path.{◌≡◌, refl, sym, ap, ◌∙◌}
 use mathlib.Core.Bool.{Bool, true, false, not, ◌&&◌}
@@ -13,7 +13,10 @@ use Rattle.meaning.specs.Bytes.{choose, same, byte_at, u16_at, u32_at}
 use Rattle.meaning.proofs.Unfolding.Cuts.{both}
 use Rattle.meaning.proofs.Tests.Same.{same_is, same_refl}
 use Rattle.base.proofs.Scan.{same_length}
-use Rattle.read_frame.specs.Codes.{codes, number_in, code_number, word_in}
+use Rattle.std.proofs.Common.{Option, Some, None}
+use Rattle.read_frame.specs.Codes.{codes, number_in, code_number, word_in, place_of, place_or_0}
+use Rattle.read_frame.specs.declared.codes.Code.{Code}
+use Rattle.read_frame.specs.declared.codes.Code.TheVariants.{Scnt, Slashes, Mtid, Motr, Modl, Topi, Tabl, Obje, Stpt, Lipt, Arcp, Elin, Etab, Etop, Emod, Ende}
 use Rattle.meaning.proofs.Tests.Refuse.{same_test}
 
 -- ## Four bytes as a word
@@ -158,3 +161,68 @@ code_at n (c ∷ cs) s (suc i) h p l = go (same c s) refl (code_at (n + 1) cs s 
 pub code_is : (i : ℕ) → i < 16 → (s : List ℕ) → same (get_or codes i []) s ≡ eqb (code_number s) (i + 1)
 unfolding code_number
 code_is i l s = let e : 1 + i ≡ i + 1 = omega arith in rw e at (code_at 1 codes s i all_apart (omega arith) l)
+
+-- ## Codes by their places
+
+pub place_within : (c : Code) → place_of c ≤ 16
+place_within Scnt = omega arith
+place_within Slashes = omega arith
+place_within Mtid = omega arith
+place_within Motr = omega arith
+place_within Modl = omega arith
+place_within Topi = omega arith
+place_within Tabl = omega arith
+place_within Obje = omega arith
+place_within Stpt = omega arith
+place_within Lipt = omega arith
+place_within Arcp = omega arith
+place_within Elin = omega arith
+place_within Etab = omega arith
+place_within Etop = omega arith
+place_within Emod = omega arith
+place_within Ende = omega arith
+
+-- each code, by its place less 1
+at_place : ℕ → Code
+at_place i = get_or (Scnt ∷ Slashes ∷ Mtid ∷ Motr ∷ Modl ∷ Topi ∷ Tabl ∷ Obje ∷ Stpt ∷ Lipt ∷ Arcp ∷ Elin ∷ Etab ∷ Etop ∷ Emod ∷ Ende ∷ []) i Scnt
+
+its_place : (c : Code) → at_place (place_of c - 1) ≡ c
+unfolding at_place
+its_place Scnt = refl
+its_place Slashes = refl
+its_place Mtid = refl
+its_place Motr = refl
+its_place Modl = refl
+its_place Topi = refl
+its_place Tabl = refl
+its_place Obje = refl
+its_place Stpt = refl
+its_place Lipt = refl
+its_place Arcp = refl
+its_place Elin = refl
+its_place Etab = refl
+its_place Etop = refl
+its_place Emod = refl
+its_place Ende = refl
+
+pub same_code : (h : Option Code) (c : Code) → place_or_0 h ≡ place_of c → h ≡ Some c
+same_code None c e = absurd (least c e)
+  where
+    least : (c : Code) → 0 ≡ place_of c → ⊥
+    least Scnt e = omega arith
+    least Slashes e = omega arith
+    least Mtid e = omega arith
+    least Motr e = omega arith
+    least Modl e = omega arith
+    least Topi e = omega arith
+    least Tabl e = omega arith
+    least Obje e = omega arith
+    least Stpt e = omega arith
+    least Lipt e = omega arith
+    least Arcp e = omega arith
+    least Elin e = omega arith
+    least Etab e = omega arith
+    least Etop e = omega arith
+    least Emod e = omega arith
+    least Ende e = omega arith
+same_code (Some d) c e = ap Some (sym (its_place d) ∙ ap (λ (n : ℕ). at_place (n - 1)) e ∙ its_place c)

@@ -1,21 +1,20 @@
 -- The topics and tables that lines name: what is found, and what a line that begins one makes of its fields.
-use Rattle.std.specs.Prelude.{ℕ, ◌+◌, ◌<◌, ◌≡◌, Bool, true, false, not, List, length}
+use Rattle.std.specs.Prelude.{ℕ, ◌+◌, ◌<◌, ◌≡◌, ◌⊎◌, Bool, true, false, not, List, length}
+use Rattle.std.specs.Prelude.{Option, Some, None, Result, Ok, Err}
 use Rattle.meaning.specs.Bytes.{refuse}
 use Rattle.meaning.specs.Model.{Model, Found, found, missing}
 use Rattle.meaning.specs.Field.{Field, field_at, more_than}
 use Rattle.meaning.specs.Reading.{Content, with_mark, topic_from, table_from, object_of}
 use Rattle.meaning.specs.Reading.{find_topic, find_table, mandatory_between}
 use Rattle.meaning.specs.Lines.{Step, go, no, after_found}
-use Rattle.read_frame.specs.declared.topics.TopicFound.{TopicFound}
-use Rattle.read_frame.specs.declared.topics.TopicFound.TheVariants.{At, Missing}
-use Rattle.read_frame.specs.declared.tables.TableFound.{TableFound}
-use Rattle.read_frame.specs.declared.tables.TableFound.TheVariants.{Skipped}
+use Rattle.base.specs.declared.reasons.Reason.{Reason}
+use Rattle.base.specs.declared.reasons.Reason.TheVariants as reasons
 
 -- ## Topics
 
-abbrev pub topic_found_of : TopicFound → Found
-topic_found_of (At p) = found p
-topic_found_of Missing = missing
+abbrev pub topic_found_of : Option ℕ → Found
+topic_found_of (Some p) = found p
+topic_found_of None = missing
 
 -- the fields behind TOPI
 unfoldable pub topic_in : Model → (from : ℕ) → List Field → Content → Step
@@ -27,11 +26,6 @@ topic_in m from fs c =
 
 -- ## Tables
 
--- table t, unless a mandatory one was passed before it
-unfoldable pub found_at : (t : ℕ) → Bool → TableFound
-found_at t true = Skipped
-found_at t false = TableFound.At t
-
 -- the table of this topic and this name, `from` or a later one, is t
 pub record TableAt (m : Model) (topic from : ℕ) (name : List ℕ) (t : ℕ) (mandatory : Bool) : Type 0 where
   pub found : find_table topic from 0 name m.tables ≡ found t
@@ -42,10 +36,11 @@ pub record TableSkipped (m : Model) (topic from : ℕ) (name : List ℕ) : Type 
   pub table : ℕ
   pub at : TableAt m topic from name table true
 
-abbrev pub FoundTable : Model → (topic from : ℕ) (name : List ℕ) → TableFound → Type 0
-FoundTable m topic from name (TableFound.At t) = TableAt m topic from name t false
-FoundTable m topic from name Skipped = TableSkipped m topic from name
-FoundTable m topic from name TableFound.Missing = find_table topic from 0 name m.tables ≡ missing
+abbrev pub FoundTable : Model → (topic from : ℕ) (name : List ℕ) → Result ℕ Reason → Type 0
+FoundTable m topic from name (Ok t) = TableAt m topic from name t false
+FoundTable m topic from name (Err reason) =
+    ((reason ≡ reasons.TableSkipped) × TableSkipped m topic from name)
+    ⊎ ((reason ≡ reasons.NameWrong) × (find_table topic from 0 name m.tables ≡ missing))
 
 -- the fields behind TABL
 unfoldable pub table_in : Model → (p from : ℕ) → List Field → Content → Step

@@ -2,12 +2,12 @@
 ghost use Rattle.std.specs.Prelude.{◌≡◌};
 ghost use Rattle.meaning.specs.Reading.{same_name};
 
-use base::{compare, numbers};
+use base::compare;
 
 pub(crate) fn same_name(a: &[u8], name: &[u8]) -> bool
     ensures { result ≡ same_name a.now name.now }
 {
-    let n = numbers::least_of(24, a.len());
-    let k = numbers::least_of(24, name.len());
+    let n = a.len().min(24);
+    let k = name.len().min(24);
     compare::same_bytes(&a[..n], &name[..k])
 }

@@ -31,12 +31,6 @@ lent {A} vs a xs ys h e =
     ∙ put_sets vs a (length xs - a) 0 xs (mid_of a (length xs - a) xs) (omega arith) (omega arith)
     ∙ rw (put_same a (length xs - a) xs, add-zero)
 
-pub three_stored : {A : Type 0} (l : List A) (at : ℕ) (a b c : A) → set (set (set l at a) (at + 1) b) (at + 2) c ≡ sets l at (a ∷ b ∷ c ∷ [])
-three_stored l at a b c =
-    let e₁ : at + 1 ≡ suc at = omega arith in
-    let e₂ : at + 2 ≡ suc (suc at) = omega arith in
-    rw (e₁, e₂)
-
 -- values stored three cells behind a cell, and then three cells from it on
 module _ {A : Type 0} (l : List A) (used n : ℕ) (a b c : A) (vs : List A) (en : length vs ≡ n) (room : used + (3 + n) ≤ length l) where
   first_is : sets l (used + 3) vs ≡ take (used + 3) l ++ (vs ++ drop (used + 3 + length vs) l)

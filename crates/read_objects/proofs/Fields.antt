@@ -2,7 +2,7 @@
 use Prim.Native.Nat.{ℕ, ◌+◌, ◌-◌, ◌≤◌}
 use native.Mathlib.Omega.{arith}
 use mathlib.Core.Path.{◌≡◌, refl, sym, ap, subst, ◌∙◌}
-use mathlib.Core.Bool.{Bool, true, false}
+use mathlib.Core.Bool.{true, false}
 use mathlib.Core.List.{List, [], ◌∷◌}
 use lib.IntN.{ℤ}
 use lib.ListN.{length, take, drop, length-drop}
@@ -16,15 +16,16 @@ use Rattle.meaning.specs.Lines.{Step, no, store_row, object_fields}
 use Rattle.model_records.specs.Records.{model_at, pairs_at}
 use Rattle.value_read.specs.Meant.{field_of}
 use Rattle.table_index.specs.Holds.{IndexedTable}
-use Rattle.table_index.proofs.Kept.{held_used}
 use Rattle.read_objects.specs.declared.OpenTable.{OpenTable}
 use Rattle.read_state.specs.declared.State.{State}
-use Rattle.read_state.specs.declared.Step as declared
-use Rattle.read_state.specs.declared.Step.TheVariants.{No}
+use Rattle.std.specs.Prelude.{Result, Ok, Err}
+use Rattle.base.specs.declared.parts.Part.{Part}
+use Rattle.base.specs.declared.reasons.Reason.{Reason}
+use Rattle.base.specs.declared.reasons.Reason.TheVariants.{IdentificationTwice}
+use Rattle.base.specs.declared.reasons.Refusal.{Refusal}
+use Rattle.base.specs.Reasons.{number_of}
 use Rattle.read_objects.specs.Tables.{TableHolds}
 use Rattle.read_frame.proofs.Moves.{behind_more, behind_at}
-use Rattle.read_objects.specs.declared.naming.IdentificationForm.{IdentificationForm}
-use Rattle.read_objects.specs.declared.naming.IdentificationForm.TheVariants.{At}
 use Rattle.read_objects.specs.Names.{identify_in, IdentifiedAt, Identifies}
 use Rattle.read_objects.specs.Rows.{RowAdds}
 use Rattle.meaning.proofs.Lists.{drop-take}
@@ -44,8 +45,8 @@ part_first text from end a size h = ap (take size) (part_behind text from end a)
 pub part_size : (text : List ℕ) (from end : ℕ) → from ≤ end → end ≤ length text → length (stretch text from (end - from)) ≡ end - from
 part_size text from end l h = length-take-le (end - from) (drop from text) (omega (arith, length-drop from text))
 
-pub identified : (u : ℕ) (rest : List ℕ) (r : IdentificationForm) (a size : ℕ) → r ≡ At a size → Identifies u rest r → IdentifiedAt u rest a size
-identified u rest r a size e i = subst (Identifies u rest) e i
+pub identified : (u : ℕ) (rest : List ℕ) (r : Result Part Reason) (part : Part) → r ≡ Ok part → Identifies u rest r → IdentifiedAt u rest part.start part.len
+identified u rest r part e i = subst (Identifies u rest) e i
 
 pub named_within : (text : List ℕ) (from end u a size : ℕ) → IdentifiedAt u (stretch text from (end - from)) a size → from ≤ end → end ≤ length text → from + a + size ≤ end
 named_within text from end u a size i within in_text = omega (arith, i.first.within, part_size text from end within in_text)
@@ -83,10 +84,10 @@ module _ (b text : List ℕ) (seed : ℕ) (here : OpenTable) (s : State) (at end
       ∙ ap (λ (fs : List Field). identify_in (model_at b).undefined fs (behind_shape (model_at b) rooms text here.table (field_at 1 fs) (drop 1 fs) c)) rest_fields
       ∙ ap (λ (v : ℕ). identify_in v (fields_of (at + behind) (stretch text (at + behind) (end - (at + behind)))) (behind_shape (model_at b) rooms text here.table (field_at 1 (fields_of (at + behind) (stretch text (at + behind) (end - (at + behind))))) (drop 1 (fields_of (at + behind) (stretch text (at + behind) (end - (at + behind))))) c)) (sym undefined)
 
-  pub unnamed : (k : ℕ) (r : IdentificationForm) → r ≡ IdentificationForm.No k → Identifies u (stretch text (at + behind) (end - (at + behind))) r → RowAdds b text seed s whole rows rows' cs cs' index index' (No k 2)
-  unnamed k r e i =
-      let h : (p : ℕ) (next : Step) → identify_in u (fields_of p (stretch text (at + behind) (end - (at + behind)))) next ≡ no k 2 = subst (Identifies u (stretch text (at + behind) (end - (at + behind)))) e i in
-      record { step = λ j rooms marks points x y z. sym (whole_is rooms _ ∙ h (at + behind) _); holds = λ marks points held. tt }
+  pub unnamed : (f : Refusal) (r : Result Part Reason) → r ≡ Err f.reason → f.field ≡ 2 → Identifies u (stretch text (at + behind) (end - (at + behind))) r → RowAdds b text seed s whole rows rows' cs cs' index index' (Err f)
+  unnamed f r e g i =
+      let h : (p : ℕ) (next : Step) → identify_in u (fields_of p (stretch text (at + behind) (end - (at + behind)))) next ≡ no (number_of f.reason) 2 = subst (Identifies u (stretch text (at + behind) (end - (at + behind)))) e i in
+      record { step = λ j rooms marks points x y z. rw g (sym (whole_is rooms _ ∙ h (at + behind) _)); holds = λ marks points held. tt }
 
   -- what `add_object` does
   abbrev adding : (a size : ℕ) → Rooms → Content → Step
@@ -102,24 +103,20 @@ module _ (b text : List ℕ) (seed : ℕ) (here : OpenTable) (s : State) (at end
     adding_is : TableHolds (model_at b) b here → (rooms : Rooms) (c : Content) → adding a size rooms c ≡ whole rooms c
     adding_is t rooms c = sym (whole_is rooms c ∙ i.goes_on (at + behind) _ ∙ rw (rest_is, ← undefined, ← t.attributes))
 
-    pub named : TableHolds (model_at b) b here → (r : declared.Step) → RowAdds b text seed s (adding a size) rows rows' cs cs' index index' r → RowAdds b text seed s whole rows rows' cs cs' index index' r
+    pub named : TableHolds (model_at b) b here → (r : Result State Refusal) → RowAdds b text seed s (adding a size) rows rows' cs cs' index index' r → RowAdds b text seed s whole rows rows' cs cs' index index' r
     named t r d = record { step = λ j rooms marks points x y z. d.step j rooms marks points x y z ∙ adding_is t rooms _; holds = d.holds }
 
 -- ## 15
-
-pub used_is_lem : (text : List ℕ) (seed : ℕ) (s : State) (i rows : List ℕ) (cs : List ℤ) (index : List ℕ) → IndexedTable seed text s.rows s.cells rows cs index
-    → (x : Bool) → x ≡ is_used i (objects_of text cs (take s.rows rows)) → is_used i (objects_of text (take s.cells cs) (take s.rows rows)) ≡ x
-used_is_lem text seed s i rows cs index held x e = sym (e ∙ held_used seed text s.rows s.cells rows cs index held i)
 
 module _ (b text : List ℕ) (seed : ℕ) (s : State) (i : List ℕ) (rows : List ℕ) (cs : List ℤ) (index : List ℕ) (held : IndexedTable seed text s.rows s.cells rows cs index)
     (next : Rooms → Content → Step) (rows' : List ℕ) (cs' : List ℤ) (index' : List ℕ) where
   abbrev judged : Rooms → Content → Step
   judged = λ rooms c. refuse (is_used i (objects_of text c.cells c.rows)) (no 15 2) (next rooms c)
 
-  pub used_before : is_used i (objects_of text (take s.cells cs) (take s.rows rows)) ≡ true → RowAdds b text seed s judged rows rows' cs cs' index index' (No 15 2)
+  pub used_before : is_used i (objects_of text (take s.cells cs) (take s.rows rows)) ≡ true → RowAdds b text seed s judged rows rows' cs cs' index index' (Err (record { reason = IdentificationTwice; field = 2 }))
   unfolding refuse
   used_before e = record { step = λ j rooms marks points x y z. rw e; holds = λ marks points h. tt }
 
-  pub unused : (r : declared.Step) → is_used i (objects_of text (take s.cells cs) (take s.rows rows)) ≡ false → RowAdds b text seed s next rows rows' cs cs' index index' r → RowAdds b text seed s judged rows rows' cs cs' index index' r
+  pub unused : (r : Result State Refusal) → is_used i (objects_of text (take s.cells cs) (take s.rows rows)) ≡ false → RowAdds b text seed s next rows rows' cs cs' index index' r → RowAdds b text seed s judged rows rows' cs cs' index index' r
   unfolding refuse
   unused r e d = record { step = λ j rooms marks points x y z. rw e (d.step j rooms marks points x y z); holds = d.holds }

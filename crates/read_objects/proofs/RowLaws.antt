@@ -1,7 +1,7 @@
 -- A row that joins the table: what it means, and what then holds. Assumes nothing.
 use Prim.Native.Nat.{ℕ, ◌+◌, ◌*◌, ◌-◌, ◌≤◌, ◌<◌, min}
 use native.Mathlib.Omega.{arith}
-use mathlib.Core.Path.{◌≡◌, refl, sym, ap, subst, ◌∙◌}
+use mathlib.Core.Path.{◌≡◌, refl, sym, ap, ◌∙◌}
 use mathlib.Core.Bool.{true, false, ◌||◌}
 use mathlib.Core.List.{List, [], ◌∷◌, ◌++◌}
 use lib.Dec.{leb, ltb}
@@ -12,7 +12,7 @@ use borrow.Author.Count.{below_more}
 use borrow.Author.Tests.{leb-false, ltb-false, lt-leb, le-ltb}
 use Rattle.meaning.specs.Bytes.{refuse}
 use Rattle.meaning.specs.Model.{Model, table_at}
-use Rattle.meaning.specs.Field.{Field, fields_of}
+use Rattle.meaning.specs.Field.{Field}
 use Rattle.meaning.specs.Row.{Cells, cells, refused, pairs_of, pair_cells}
 use Rattle.meaning.specs.Reading.{stretch, cell_at, objects_of, is_used, Content, Rooms, point_count, with_row, line_attributes, due_lines}
 use Rattle.meaning.specs.Lines.{Step, go, no, store_row}
@@ -23,7 +23,10 @@ use Rattle.table_index.specs.Holds.{IndexedTable}
 use Rattle.table_index.proofs.More.{held_more}
 use Rattle.read_objects.specs.declared.OpenTable.{OpenTable}
 use Rattle.read_state.specs.declared.State.{State}
-use Rattle.read_state.specs.declared.Step.TheVariants.{Go, No}
+use Rattle.std.specs.Prelude.{Result, Ok, Err}
+use Rattle.base.specs.declared.reasons.Reason.TheVariants.{TableFull}
+use Rattle.base.specs.declared.reasons.Refusal.{Refusal}
+use Rattle.base.specs.Reasons.{number_of}
 use Rattle.read_state.specs.Meaning.{content_of, step_of}
 use Rattle.table.specs.Rows.{row_size, RowsLaidOut}
 use Rattle.read_objects.specs.Tables.{TableHolds}
@@ -31,8 +34,6 @@ use Rattle.read_polylines.proofs.Ways.{point_count_lem}
 use borrow.Rule.Slice.PartMut.{put_mid, mid_of}
 use Rattle.read_objects.proofs.Tables.{tables_few}
 use Rattle.read_objects.specs.Fields.{Ends}
-use Rattle.read_objects.specs.declared.rows.RowOut.{RowOut}
-use Rattle.read_objects.specs.declared.rows.RowOut.TheVariants.{Full}
 use Rattle.read_objects.specs.Rows.{RowFull, Fills, BehindRow, RowAdds}
 use Rattle.read_objects.proofs.Cells.{lent, row_stored, row_front, row_first, row_length, one_listed}
 use Rattle.meaning.proofs.Lists.{first_same}
@@ -53,10 +54,10 @@ table_small m b h t = omega (arith, t.table, tables_few m b h.at _ _ t.here.stan
 
 -- ## The fields in the part of the cells that is lent
 
-pub fills_lent : (meant : Cells) (most used from : ℕ) (cs ys : List ℤ) (r : RowOut) → from ≡ min (used + 3) (length cs) → Ends meant most 0 (mid_of from (length cs - from) cs) ys r
+pub fills_lent : (meant : Cells) (most used from : ℕ) (cs ys : List ℤ) (r : Result ℕ Refusal) → from ≡ min (used + 3) (length cs) → Ends meant most 0 (mid_of from (length cs - from) cs) ys r
     → Fills meant most (used + 3) cs (put_mid from (length cs - from) cs ys) r
-fills_lent meant most used from cs ys (RowOut.No k f) l e = e
-fills_lent meant most used from cs ys (Full n) l e = record {
+fills_lent meant most used from cs ys (Err f) l e = e
+fills_lent meant most used from cs ys (Ok n) l e = record {
   values = e.values;
   meaning = e.meaning;
   size = omega (arith, e.size);
@@ -65,16 +66,6 @@ fills_lent meant most used from cs ys (Full n) l e = record {
       let z : from ≡ used + 3 = omega arith in
       lent e.values from cs ys (omega (arith, e.size)) e.stored ∙ ap (λ (a : ℕ). sets cs a e.values) z;
 }
-
-pub full_row : (meant : Cells) (most at : ℕ) (entry exit : List ℤ) (r : RowOut) (n : ℕ) → r ≡ Full n → Fills meant most at entry exit r → RowFull meant most at n entry exit
-full_row meant most at entry exit r n e f = subst (Fills meant most at entry exit) e f
-
-pub refused_row : (meant : Cells) (most at : ℕ) (entry exit : List ℤ) (r : RowOut) (k f : ℕ) → r ≡ RowOut.No k f → Fills meant most at entry exit r → meant ≡ refused k f
-refused_row meant most at entry exit r k f e h = subst (Fills meant most at entry exit) e h
-
--- the fields of the text from a byte to the line's end, by the attribute records from a byte of the model on
-abbrev pub line_cells : (b text : List ℕ) (u at from end : ℕ) → Cells
-line_cells b text u at from end = pair_cells u true 3 (pairs_at b at) (fields_of from (stretch text from (end - from)))
 
 -- ## What a row means
 
@@ -132,16 +123,16 @@ module _ (b text : List ℕ) (seed : ℕ) (here : OpenTable) (s : State) (start 
   cells_length : length (take s.cells cs) ≡ s.cells
   cells_length = length-take-le s.cells cs held.cells_in
 
-  pub fields_refused : (rows' : List ℕ) (cs' : List ℤ) (index' : List ℕ) (k f : ℕ) → pair_cells u true 3 (pairs_at b here.at) fs ≡ refused k f → RowAdds b text seed s meant rows rows' cs cs' index index' (No k f)
+  pub fields_refused : (rows' : List ℕ) (cs' : List ℤ) (index' : List ℕ) (f : Refusal) → pair_cells u true 3 (pairs_at b here.at) fs ≡ refused (number_of f.reason) f.field → RowAdds b text seed s meant rows rows' cs cs' index index' (Err f)
   unfolding store_row
-  fields_refused rows' cs' index' k f e = record { step = λ j rooms marks points x y z. rw e; holds = λ marks points h. tt }
+  fields_refused rows' cs' index' f e = record { step = λ j rooms marks points x y z. rw e; holds = λ marks points h. tt }
 
   module _ (most n : ℕ) (cs₁ : List ℤ) (full : RowFull (pair_cells u true 3 (pairs_at b here.at) fs) most (s.cells + 3) n cs cs₁) where
     room_is_lem : (j : ℕ) (rooms : Rooms) (marks : List ℕ) (points : List ℤ) → rooms.rows ≡ length rows → rooms.cells ≡ length cs
         → (leb rooms.rows (length (content_of j s marks rows cs points).rows) || ltb rooms.cells (length (content_of j s marks rows cs points).cells + (3 + length full.values))) ≡ (leb (length rows) s.rows || ltb (length cs) (s.cells + (3 + n)))
     room_is_lem j rooms marks points x y = rw (x, y, rows_length, cells_length, full.size)
 
-    pub lacks : (rows' : List ℕ) (cs' : List ℤ) (index' : List ℕ) (m : ℕ) → m ≡ length cs → (leb (length rows) s.rows || ltb m (s.cells + (3 + n))) ≡ true → RowAdds b text seed s meant rows rows' cs cs' index index' (No 16 0)
+    pub lacks : (rows' : List ℕ) (cs' : List ℤ) (index' : List ℕ) (m : ℕ) → m ≡ length cs → (leb (length rows) s.rows || ltb m (s.cells + (3 + n))) ≡ true → RowAdds b text seed s meant rows rows' cs cs' index index' (Err (record { reason = TableFull; field = 0 }))
     lacks rows' cs' index' m q e = record {
       step = λ j rooms marks points x y z. rw full.meaning (sym (store_lacks (model_at b) rooms text here.table (field_of start (stretch text start size)) (content_of j s marks rows cs points) full.values (room_is_lem j rooms marks points x y ∙ rw q at e)));
       holds = λ marks points h. tt;
@@ -173,7 +164,7 @@ module _ (b text : List ℕ) (seed : ℕ) (here : OpenTable) (s : State) (start 
       has_room = rw (lt-leb (length rows) s.rows room_rows, le-ltb (length cs) (s.cells + (3 + n)) room_cells)
 
       joins_step : (j : ℕ) (rooms : Rooms) (marks : List ℕ) (points : List ℤ) → rooms.rows ≡ length rows → rooms.cells ≡ length cs → 4 * s.points ≤ length points
-          → step_of b j (Go r) marks rows' cs' points ≡ meant rooms (content_of j s marks rows cs points)
+          → step_of b j (Ok r) marks rows' cs' points ≡ meant rooms (content_of j s marks rows cs points)
       joins_step j rooms marks points x y z =
           rw (full.meaning, store_goes (model_at b) rooms text here.table (field_of start (stretch text start size)) (content_of j s marks rows cs points) full.values (room_is_lem j rooms marks points x y ∙ has_room))
           (rw (behind.due, behind.rows, behind.cells, behind.points, rows_more, cells_more, point_count_lem points s.points z, cells_length, size_is, holds.attributes))
@@ -199,7 +190,7 @@ module _ (b text : List ℕ) (seed : ℕ) (here : OpenTable) (s : State) (start 
             held_more seed text s.rows s.cells rows cs index held (s.cells + (3 + n)) rows' cs' here.table start size full.values
             (ap length listed ∙ length-set rows s.rows s.cells) cells_count room_rows room_cells rows_more cells_more in_text unused index' (length rows) hash refl hashed linked
 
-        pub joins : RowAdds b text seed s meant rows rows' cs cs' index index' (Go r)
+        pub joins : RowAdds b text seed s meant rows rows' cs cs' index index' (Ok r)
         joins = record {
           step = joins_step;
           holds = λ marks points h. record {

@@ -1,4 +1,4 @@
--- A good model has no more tables than bytes. Assumes nothing.
+-- What a good model bounds: it has no more tables than bytes, and its bytes are few. Assumes nothing.
 use Prim.Native.Nat.{ℕ, zero, suc, ◌+◌, ◌≤◌}
 use native.Mathlib.Omega.{arith}
 use mathlib.Core.Path.{ap, ◌∙◌}

@@ -1,17 +1,18 @@
 -- What the identification's field of an OBJE line says, by cases.
-use Rattle.std.specs.Prelude.{ℕ, ◌≡◌, false, not, ◌||◌, List, ℤ, take}
+use Rattle.std.specs.Prelude.{ℕ, ◌≡◌, false, not, ◌||◌, List, Result, Ok, Err, ℤ, take}
 use Rattle.meaning.specs.Bytes.{refuse}
 use Rattle.meaning.specs.Field.{Field, fields_of, field_at, more_than}
 use Rattle.meaning.specs.Value.{is_identification, is_undefined, is_undefined_twice}
 use Rattle.meaning.specs.Lines.{Step, no}
 use Rattle.meaning.specs.Reading.{stretch, objects_of, is_used}
 use Rattle.base.specs.Fields.{FirstField}
+use Rattle.base.specs.declared.parts.Part.{Part}
+use Rattle.base.specs.declared.reasons.Reason.{Reason}
+use Rattle.base.specs.Reasons.{number_of}
 use Rattle.table_index.specs.Index.{hash_of}
 use Rattle.table_index.specs.Holds.{IndexedTable}
 use Rattle.read_state.specs.declared.State.{State}
 use Rattle.read_objects.specs.declared.storing.Name.{Name}
-use Rattle.read_objects.specs.declared.naming.IdentificationForm.{IdentificationForm}
-use Rattle.read_objects.specs.declared.naming.IdentificationForm.TheVariants.{At}
 
 -- the fields behind the code OBJE, judged up to the identification's shape, and then the next step
 unfoldable pub identify_in : (u : ℕ) → List Field → Step → Step
@@ -26,15 +27,16 @@ pub record IdentifiedAt (u : ℕ) (rest : List ℕ) (at len : ℕ) : Type 0 wher
   pub first : FirstField rest at len
   pub goes_on : (s : ℕ) (next : Step) → identify_in u (fields_of s rest) next ≡ next
 
-abbrev pub Identifies : ℕ → List ℕ → IdentificationForm → Type 0
-Identifies u rest (At at len) = IdentifiedAt u rest at len
-Identifies u rest (IdentificationForm.No k) = (s : ℕ) (next : Step) → identify_in u (fields_of s rest) next ≡ no k 2
+abbrev pub Identifies : ℕ → List ℕ → Result Part Reason → Type 0
+Identifies u rest (Ok part) = IdentifiedAt u rest part.start part.len
+Identifies u rest (Err reason) = (s : ℕ) (next : Step)
+    → identify_in u (fields_of s rest) next ≡ no (number_of reason) 2
 
 -- a name that no object before has, and its hash under this seed
 pub record NewName (text : List ℕ) (seed : ℕ) (name : Name) (s : State) (rows : List ℕ) (cells : List ℤ)
     (index : List ℕ)
     : Type 0 where
   pub held : IndexedTable seed text s.rows s.cells rows cells index
-  pub unused : is_used (stretch text name.start name.size)
+  pub unused : is_used (stretch text name.part.start name.part.len)
       (objects_of text (take s.cells cells) (take s.rows rows)) ≡ false
-  pub hashed : name.hash ≡ hash_of seed (stretch text name.start name.size)
+  pub hashed : name.hash ≡ hash_of seed (stretch text name.part.start name.part.len)

@@ -45,9 +45,6 @@ pub record Reached (m : Model) (b : List ℕ) (at cell here c : ℕ) : Type 0 wh
   pub behind : cell ≤ c
   pub left : c + 2 * length (pairs_at b here) ≡ cell + 2 * length (pairs_at b at)
 
-pub reached_start : (m : Model) (b : List ℕ) (at cell : ℕ) → AttributesHere m b at → Reached m b at cell at cell
-reached_start m b at cell s = record { attributes = s; same = refl; behind = omega arith; left = refl }
-
 module _ (m : Model) (b : List ℕ) (at cell here c : ℕ) (r : Reached m b at cell here c) where
   module _ (e : kind_at b here ≡ 5) where
     a : AttributeNext m b here r.attributes.topics r.attributes.tables

@@ -14,7 +14,7 @@ use Rattle.meaning.specs.Model as meaning
 use Rattle.meaning.specs.Field.{fields_of}
 use Rattle.meaning.specs.Value.{pair, wrong, number_of}
 use Rattle.meaning.specs.Row.{Cells, cells, refused, put_number, component_values}
-use Rattle.model_records.specs.declared.Component.{Component}
+use Rattle.model_records.specs.declared.attributes.Component.{Component}
 use Rattle.model_records.specs.Components.{component_of, list_of}
 use Rattle.base.specs.Fields.{FirstField}
 use Rattle.read_fields.specs.FieldForm.{FieldTaken, TwiceTaken}

@@ -1,7 +1,7 @@
 -- A point of the line attribute under way: where it is stored, what it means, and what then holds. Assumes nothing.
 use Prim.Native.Nat.{ℕ, ◌+◌, ◌*◌, ◌≤◌, ◌<◌}
 use native.Mathlib.Omega.{arith}
-use mathlib.Core.Path.{◌≡◌, refl, sym, ◌∙◌}
+use mathlib.Core.Path.{◌≡◌, sym, ◌∙◌}
 use mathlib.Core.Bool.{true, false}
 use mathlib.Core.List.{List, [], ◌++◌}
 use lib.Dec.{ltb}
@@ -18,15 +18,15 @@ use Rattle.meaning.specs.Reading as meaning
 use Rattle.meaning.specs.Reading.{Content, Rooms, line_of, is_forbidden, point, with_state}
 use Rattle.meaning.specs.Lines.{no, store_point, attribute_line}
 use Rattle.meaning.specs.Lines as lines
-use Rattle.model_records.specs.declared.Attribute.{Attribute}
+use Rattle.model_records.specs.declared.attributes.LineAttribute.{LineAttribute}
 use Rattle.model_records.specs.Records.{model_at}
-use Rattle.model_records.specs.Attributes.{RecordAttribute}
+use Rattle.model_records.specs.Attributes.{RecordLine}
 use Rattle.read_state.specs.declared.LineState.{LineState}
 use Rattle.read_state.specs.declared.OpenLine.{OpenLine}
 use Rattle.read_state.specs.declared.Due.TheVariants as due
 use Rattle.read_state.specs.declared.State.{State}
-use Rattle.read_state.specs.declared.Step.{Step}
-use Rattle.read_state.specs.declared.Step.TheVariants.{Go, No}
+use Rattle.std.proofs.Common.{Result, Ok, Err}
+use Rattle.base.specs.declared.reasons.Refusal.{Refusal}
 use Rattle.read_state.specs.Meaning.{line_state_of, due_of, content_of, step_of}
 use Rattle.read_state.specs.Holds.{LineHolds}
 use Rattle.read_polylines.specs.Ways.{way_of, LineDoes}
@@ -45,14 +45,14 @@ taken_more l vs i k e h =
 -- ## The state behind the point
 
 module _ (b : List ℕ) (u : OpenLine) (s : State) where
-  pub does_same : (meant meant' : Content → lines.Step) (cells points cells' points' : List ℤ) (r : Step) → ((c : Content) → meant c ≡ meant' c) → LineDoes b u s meant cells points cells' points' r → LineDoes b u s meant' cells points cells' points' r
+  pub does_same : (meant meant' : Content → lines.Step) (cells points cells' points' : List ℤ) (r : Result State Refusal) → ((c : Content) → meant c ≡ meant' c) → LineDoes b u s meant cells points cells' points' r → LineDoes b u s meant' cells points cells' points' r
   does_same meant meant' cells points cells' points' r e d = record { step = λ k marks rows. d.step k marks rows ∙ e _; holds = d.holds }
 
   module _ (next : LineState) where
     moved_holds : (m : Model) (rows : List ℕ) (n used points points' : ℕ) → points ≤ points' → LineHolds m b rows n used points u → LineHolds m b rows n used points' (moved_to next u)
     moved_holds m rows n used points points' g l = record { table = l.table; attributes = l.attributes; kind = l.kind; line = l.line; behind_rows = l.behind_rows; fits = l.fits; first = omega (arith, l.first) }
 
-    module _ (a : Attribute) (d : RecordAttribute b u.at a) (l : LineHolds (model_at b) b [] 0 s.cells s.points u) where
+    module _ (a : LineAttribute) (d : RecordLine b u.at a) (l : LineHolds (model_at b) b [] 0 s.cells s.points u) where
       due_moved : due_of b (due.Line (moved_to next u)) ≡ line_of (with_state (line_state_of next) (way_of b a u))
       due_moved = due_way (model_at b) b [] 0 s.cells s.points (moved_to next u) (moved_holds (model_at b) [] 0 s.cells s.points s.points (omega arith) l) a d
 
@@ -64,7 +64,7 @@ module _ (b : List ℕ) (u : OpenLine) (s : State) where
         size_is = length-take-le (4 * s.points) points fits
 
         stored_step : (values : List ℤ) → 4 * s.points + 4 ≤ length points → (k : ℕ) (marks rows : List ℕ)
-            → step_of b k (Go (point_added (moved_to next u) s)) marks rows cells (sets points (4 * s.points) (point_cells kind values)) ≡ meant_by (row.cells values) (content_of k s marks rows cells points)
+            → step_of b k (Ok (point_added (moved_to next u) s)) marks rows cells (sets points (4 * s.points) (point_cells kind values)) ≡ meant_by (row.cells values) (content_of k s marks rows cells points)
         unfolding store_point refuse
         stored_step values room k marks rows =
             let t = taken_more points (point_cells kind values) (4 * s.points) (4 * (s.points + 1)) (omega (arith, point_length kind values)) (omega arith) in
@@ -77,7 +77,7 @@ module _ (b : List ℕ) (u : OpenLine) (s : State) where
             let f : ltb (length points) (4 * s.points + 4) ≡ true = lt-ltb (length points) (4 * s.points + 4) full in
             rw (er, size_is, f)
 
-        stored_does : (values : List ℤ) → 4 * s.points + 4 ≤ length points → LineDoes b u s (meant_by (row.cells values)) cells points cells (sets points (4 * s.points) (point_cells kind values)) (Go (point_added (moved_to next u) s))
+        stored_does : (values : List ℤ) → 4 * s.points + 4 ≤ length points → LineDoes b u s (meant_by (row.cells values)) cells points cells (sets points (4 * s.points) (point_cells kind values)) (Ok (point_added (moved_to next u) s))
         stored_does values room = record {
           step = stored_step values room;
           holds = λ text seed marks rows index h held. record {
@@ -89,15 +89,16 @@ module _ (b : List ℕ) (u : OpenLine) (s : State) where
           };
         }
 
-        values_do : (values points' : List ℤ) (r : Step) → Stores (point_cells kind values) (moved_to next u) s points points' r → LineDoes b u s (meant_by (row.cells values)) cells points cells points' r
-        values_do values points' (Go r) h = rw (h.state, h.stored) (stored_does values h.room)
-        values_do values points' (No number field) h = rw (h.sixteen, h.none, h.same) (record { step = full_step values h.full; holds = λ text seed marks rows index g held. tt })
+        values_do : (values points' : List ℤ) (r : Result State Refusal) → Stores (point_cells kind values) (moved_to next u) s points points' r → LineDoes b u s (meant_by (row.cells values)) cells points cells points' r
+        values_do values points' (Ok r) h = rw (h.state, h.stored) (stored_does values h.room)
+        values_do values points' (Err r) h = rw h.same (record { step = λ k marks rows. rw (h.sixteen, h.none) (full_step values h.full k marks rows); holds = λ text seed marks rows index g held. tt })
 
         -- a point by its values, or their refusal
-        pub joined : (v : Cells) (points' : List ℤ) (r : Step) → Joins kind (moved_to next u) s points points' r v → LineDoes b u s (meant_by v) cells points cells points' r
+        pub joined : (v : Cells) (points' : List ℤ) (r : Result State Refusal) → Joins kind (moved_to next u) s points points' r v → LineDoes b u s (meant_by v) cells points cells points' r
         unfolding store_point
         joined (row.cells values) points' r h = values_do values points' r h
-        joined (row.refused number field) points' r h = rw (h.0, h.1) (refused_here b u s _ cells points number field (λ c. refl))
+        joined (row.refused number field) points' (Ok r) h = absurd h.0
+        joined (row.refused number field) points' (Err r) h = rw h.1 (refused_here b u s _ cells points r (λ c. rw (h.0.0, h.0.1)))
 
 -- ## What its line means
 

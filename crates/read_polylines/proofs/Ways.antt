@@ -18,20 +18,24 @@ use Rattle.meaning.specs.Reading as meaning
 use Rattle.meaning.specs.Reading.{line_attributes, line_of, due_lines, Content, point_count, with_line, Rooms, ended, undefined_line}
 use Rattle.meaning.specs.Lines.{Step, go, no, bare, attribute_line, line_due}
 use Rattle.model_records.specs.Components.{components_of}
-use Rattle.model_records.specs.declared.Attribute.{Attribute}
-use Rattle.model_records.specs.Records.{model_at, payload_at, next_at, pairs_at}
+use Rattle.model_records.specs.declared.attributes.LineAttribute.{LineAttribute}
+use Rattle.model_records.specs.Records.{model_at, next_at, pairs_at}
 use Rattle.model_records.specs.AtRecord.{AttributeNext, AttributesHere}
-use Rattle.model_records.specs.Attributes.{type_of, RecordAttribute}
+use Rattle.model_records.specs.Attributes.{RecordLine}
 use Rattle.model_records.proofs.AtRecord.{attribute_here}
 use Rattle.table_index.proofs.Kept.{beside_behind, held_pair}
 use Rattle.read_state.specs.declared.OpenLine.{OpenLine}
 use Rattle.read_state.specs.declared.State.{State}
 use Rattle.read_state.specs.declared.Due.TheVariants as due
-use Rattle.read_state.specs.declared.Step as state
-use Rattle.read_state.specs.declared.Step.TheVariants.{Go, No}
 use Rattle.read_state.specs.Meaning.{line_state_of, lines_at, open_line_of, due_of, content_of}
 use Rattle.read_state.specs.Holds.{LineHolds, Holds}
 use Rattle.table.specs.Rows.{RowsLaidOut}
+use Rattle.std.proofs.Common.{Option, Some, None, Result, Ok, Err}
+use Rattle.base.specs.declared.reasons.Refusal.{Refusal}
+use Rattle.base.specs.Reasons.{number_of}
+use Rattle.read_frame.specs.Codes.{place_or_0}
+use Rattle.read_frame.specs.declared.codes.Code.{Code}
+use Rattle.read_frame.specs.declared.codes.Code.TheVariants as code
 use Rattle.read_frame.specs.Heads.{HeadOf}
 use Rattle.read_frame.specs.declared.codes.Head.{Head}
 use Rattle.read_frame.proofs.Moves.{behind_more}
@@ -40,14 +44,34 @@ use Rattle.read_polylines.specs.Ways.{way_of, LineGiven, BehindLine, LineDoes}
 
 -- ## The code
 
+indexed : (code : Option Code) → choose (eqb (place_or_0 code) 9) meaning.stpt (choose (eqb (place_or_0 code) 10) meaning.lipt (choose (eqb (place_or_0 code) 11) meaning.arcp (choose (eqb (place_or_0 code) 12) meaning.elin meaning.other))) ≡ code_of code
+unfolding choose
+indexed None = refl
+indexed (Some code.Scnt) = refl
+indexed (Some code.Slashes) = refl
+indexed (Some code.Mtid) = refl
+indexed (Some code.Motr) = refl
+indexed (Some code.Modl) = refl
+indexed (Some code.Topi) = refl
+indexed (Some code.Tabl) = refl
+indexed (Some code.Obje) = refl
+indexed (Some code.Stpt) = refl
+indexed (Some code.Lipt) = refl
+indexed (Some code.Arcp) = refl
+indexed (Some code.Elin) = refl
+indexed (Some code.Etab) = refl
+indexed (Some code.Etop) = refl
+indexed (Some code.Emod) = refl
+indexed (Some code.Ende) = refl
+
 pub code_meant : (l : List ℕ) (h : Head) → HeadOf l h → (s : ℕ) → meaning.line_code_of (fields_of s l) ≡ code_of h.code
-unfolding meaning.line_code_of code_of
+unfolding meaning.line_code_of
 code_meant l h o s =
-    let a : has_code STPT (fields_of s l) ≡ eqb h.code 9 = o.code 8 (omega arith) s in
-    let b : has_code LIPT (fields_of s l) ≡ eqb h.code 10 = o.code 9 (omega arith) s in
-    let c : has_code ARCP (fields_of s l) ≡ eqb h.code 11 = o.code 10 (omega arith) s in
-    let d : has_code ELIN (fields_of s l) ≡ eqb h.code 12 = o.code 11 (omega arith) s in
-    rw (a, b, c, d)
+    let a : has_code STPT (fields_of s l) ≡ eqb (place_or_0 h.code) 9 = o.code 8 (omega arith) s in
+    let b : has_code LIPT (fields_of s l) ≡ eqb (place_or_0 h.code) 10 = o.code 9 (omega arith) s in
+    let c : has_code ARCP (fields_of s l) ≡ eqb (place_or_0 h.code) 11 = o.code 10 (omega arith) s in
+    let d : has_code ELIN (fields_of s l) ≡ eqb (place_or_0 h.code) 12 = o.code 11 (omega arith) s in
+    rw (a, b, c, d) (indexed h.code)
 
 more_one : (fs : List Field) → more_than 1 fs ≡ more_than 0 (drop 1 fs)
 more_one [] = refl
@@ -75,14 +99,10 @@ module _ (m : Model) (b rows : List ℕ) (n used points : ℕ) (u : OpenLine) (h
   without_rows = record { table = h.table; attributes = h.attributes; kind = h.kind; line = h.line; behind_rows = λ o l. absurd (omega arith); fits = h.fits; first = h.first }
 
   -- the attribute of its record
-  module _ (a : Attribute) (d : RecordAttribute b u.at a) where
-    line_type : (attribute_of u.at (payload_at b u.at)).type ≡ Line a.number (components_of a.components)
-    unfolding type_of choose
-    line_type = let k : a.kind ≡ 8 = d.kind ∙ h.line in sym d.type ∙ rw k refl
-
-    lines_here : lines_at b u.at u.cell ≡ record { cell = u.cell; optional = a.optional; forms = a.number; components = components_of a.components } ∷ lines_at b (next_at b u.at) (u.cell + 2)
+  module _ (a : LineAttribute) (d : RecordLine b u.at a) where
+    lines_here : lines_at b u.at u.cell ≡ record { cell = u.cell; optional = a.optional; forms = a.forms; components = components_of a.components } ∷ lines_at b (next_at b u.at) (u.cell + 2)
     unfolding pairs_of pairs_of_type line_attributes
-    lines_here = rw (record_here.attributes, line_type, sym d.optional)
+    lines_here = rw (record_here.attributes, d.type, sym d.optional)
 
     pub due_way : due_of b (due.Line u) ≡ line_of (way_of b a u)
     unfolding due_of open_line_of
@@ -121,8 +141,8 @@ module _ (m : Model) (rooms : Rooms) (text : List ℕ) (w : meaning.Underway) (f
 -- ## The state behind it
 
 -- behind an undefined line
-pub behind_same : (b : List ℕ) (a : Attribute) (u : OpenLine) (s r : State) → BehindLine b u s u.first r → (meant : Content → Step) (cells points : List ℤ)
-    → ((c : Content) → go (due_lines u.table u.first (way_of b a u).others) c ≡ meant c) → LineDoes b u s meant cells points cells points (Go r)
+pub behind_same : (b : List ℕ) (a : LineAttribute) (u : OpenLine) (s r : State) → BehindLine b u s u.first r → (meant : Content → Step) (cells points : List ℤ)
+    → ((c : Content) → go (due_lines u.table u.first (way_of b a u).others) c ≡ meant c) → LineDoes b u s meant cells points cells points (Ok r)
 behind_same b a u s r h meant cells points e = record {
   step = λ k marks rows. rw (h.due, h.rows, h.cells, h.points) (e (content_of k s marks rows cells points));
   holds = λ text seed marks rows index l held. record {
@@ -158,9 +178,9 @@ laid_pair m n used rows cells x v w behind d = record {
         ∙ get_or-set_other cells x (get_or rows o 0) v (pos 0) (λ q. omega (arith, behind o l))
 
 -- behind the end of a line
-pub behind_pair_lem : (b : List ℕ) (a : Attribute) (u : OpenLine) (s r : State) → BehindLine b u s s.points r → (meant : Content → Step) (cells points : List ℤ) → u.cell + 1 < s.cells → 4 * s.points ≤ length points
+pub behind_pair_lem : (b : List ℕ) (a : LineAttribute) (u : OpenLine) (s r : State) → BehindLine b u s s.points r → (meant : Content → Step) (cells points : List ℤ) → u.cell + 1 < s.cells → 4 * s.points ≤ length points
     → ((c : Content) → go (due_lines u.table (point_count c) (way_of b a u).others) (with_line (way_of b a u) c) ≡ meant c)
-    → LineDoes b u s meant cells points (set (set cells u.cell (pos (1 + (s.points - u.first)))) (u.cell + 1) (pos u.first)) points (Go r)
+    → LineDoes b u s meant cells points (set (set cells u.cell (pos (1 + (s.points - u.first)))) (u.cell + 1) (pos u.first)) points (Ok r)
 unfolding with_line
 behind_pair_lem b a u s r h meant cells points inside fits e = record {
   step = λ k marks rows.
@@ -180,8 +200,8 @@ behind_pair_lem b a u s r h meant cells points inside fits e = record {
 
 -- ## A refusal
 
-pub refused_here : (b : List ℕ) (u : OpenLine) (s : State) (meant : Content → Step) (cells points : List ℤ) (number field : ℕ) → ((c : Content) → no number field ≡ meant c) → LineDoes b u s meant cells points cells points (No number field)
-refused_here b u s meant cells points number field e = record { step = λ k marks rows. e (content_of k s marks rows cells points); holds = λ text seed marks rows index l held. tt }
+pub refused_here : (b : List ℕ) (u : OpenLine) (s : State) (meant : Content → Step) (cells points : List ℤ) (r : Refusal) → ((c : Content) → no (number_of r.reason) r.field ≡ meant c) → LineDoes b u s meant cells points cells points (Err r)
+refused_here b u s meant cells points r e = record { step = λ k marks rows. e (content_of k s marks rows cells points); holds = λ text seed marks rows index l held. tt }
 
 -- ## A line by its move
 
@@ -190,12 +210,12 @@ unfolding attribute_line
 unexpected_line m rooms text w fs c = refl
 
 pub by_move : (b : List ℕ) (u : OpenLine) (s : State) (m : Model) (rooms : Rooms) (text : List ℕ) (w : meaning.Underway) (fs : List Field) (cells points cells' points' : List ℤ) (move move' : meaning.Move) → move ≡ move'
-    → (r : state.Step) → LineDoes b u s (λ c. attribute_line m rooms text w fs c move) cells points cells' points' r → LineDoes b u s (λ c. attribute_line m rooms text w fs c move') cells points cells' points' r
+    → (r : Result State Refusal) → LineDoes b u s (λ c. attribute_line m rooms text w fs c move) cells points cells' points' r → LineDoes b u s (λ c. attribute_line m rooms text w fs c move') cells points cells' points' r
 by_move b u s m rooms text w fs cells points cells' points' move move' e r d = subst (λ (x : meaning.Move). LineDoes b u s (λ c. attribute_line m rooms text w fs c x) cells points cells' points' r) e d
 
 -- a line of what is due is a line of the line attribute under way
-pub due_line : (b : List ℕ) (a : Attribute) (u : OpenLine) (s : State) → LineHolds (model_at b) b [] 0 s.cells s.points u → RecordAttribute b u.at a
-    → (rooms : Rooms) (text l : List ℕ) (fs : List Field) (cells points cells' points' : List ℤ) (r : state.Step)
+pub due_line : (b : List ℕ) (a : LineAttribute) (u : OpenLine) (s : State) → LineHolds (model_at b) b [] 0 s.cells s.points u → RecordLine b u.at a
+    → (rooms : Rooms) (text l : List ℕ) (fs : List Field) (cells points cells' points' : List ℤ) (r : Result State Refusal)
     → LineDoes b u s (λ c. attribute_line (model_at b) rooms text (way_of b a u) fs c (meaning.move (line_state_of u.state) (meaning.line_code_of fs))) cells points cells' points' r
     → LineDoes b u s (λ c. line_due (model_at b) rooms text (due_of b (due.Line u)) l fs c) cells points cells' points' r
 unfolding line_due

@@ -1,12 +1,12 @@
--- The code of a line of a line attribute, by the number of its code.
-use Rattle.std.specs.Prelude.{ℕ, eqb}
-use Rattle.meaning.specs.Bytes.{choose}
+-- The code of a line of a line attribute, by the code that its first field is.
+use Rattle.std.specs.Prelude.{Option, Some}
 use Rattle.meaning.specs.Reading.{LineCode, stpt, lipt, arcp, elin, other}
+use Rattle.read_frame.specs.declared.codes.Code.{Code}
+use Rattle.read_frame.specs.declared.codes.Code.TheVariants.{Stpt, Lipt, Arcp, Elin}
 
-unfoldable pub code_of : (number : ℕ) → LineCode
-code_of number =
-    choose (eqb number 9) stpt
-    (choose (eqb number 10) lipt
-    (choose (eqb number 11) arcp
-    (choose (eqb number 12) elin
-    other)))
+abbrev pub code_of : Option Code → LineCode
+code_of (Some Stpt) = stpt
+code_of (Some Lipt) = lipt
+code_of (Some Arcp) = arcp
+code_of (Some Elin) = elin
+code_of _ = other

@@ -1,13 +1,13 @@
 -- How a point joins the table: u is the line attribute under way with its state behind the point, s the state before.
-use Rattle.std.specs.Prelude.{ℕ, ◌+◌, ◌*◌, ◌≤◌, ◌<◌, ◌≡◌, List, ℤ, length}
+use Rattle.std.specs.Prelude.{ℕ, ◌+◌, ◌*◌, ◌≤◌, ◌<◌, ◌≡◌, Result, Ok, Err, IsErrAnd, List, ℤ, length}
+use Rattle.base.specs.declared.reasons.Refusal.{Refusal}
+use Rattle.base.specs.Reasons.{number_of}
 use Rattle.std.proofs.lemmas.List.Edits.{sets}
 use Rattle.meaning.specs.Row.{Cells, cells, refused, point_cells}
 use Rattle.read_state.specs.declared.LineState.{LineState}
 use Rattle.read_state.specs.declared.OpenLine.{OpenLine}
 use Rattle.read_state.specs.declared.Due.TheVariants.{Line}
 use Rattle.read_state.specs.declared.State.{State}
-use Rattle.read_state.specs.declared.Step.{Step}
-use Rattle.read_state.specs.declared.Step.TheVariants.{Go}
 
 -- the line attribute under way with another line state
 abbrev pub moved_to : LineState → OpenLine → OpenLine
@@ -30,11 +30,12 @@ pub record NoRoom (s : State) (entry exit : List ℤ) (number field : ℕ) : Typ
   pub same : exit ≡ entry
   pub full : length entry < 4 * s.points + 4
 
-abbrev pub Stores : (four : List ℤ) → OpenLine → State → (entry exit : List ℤ) → Step → Type 0
-Stores four u s entry exit (Go r) = Stored four u s entry exit r
-Stores four u s entry exit (Step.No number field) = NoRoom s entry exit number field
+abbrev pub Stores : (four : List ℤ) → OpenLine → State → (entry exit : List ℤ) → Result State Refusal → Type 0
+Stores four u s entry exit (Ok r) = Stored four u s entry exit r
+Stores four u s entry exit (Err r) = NoRoom s entry exit (number_of r.reason) r.field
 
 -- the point of these values, or their refusal
-abbrev pub Joins : (kind : ℕ) → OpenLine → State → (entry exit : List ℤ) → Step → Cells → Type 0
+abbrev pub Joins : (kind : ℕ) → OpenLine → State → (entry exit : List ℤ) → Result State Refusal → Cells → Type 0
 Joins kind u s entry exit r (cells values) = Stores (point_cells kind values) u s entry exit r
-Joins kind u s entry exit r (refused number field) = (r ≡ Step.No number field) × (exit ≡ entry)
+Joins kind u s entry exit r (refused number field) =
+    IsErrAnd r (λ e. (number_of e.reason ≡ number) × (e.field ≡ field)) × (exit ≡ entry)

@@ -1,21 +1,20 @@
 -- What a line of the line attribute under way makes of the table, under the model's bytes b.
-use Rattle.std.specs.Prelude.{ℕ, ◌+◌, ◌*◌, ◌≤◌, ◌<◌, ◌^◌, ◌≡◌, List, [], ℤ, length}
+use Rattle.std.specs.Prelude.{ℕ, ◌+◌, ◌*◌, ◌≤◌, ◌<◌, ◌^◌, ◌≡◌, Result, Ok, Err, List, [], ℤ, length}
+use Rattle.base.specs.declared.reasons.Refusal.{Refusal}
 use Rattle.meaning.specs.Model.{Model}
 use Rattle.meaning.specs.Reading as meaning
 use Rattle.meaning.specs.Reading.{Content, due_lines}
 use Rattle.meaning.specs.Lines as lines
 use Rattle.model_records.specs.Components.{components_of}
-use Rattle.model_records.specs.declared.Attribute.{Attribute}
+use Rattle.model_records.specs.declared.attributes.LineAttribute.{LineAttribute}
 use Rattle.model_records.specs.Records.{model_at, next_at}
 use Rattle.read_state.specs.declared.OpenLine.{OpenLine}
 use Rattle.read_state.specs.declared.State.{State}
-use Rattle.read_state.specs.declared.Step.{Step}
-use Rattle.read_state.specs.declared.Step.TheVariants.{Go}
 use Rattle.read_state.specs.Meaning.{line_state_of, lines_at, due_of, content_of, step_of}
 use Rattle.read_state.specs.Holds.{LineHolds, DueHolds, Holds}
 
 -- the line attribute under way, whose record is the attribute a
-abbrev pub way_of : (b : List ℕ) → Attribute → OpenLine → meaning.Underway
+abbrev pub way_of : (b : List ℕ) → LineAttribute → OpenLine → meaning.Underway
 way_of b a u = record {
   table = u.table;
   state = line_state_of u.state;
@@ -23,7 +22,7 @@ way_of b a u = record {
   attribute = record {
     cell = u.cell;
     optional = a.optional;
-    forms = a.number;
+    forms = a.forms;
     components = components_of a.components;
   };
   others = lines_at b (next_at b u.at) (u.cell + 2);
@@ -52,14 +51,14 @@ pub record BehindLine (b : List ℕ) (u : OpenLine) (s : State) (first : ℕ) (r
       → DueHolds (model_at b) b rows n s.cells s.points r.due
 
 -- what holds behind a line
-abbrev pub StepHolds : Model → (b text : List ℕ) (seed : ℕ) → Step
+abbrev pub StepHolds : Model → (b text : List ℕ) (seed : ℕ) → Result State Refusal
     → (marks rows : List ℕ) (cells points : List ℤ) (index : List ℕ) → Type 0
-StepHolds m b text seed (Go s) marks rows cells points index = Holds m b text seed s marks rows cells points index
-StepHolds m b text seed (Step.No number field) marks rows cells points index = Unit {0}
+StepHolds m b text seed (Ok s) marks rows cells points index = Holds m b text seed s marks rows cells points index
+StepHolds m b text seed (Err refusal) marks rows cells points index = Unit {0}
 
 -- a line of the line attribute under way means this, with the cells and points before and behind it; what holds stays
 pub record LineDoes (b : List ℕ) (u : OpenLine) (s : State) (meant : Content → lines.Step)
-    (cells points cells' points' : List ℤ) (r : Step) : Type 0 where
+    (cells points cells' points' : List ℤ) (r : Result State Refusal) : Type 0 where
   pub step : (k : ℕ) (marks rows : List ℕ)
       → step_of b k r marks rows cells' points' ≡ meant (content_of k s marks rows cells points)
   pub holds : (text : List ℕ) (seed : ℕ) (marks rows index : List ℕ)

@@ -6,7 +6,7 @@ ghost use Rattle.meaning.specs.Field.{Field, fields_of};
 ghost use Rattle.meaning.specs.Reading as meaning;
 ghost use Rattle.meaning.specs.Reading.{due_lines, Rooms, move};
 ghost use Rattle.meaning.specs.Lines.{attribute_line, line_due};
-ghost use Rattle.model_records.specs.Attributes.{RecordAttribute};
+ghost use Rattle.model_records.specs.Attributes.{RecordLine};
 ghost use Rattle.model_records.specs.Records.{model_at, pairs_at};
 ghost use Rattle.model_records.specs.AtRecord.{AttributesHere};
 ghost use Rattle.read_state.specs.declared.Due.TheVariants.{Line};
@@ -18,8 +18,9 @@ pub mod moves;
 pub mod point_fields;
 pub mod points;
 
-use model_records::{ATTRIBUTE, Attribute, LINE, counts};
-use read_state::{Due, LineCode, LineState, Move, OpenLine, State, Step};
+use base::reasons::{Reason, Refusal};
+use model_records::{LINE, LineAttribute, counts};
+use read_state::{Due, LineCode, LineState, Move, OpenLine, State};
 
 // The next line attribute among the attribute records from `at` on, whose first pair is at `cell`, or the next object.
 pub fn due_lines(model: &[u8], table: usize, at: usize, cell: usize, first: usize) -> Due
@@ -31,9 +32,8 @@ pub fn due_lines(model: &[u8], table: usize, at: usize, cell: usize, first: usiz
         ((o : ℕ) → o < n → get_or rows o 0 + 2 < cell) → cell + 2 * length (pairs_at b at) ≤ used → first ≤ points
         → DueHolds (model_at b) b rows n used points result }
 {
-    let mut byte = at;
     let mut pair = cell;
-    while model_records::kind_at(model, byte) == ATTRIBUTE {
+    for byte in model_records::attribute_records(model, at) {
         let kind = model[byte + 5];
         if kind == LINE {
             return Due::Line(OpenLine {
@@ -46,7 +46,6 @@ pub fn due_lines(model: &[u8], table: usize, at: usize, cell: usize, first: usiz
         }
         let counts = counts::count_of(kind);
         pair += 2 * counts.pairs;
-        byte = model_records::next_at(model, byte);
     }
     Due::Object(table)
 }
@@ -54,7 +53,7 @@ pub fn due_lines(model: &[u8], table: usize, at: usize, cell: usize, first: usiz
 // A line of the line attribute under way, by its code and the rest behind it; `attribute` is that of its record.
 fn move_line(
     model: &[u8],
-    attribute: Attribute,
+    attribute: LineAttribute,
     code: LineCode,
     rest: &[u8],
     undefined: u8,
@@ -62,9 +61,9 @@ fn move_line(
     points: &mut [i64],
     polyline: OpenLine,
     state: State,
-) -> Step
+) -> Result<State, Refusal>
     requires line_given { LineGiven model.now undefined polyline state cells.old points.old }
-    requires record_attribute { RecordAttribute model.now polyline.at attribute }
+    requires record_line { RecordLine model.now polyline.at attribute }
     ensures { (rooms : Rooms) (text : List ℕ) (fs : List Field) (start : ℕ) → let b = model.now in
         rooms.points ≡ length points.old → drop 1 fs ≡ fields_of start rest.now
         → meaning.line_code_of fs ≡ line_code_of code
@@ -72,9 +71,11 @@ fn move_line(
         LineDoes b polyline state (λ c. attribute_line (model_at b) rooms text (way_of b attribute polyline) fs c moved)
         cells.old points.old cells.new points.new result }
 {
-    let before = polyline.state;
-    match before.step(code) {
-        Move::Unexpected => Step::No(7, 1),
+    match polyline.state.step(code) {
+        Move::Unexpected => Err(Refusal {
+            reason: Reason::OtherCode,
+            field: 1,
+        }),
         Move::UndefinedLine => moves::undefined_line(
             model,
             attribute.optional,
@@ -98,7 +99,7 @@ pub fn attribute_line(
     points: &mut [i64],
     polyline: OpenLine,
     state: State,
-) -> Step
+) -> Result<State, Refusal>
     requires { LineGiven model.now undefined polyline state cells.old points.old }
     ensures { (rooms : Rooms) (text : List ℕ) (start : ℕ) → let b = model.now in
         rooms.points ≡ length points.old
@@ -107,16 +108,14 @@ pub fn attribute_line(
         line.now (fields_of start line.now) c)
         cells.old points.old cells.new points.new result }
 {
-    let at = polyline.at;
     let head = read_frame::codes::head_of(line);
-    let behind = head.behind;
-    let a = model_records::attribute_at(model, at);
+    let attribute = model_records::line_at(model, polyline.at);
     let code = moves::name_code(head.code);
     move_line(
         model,
-        a,
+        attribute,
         code,
-        &line[behind..],
+        &line[head.behind..],
         undefined,
         cells,
         points,

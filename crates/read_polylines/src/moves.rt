@@ -3,24 +3,25 @@ ghost use Rattle.std.specs.Prelude.{◌≡◌, List, ℕ, ◌+◌, ◌*◌, ◌-
 ghost use Rattle.meaning.specs.Field.{Field, fields_of};
 ghost use Rattle.meaning.specs.Reading.{Rooms, undefined_line, ended};
 ghost use Rattle.meaning.specs.Lines.{attribute_line};
-ghost use Rattle.model_records.specs.declared.Attribute.{Attribute};
+ghost use Rattle.model_records.specs.declared.attributes.LineAttribute.{LineAttribute};
 ghost use Rattle.model_records.specs.Records.{model_at};
 ghost use Rattle.read_state.specs.Meaning.{line_code_of};
 ghost use Rattle.read_polylines.specs.Codes.{code_of};
 ghost use Rattle.read_polylines.specs.Ways.{way_of, LineReady, BehindLine, LineDoes};
 
-use read_frame::codes;
-use read_state::{LineCode, OpenLine, State, Step};
+use base::reasons::{Reason, Refusal};
+use read_frame::codes::Code;
+use read_state::{LineCode, OpenLine, State};
 
-// The code of a line, by the number of its code.
-pub(crate) fn name_code(number: u8) -> LineCode
-    ensures { line_code_of result ≡ code_of number }
+// The code of a line, by the code that its first field is. Neither type is of this crate, so it is no `From`.
+pub(crate) fn name_code(code: Option<Code>) -> LineCode
+    ensures { line_code_of result ≡ code_of code }
 {
-    match number {
-        codes::STPT => LineCode::Stpt,
-        codes::LIPT => LineCode::Lipt,
-        codes::ARCP => LineCode::Arcp,
-        codes::ELIN => LineCode::Elin,
+    match code {
+        Some(Code::Stpt) => LineCode::Stpt,
+        Some(Code::Lipt) => LineCode::Lipt,
+        Some(Code::Arcp) => LineCode::Arcp,
+        Some(Code::Elin) => LineCode::Elin,
         _ => LineCode::Other,
     }
 }
@@ -30,15 +31,9 @@ fn behind_line(model: &[u8], polyline: OpenLine, state: State, first: usize) -> 
     requires { LineReady model.now polyline state }
     ensures { BehindLine model.now polyline state first result }
 {
-    let at = polyline.at;
-    let next = model_records::next_at(model, at);
+    let next = model_records::next_at(model, polyline.at);
     let due = crate::due_lines(model, polyline.table, next, polyline.cell + 2, first);
-    State {
-        due,
-        rows: state.rows,
-        cells: state.cells,
-        points: state.points,
-    }
+    State { due, ..state }
 }
 
 // "ELIN alone is an undefined line".
@@ -48,9 +43,9 @@ pub(crate) fn undefined_line(
     rest: &[u8],
     polyline: OpenLine,
     state: State,
-) -> Step
+) -> Result<State, Refusal>
     requires { LineReady model.now polyline state }
-    ensures { (a : Attribute) (rooms : Rooms) (text : List ℕ) (fs : List Field) (start : ℕ)
+    ensures { (a : LineAttribute) (rooms : Rooms) (text : List ℕ) (fs : List Field) (start : ℕ)
         (cells points : List ℤ) → let b = model.now in
         a.optional ≡ optional → drop 1 fs ≡ fields_of start rest.now
         → LineDoes b polyline state
@@ -58,12 +53,18 @@ pub(crate) fn undefined_line(
         cells points cells points result }
 {
     if !optional {
-        return Step::No(12, 1);
+        return Err(Refusal {
+            reason: Reason::UndefinedField,
+            field: 1,
+        });
     }
     if !read_frame::lines::is_bare(rest) {
-        return Step::No(11, 2);
+        return Err(Refusal {
+            reason: Reason::FieldCount,
+            field: 2,
+        });
     }
-    Step::Go(behind_line(model, polyline, state, polyline.first))
+    Ok(behind_line(model, polyline, state, polyline.first))
 }
 
 // "Line: 1 plus its count of points, its first point".
@@ -83,17 +84,20 @@ pub(crate) fn end_line(
     cells: &mut [i64],
     polyline: OpenLine,
     state: State,
-) -> Step
+) -> Result<State, Refusal>
     requires line_ready { LineReady model.now polyline state }
     requires cells_in_bounds { state.cells ≤ length cells.old }
-    ensures { (a : Attribute) (rooms : Rooms) (text : List ℕ) (fs : List Field) (start : ℕ)
+    ensures { (a : LineAttribute) (rooms : Rooms) (text : List ℕ) (fs : List Field) (start : ℕ)
         (points : List ℤ) → let b = model.now in
         4 * state.points ≤ length points → drop 1 fs ≡ fields_of start rest.now
         → LineDoes b polyline state (λ c. attribute_line (model_at b) rooms text (way_of b a polyline) fs c ended)
         cells.old points cells.new points result }
 {
     if !read_frame::lines::is_bare(rest) {
-        return Step::No(11, 2);
+        return Err(Refusal {
+            reason: Reason::FieldCount,
+            field: 2,
+        });
     }
     put_line(
         cells,
@@ -101,5 +105,5 @@ pub(crate) fn end_line(
         state.points - polyline.first,
         polyline.first,
     );
-    Step::Go(behind_line(model, polyline, state, state.points))
+    Ok(behind_line(model, polyline, state, state.points))
 }

@@ -7,15 +7,16 @@ ghost use Rattle.meaning.specs.Reading.{Rooms, point};
 ghost use Rattle.meaning.specs.Lines.{attribute_line};
 ghost use Rattle.model_records.specs.Components.{components_of};
 ghost use Rattle.model_records.specs.Records.{model_at};
-ghost use Rattle.model_records.specs.Attributes.{RecordAttribute};
+ghost use Rattle.model_records.specs.Attributes.{RecordLine};
 ghost use Rattle.read_state.specs.Meaning.{line_state_of, line_code_of};
 ghost use Rattle.read_state.specs.Holds.{LineHolds};
 ghost use Rattle.read_polylines.specs.Ways.{way_of, LineDoes};
 ghost use Rattle.read_polylines.specs.Points.{Stores, Joins};
 
-use crate::point_fields::PointAnswer;
-use model_records::{Attribute, Components};
-use read_state::{Due, LineCode, LineState, OpenLine, State, Step};
+use crate::point_fields;
+use base::reasons::{Reason, Refusal};
+use model_records::{Components, LineAttribute};
+use read_state::{Due, LineCode, LineState, OpenLine, State};
 
 // A point joins the table where there is room for it; the polyline has the line state behind it.
 fn store_point(
@@ -25,21 +26,23 @@ fn store_point(
     count: usize,
     polyline: OpenLine,
     state: State,
-) -> Step
+) -> Result<State, Refusal>
     requires le_count { (2 ≤ count) × (count ≤ 3) × (length values ≡ 3) }
     requires points_in_bounds { 4 * state.points ≤ length points.old }
     ensures { Stores (point_cells kind (take count values)) polyline state points.old points.new result }
 {
     let at = 4 * state.points;
     if points.len() - at < 4 {
-        return Step::No(16, 0);
+        return Err(Refusal {
+            reason: Reason::TableFull,
+            field: 0,
+        });
     }
     table::points::put_point(points, at, kind, values, count);
-    Step::Go(State {
+    Ok(State {
         due: Due::Line(polyline),
-        rows: state.rows,
-        cells: state.cells,
         points: state.points + 1,
+        ..state
     })
 }
 
@@ -52,25 +55,18 @@ fn read_point(
     kind: u8,
     polyline: OpenLine,
     state: State,
-) -> Step
-    requires le_count { (2 ≤ components.count) × (components.count ≤ 3) × (length components.items ≡ 3) }
-    requires points_in_bounds { 4 * state.points ≤ length points.old }
+) -> Result<State, Refusal>
+    requires { 4 * state.points ≤ length points.old }
     ensures { (start : ℕ) → Joins kind polyline state points.old points.new result
         (component_values undefined 2 (components_of components) (fields_of start rest.now)) }
 {
-    let count = components.count;
-    let out = crate::point_fields::point_values(rest, undefined, components);
-    let answer = out.answer;
-    let values = out.values;
-    match answer {
-        PointAnswer::Read => store_point(points, kind, values, count, polyline, state),
-        PointAnswer::No(number, field) => Step::No(number, field),
-    }
+    let values = point_fields::point_values(rest, undefined, components)?;
+    store_point(points, kind, values, components.count, polyline, state)
 }
 
 // The line of a point, whose code makes this line state: 18 comes before its fields.
 pub(crate) fn point_line(
-    attribute: Attribute,
+    attribute: LineAttribute,
     code: LineCode,
     rest: &[u8],
     undefined: u8,
@@ -79,12 +75,10 @@ pub(crate) fn point_line(
     next: LineState,
     polyline: OpenLine,
     state: State,
-) -> Step
-    requires le_count { (2 ≤ attribute.components.count) × (attribute.components.count ≤ 3)
-        × (length attribute.components.items ≡ 3) }
-    requires points_in_bounds { 4 * state.points ≤ length points.old }
+) -> Result<State, Refusal>
+    requires { 4 * state.points ≤ length points.old }
     ensures { (b text : List ℕ) (rooms : Rooms) (fs : List Field) (start : ℕ) (cells : List ℤ)
-        → RecordAttribute b polyline.at attribute
+        → RecordLine b polyline.at attribute
         → LineHolds (model_at b) b [] 0 state.cells state.points polyline
         → (model_at b).undefined ≡ undefined → rooms.points ≡ length points.old
         → drop 1 fs ≡ fields_of start rest.now → meaning.line_code_of fs ≡ line_code_of code
@@ -93,17 +87,23 @@ pub(crate) fn point_line(
         (point kind (line_state_of next)))
         cells points.old cells points.new result }
 {
-    let before = polyline.state;
-    if before.forbids(code, attribute.number) {
-        return Step::No(18, 1);
+    if polyline.state.forbids(code, attribute.forms) {
+        return Err(Refusal {
+            reason: Reason::FormForbidden,
+            field: 1,
+        });
     }
-    let components = attribute.components;
     let moved = OpenLine {
-        table: polyline.table,
         state: next,
-        first: polyline.first,
-        at: polyline.at,
-        cell: polyline.cell,
+        ..polyline
     };
-    read_point(components, rest, undefined, points, kind, moved, state)
+    read_point(
+        attribute.components,
+        rest,
+        undefined,
+        points,
+        kind,
+        moved,
+        state,
+    )
 }

@@ -1,28 +1,14 @@
 -- The pair of a reference, by what is found. Assumes nothing.
-use Prim.Native.Nat.{ℕ, ◌+◌, ◌-◌, ◌<◌}
-use native.Mathlib.Omega.{arith}
-use mathlib.Core.Path.{◌≡◌, refl}
-use mathlib.Core.Bool.{Bool, true, false, ◌&&◌}
-use mathlib.Core.List.{List, [], ◌∷◌}
-use lib.ListN.{length, set}
+use Prim.Native.Nat.{ℕ, ◌+◌, ◌-◌}
+use mathlib.Core.Path.{◌≡◌}
+use mathlib.Core.List.{List}
+use lib.ListN.{set}
 use lib.IntN.{ℤ, pos}
-use lib.Dec.{eqb}
 use borrow.Author.Tests.{eq-eqb, ne_eqb}
 use Rattle.meaning.specs.Bytes.{choose}
 use Rattle.meaning.specs.Model.{found, missing}
-use Rattle.meaning.specs.Value.{same_identification}
 use Rattle.meaning.specs.Reading.{Object, stretch, cell_at}
 use Rattle.meaning.specs.Table.{find_object, resolved, unresolved, put_reference, resolve_pair}
-
--- an object that is found is one of them
-pub found_below : (t n k : ℕ) (i : List ℕ) (os : List Object) → find_object t n i os ≡ found k → k < n + length os
-unfolding find_object choose
-found_below t n k i [] h = let z : ◌≡◌ {A = ℕ} 0 1 = cc in absurd (omega arith)
-found_below t n k i (o ∷ os) h = go (eqb o.table t && same_identification o.identification i) refl (λ g. found_below t (n + 1) k i os g)
-  where
-    go : (x : Bool) → (eqb o.table t && same_identification o.identification i) ≡ x → (find_object t (n + 1) i os ≡ found k → k < n + 1 + length os) → k < n + length (o ∷ os)
-    go true e f = let g : found n ≡ found k = rw e at h in let same : n ≡ k = cc in omega arith
-    go false e f = omega (arith, f (rw e at h))
 
 module _ (text : List ℕ) (os : List Object) (object field cell t : ℕ) (cs : List ℤ) where
   pub pair_undefined : cell_at cs cell ≡ 0 → resolved cs ≡ resolve_pair text os object field cell (found t) cs

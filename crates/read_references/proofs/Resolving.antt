@@ -16,14 +16,13 @@ use Rattle.meaning.specs.Reading.{Object, stretch, cell_at, object_at, objects_o
 use Rattle.meaning.specs.Table.{Resolved, resolved, unresolved, after_resolved, find_object, put_reference, resolve_pair, resolve_pairs, resolve_rows}
 use Rattle.model_records.specs.Records.{kind_at, payload_at, next_at, attributes_at, pairs_at}
 use Rattle.model_records.specs.Places.{attributes_place, table_place, TableRecord, RecordsNoted}
-use Rattle.model_records.specs.AtRecord.{AttributeHere, AttributeNext, AttributesHere}
+use Rattle.model_records.specs.declared.places.Places.{Places}
+use Rattle.model_records.specs.AtRecord.{AttributeNext, AttributesHere}
 use Rattle.model_records.proofs.AtRecord.{attribute_here, no_attribute}
-use Rattle.model_records.proofs.Types.{parts_room}
-use Rattle.table_index.specs.Holds.{IndexedTable}
 use Rattle.table_index.proofs.Kept.{beside_in, held_pair, held_beside, objects_beside}
 use Rattle.table.specs.Rows.{RowsLaidOut}
-use Rattle.read_references.specs.declared.Resolved as declared
-use Rattle.read_references.specs.declared.Resolved.TheVariants.{All, Unresolved}
+use Rattle.std.specs.Prelude.{Result, Ok, Err}
+use Rattle.read_references.specs.declared.Unresolved.{Unresolved}
 use Rattle.read_references.specs.Resolved.{resolved_of, Going, RowHere}
 use Rattle.table.specs.Rows.{PairHere, PairsInRow}
 use Rattle.model_records.specs.Counts.{fields_of, pair_count, CountsOf}
@@ -37,12 +36,12 @@ pub same_cells_lem : (cs ds : List ℤ) → resolved cs ≡ resolved ds → cs �
 same_cells_lem cs ds e = cc
 
 -- what a call answered, by its answer
-module _ (r : declared.Resolved) (ds : List ℤ) (x : Resolved) (e : resolved_of r ds ≡ x) where
-  pub told_all : r ≡ All → resolved ds ≡ x
-  told_all a = sym (ap (λ (q : declared.Resolved). resolved_of q ds) a) ∙ e
+module _ (r : Result Unit Unresolved) (ds : List ℤ) (x : Resolved) (e : resolved_of r ds ≡ x) where
+  pub told_all : (u : Unit) → r ≡ Ok u → resolved ds ≡ x
+  told_all u a = sym (ap (λ (q : Result Unit Unresolved). resolved_of q ds) a) ∙ e
 
-  pub told_unresolved : (object field : ℕ) → r ≡ Unresolved object field → unresolved object field ≡ x
-  told_unresolved object field a = sym (ap (λ (q : declared.Resolved). resolved_of q ds) a) ∙ e
+  pub told_unresolved : (f : Unresolved) → r ≡ Err f → unresolved f.object f.field ≡ x
+  told_unresolved f a = sym (ap (λ (q : Result Unit Unresolved). resolved_of q ds) a) ∙ e
 
 -- ## Cells of a row
 
@@ -58,9 +57,6 @@ in_row_on rows n o cell l size j k e r = record {
 -- ## The objects stay the same
 
 module _ (seed : ℕ) (text rows : List ℕ) (n : ℕ) (index : List ℕ) (cells₀ : List ℤ) where
-  pub going_start : IndexedTable seed text n (length cells₀) rows cells₀ index → Going seed text rows n index cells₀ cells₀
-  going_start h = record { held = h; size = refl; objects = refl }
-
   module _ (o cell k : ℕ) (some : 1 ≤ k) (cs : List ℤ) (g : Going seed text rows n index cells₀ cs) (r : PairsInRow rows n o cell k (length cells₀)) where
     pair_here : PairHere rows n cell cs
     pair_here = record {
@@ -147,16 +143,6 @@ module _ (m : Model) (b : List ℕ) (seed : ℕ) (text rows : List ℕ) (n : ℕ
   abbrev whole : Resolved
   whole = resolve_pairs text os o 3 (get_or rows o 0 + 3) (pairs_at b first) cells₀
 
-  pub attributes_start : IndexedTable seed text n (length cells₀) rows cells₀ index → RowHere m b rows n o first (length cells₀) → (cell : ℕ) → cell ≡ get_or rows o 0 + 3
-      → AttributesLeft m b seed text rows n index o first cells₀ first 3 cell cells₀
-  attributes_start h r cell e = record {
-    attributes = r.attributes;
-    going = going_start seed text rows n index cells₀ h;
-    row = rw e r.row;
-    fields = omega arith;
-    same = rw e;
-  }
-
   module _ (at field cell : ℕ) (cs : List ℤ) (i : AttributesLeft m b seed text rows n index o first cells₀ at field cell cs) where
     -- no attribute record more
     pub attributes_end : (kind_at b at ≡ 5 → ⊥) → resolved cs ≡ whole
@@ -166,12 +152,6 @@ module _ (m : Model) (b : List ℕ) (seed : ℕ) (text rows : List ℕ) (n : ℕ
     module _ (e : kind_at b at ≡ 5) where
       abbrev a : AttributeNext m b at i.attributes.topics i.attributes.tables
       a = attribute_here m b at i.attributes.topics i.attributes.tables i.attributes.standing e
-
-      pub attribute_good : AttributeHere b at
-      attribute_good = a.good
-
-      pub type_room : at + 6 ≤ length b
-      type_room = omega (arith, parts_room b at a.good, a.good.fits)
 
       pub attribute_pair : PairHere rows n cell cs
       attribute_pair =
@@ -215,18 +195,14 @@ module _ (m : Model) (b : List ℕ) (seed : ℕ) (text rows : List ℕ) (n : ℕ
 -- resolved up to the row of object o
 pub record RowsLeft (ts : List Table) (seed : ℕ) (text rows : List ℕ) (n : ℕ) (index : List ℕ) (cells₀ : List ℤ) (o : ℕ) (cells : List ℤ) : Type 0 where
   pub going : Going seed text rows n index cells₀ cells
-  pub count : o ≤ n
   pub same : resolve_rows text (objects_of text cells₀ (take n rows)) ts o (drop o (take n rows)) cells ≡ resolve_rows text (objects_of text cells₀ (take n rows)) ts 0 (take n rows) cells₀
 
-module _ (m : Model) (b places : List ℕ) (seed : ℕ) (text rows : List ℕ) (n : ℕ) (index : List ℕ) (cells₀ : List ℤ) where
+module _ (m : Model) (b : List ℕ) (places : Places) (seed : ℕ) (text rows : List ℕ) (n : ℕ) (index : List ℕ) (cells₀ : List ℤ) where
   abbrev objects : List Object
   objects = objects_of text cells₀ (take n rows)
 
   abbrev answer : Resolved
   answer = resolve_rows text objects m.tables 0 (take n rows) cells₀
-
-  pub rows_start : IndexedTable seed text n (length cells₀) rows cells₀ index → RowsLeft m.tables seed text rows n index cells₀ 0 cells₀
-  rows_start h = record { going = going_start seed text rows n index cells₀ h; count = omega arith; same = refl }
 
   module _ (o : ℕ) (cs : List ℤ) (i : RowsLeft m.tables seed text rows n index cells₀ o cs) where
     -- no row more
@@ -277,7 +253,6 @@ module _ (m : Model) (b places : List ℕ) (seed : ℕ) (text rows : List ℕ) (
           → RowsLeft m.tables seed text rows n index cells₀ (o + 1) ds
       rows_on at e ds r = record {
         going = pairs_going seed text rows n index cells₀ _ o o (pairs_at b at) 3 (get_or rows o 0 + 3) cs ds i.going (rw i.going.size at (row_here at e).row) (sym r);
-        count = omega arith;
         same = ap (λ (x : Resolved). after_resolved x (λ es. resolve_rows text objects m.tables (o + 1) (drop (o + 1) (take n rows)) es)) r ∙ sym (row_turn at e) ∙ i.same;
       }
 

@@ -1,10 +1,12 @@
 -- What the state of reading means: each case of this crate's enums with its case of the meaning.
-use Rattle.std.specs.Prelude.{ℕ, ◌+◌, ◌*◌, List, [], ◌∷◌, ℤ, take, drop}
+use Rattle.std.specs.Prelude.{ℕ, ◌+◌, ◌*◌, Result, Ok, Err, List, [], ◌∷◌, ℤ, take, drop}
 use Rattle.meaning.specs.Model.{records_from, attributes_of}
 use Rattle.meaning.specs.Row.{pairs_of}
 use Rattle.meaning.specs.Reading as meaning
 use Rattle.meaning.specs.Reading.{LineAttribute, line_attributes, Content, with_mark}
 use Rattle.meaning.specs.Lines as lines
+use Rattle.base.specs.Reasons.{number_of}
+use Rattle.base.specs.declared.reasons.Refusal.{Refusal}
 use Rattle.read_state.specs.declared.LineState.{LineState}
 use Rattle.read_state.specs.declared.LineState.TheVariants.{Unstarted, Started, InArc, Reached}
 use Rattle.read_state.specs.declared.LineCode.{LineCode}
@@ -16,11 +18,7 @@ use Rattle.read_state.specs.declared.Due.{Due}
 use Rattle.read_state.specs.declared.Due.TheVariants.{Frame, Object, Line}
 use Rattle.read_state.specs.declared.FrameDue.{FrameDue}
 use Rattle.read_state.specs.declared.FrameDue.TheVariants as frame
-use Rattle.read_state.specs.declared.NextDue.{NextDue}
-use Rattle.read_state.specs.declared.NextDue.TheVariants.{To}
 use Rattle.read_state.specs.declared.State.{State}
-use Rattle.read_state.specs.declared.Step.{Step}
-use Rattle.read_state.specs.declared.Step.TheVariants.{Go}
 
 -- ## The line state
 
@@ -96,14 +94,14 @@ marked_by topics (Object table) c = with_mark (topics + table) c
 marked_by topics (Line u) c = c
 
 -- behind a line that leaves the table as it is
-abbrev pub next_due_of : (model : List ℕ) → NextDue → Content → lines.Step
-next_due_of model (To due) c = lines.go (due_of model due) c
-next_due_of model (NextDue.No number field) c = lines.no number field
+abbrev pub next_due_of : (model : List ℕ) → Result Due Refusal → Content → lines.Step
+next_due_of model (Ok due) c = lines.go (due_of model due) c
+next_due_of model (Err refusal) c = lines.no (number_of refusal.reason) refusal.field
 
 -- behind a line that begins a topic or a table, or ends one
-abbrev pub marked_of : (model : List ℕ) (topics : ℕ) → NextDue → Content → lines.Step
-marked_of model topics (To due) c = lines.go (due_of model due) (marked_by topics due c)
-marked_of model topics (NextDue.No number field) c = lines.no number field
+abbrev pub marked_of : (model : List ℕ) (topics : ℕ) → Result Due Refusal → Content → lines.Step
+marked_of model topics (Ok due) c = lines.go (due_of model due) (marked_by topics due c)
+marked_of model topics (Err refusal) c = lines.no (number_of refusal.reason) refusal.field
 
 -- the table so far, in the lent buffers, of so many marks
 abbrev pub content_of : (mark_count : ℕ) → State → (marks rows : List ℕ) (cells points : List ℤ) → Content
@@ -116,7 +114,7 @@ content_of mark_count s marks rows cells points =
     }
 
 abbrev pub step_of : (model : List ℕ) (mark_count : ℕ)
-    → Step → (marks rows : List ℕ) (cells points : List ℤ) → lines.Step
-step_of model mark_count (Go s) marks rows cells points =
+    → Result State Refusal → (marks rows : List ℕ) (cells points : List ℤ) → lines.Step
+step_of model mark_count (Ok s) marks rows cells points =
     lines.go (due_of model s.due) (content_of mark_count s marks rows cells points)
-step_of model mark_count (Step.No number field) marks rows cells points = lines.no number field
+step_of model mark_count (Err refusal) marks rows cells points = lines.no (number_of refusal.reason) refusal.field

@@ -1,12 +1,13 @@
-//! The state of reading, by value: what is due, the line state, and how much of each buffer is used.
+//! The state of reading, by value: what is due, the line state, and how much of each buffer is used; a line in its
+//! text, and the lent buffers.
 #![tactic(auto)]
 
-ghost use Rattle.std.specs.Prelude.{◌≡◌};
-ghost use Rattle.meaning.specs.Reading.{unstarted, started, in_arc, reached, lipt, move, is_forbidden};
+ghost use Rattle.std.specs.Prelude.{◌≡◌, ◌-◌, ◌≤◌, ◌<◌, ◌^◌, length};
+ghost use Rattle.meaning.specs.Reading.{stretch, unstarted, started, in_arc, reached, lipt, move, is_forbidden};
 ghost use Rattle.read_state.specs.Meaning.{line_state_of, line_code_of, move_of};
 
 // How far the lines of a line attribute have come.
-#[derive(Clone, Copy)]
+#[derive(Clone, Copy, Debug, PartialEq, Eq)]
 pub enum LineState {
     Unstarted,
     Started,
@@ -15,7 +16,7 @@ pub enum LineState {
 }
 
 // The code of one of its lines.
-#[derive(Clone, Copy)]
+#[derive(Clone, Copy, Debug, PartialEq, Eq)]
 pub enum LineCode {
     Stpt,
     Lipt,
@@ -155,13 +156,6 @@ pub enum Due {
     Line(OpenLine),
 }
 
-// What is due behind a line that adds nothing to the rows, cells and points; or a refusal and its field.
-#[derive(Clone, Copy)]
-pub enum NextDue {
-    To(Due),
-    No(u8, usize),
-}
-
 // What is due, and the counts of rows, cells and points read.
 #[derive(Clone, Copy)]
 pub struct State {
@@ -171,9 +165,32 @@ pub struct State {
     pub points: usize,
 }
 
-// The state behind a line, or a refusal and its field.
+// The line that stands in the text from `at` to `end`.
 #[derive(Clone, Copy)]
-pub enum Step {
-    Go(State),
-    No(u8, usize),
+pub struct Line<'a> {
+    pub text: &'a [u8],
+    pub at: usize,
+    pub end: usize,
+    ghost inside: { (at ≤ end) × (end ≤ length text.now) },
+    ghost short: { length text.now < 2 ^ 62 },
+}
+
+impl<'a> Line<'a> {
+    // Its bytes.
+    pub fn bytes(&self) -> &'a [u8]
+        ensures { result.now ≡ stretch self.now.text.now self.now.at (self.now.end - self.now.at) }
+    {
+        &self.text[self.at..self.end]
+    }
+}
+
+// The lent buffers of the table that is read, its index, and the index's seed.
+#[derive(Drop)]
+pub struct Buffers<'a> {
+    pub marks: &'a mut [u8],
+    pub rows: &'a mut [u64],
+    pub cells: &'a mut [i64],
+    pub points: &'a mut [i64],
+    pub index: &'a mut [u64],
+    pub seed: u64,
 }

@@ -19,15 +19,16 @@ use Rattle.meaning.proofs.Tests.Refuse.{passed}
 use Rattle.model_records.specs.Records.{model_at}
 use Rattle.model_records.specs.Places.{RecordsPlaced, attributes_place}
 use Rattle.model_records.specs.declared.places.Shape.{Shape}
+use Rattle.model_records.specs.declared.places.Places.{Places}
 use Rattle.read_state.specs.declared.Due.{Due}
 use Rattle.read_state.specs.declared.Due.TheVariants.{Frame, Object, Line}
 use Rattle.read_state.specs.declared.FrameDue.{FrameDue}
 use Rattle.read_state.specs.declared.FrameDue.TheVariants as frame
-use Rattle.read_state.specs.declared.NextDue.{NextDue}
-use Rattle.read_state.specs.declared.NextDue.TheVariants.{To, No}
+use Rattle.base.specs.declared.reasons.Refusal.{Refusal}
+use Rattle.std.proofs.Common.{Result, Ok}
 use Rattle.read_state.specs.declared.State.{State}
 use Rattle.read_state.specs.declared.OpenLine.{OpenLine}
-use Rattle.read_state.specs.declared.Step.{Step}
+use Rattle.read_frame.specs.Codes.{place_or_0}
 use Rattle.read_state.specs.Meaning.{frame_due_of, due_of, topic_marked_by, marked_by, next_due_of, marked_of, content_of, step_of}
 use Rattle.read_state.specs.Holds.{Holds}
 use Rattle.read_frame.specs.Heads.{HeadOf}
@@ -44,17 +45,11 @@ use Rattle.read_step.specs.Steps.{topic_marks_by, marks_by, Steps, line_meant}
 abbrev pub due_next : Due → State → State
 due_next due s = record { due = due; rows = s.rows; cells = s.cells; points = s.points }
 
-pub moved_to : (b : List ℕ) (moved : NextDue) (due : Due) (c : Content) → moved ≡ To due → lines.go (due_of b due) c ≡ next_due_of b moved c
-moved_to b moved due c e = sym (ap (λ (x : NextDue). next_due_of b x c) e)
-
-pub moved_no : (b : List ℕ) (moved : NextDue) (number field : ℕ) (c : Content) → moved ≡ No number field → lines.no number field ≡ next_due_of b moved c
-moved_no b moved number field c e = sym (ap (λ (x : NextDue). next_due_of b x c) e)
-
-pub marked_no : (b : List ℕ) (topics : ℕ) (moved : NextDue) (number field : ℕ) (c : Content) → moved ≡ No number field → lines.no number field ≡ marked_of b topics moved c
-marked_no b topics moved number field c e = sym (ap (λ (x : NextDue). marked_of b topics x c) e)
+pub moved_to : (b : List ℕ) (moved : Result Due Refusal) (due : Due) (c : Content) → moved ≡ Ok due → lines.go (due_of b due) c ≡ next_due_of b moved c
+moved_to b moved due c e = sym (ap (λ (x : Result Due Refusal). next_due_of b x c) e)
 
 -- what holds stays, with so many marks as before
-pub next_holds : (b text : List ℕ) (seed : ℕ) (s : State) (moved : NextDue) (due : Due) (marks marks' rows : List ℕ) (cells points : List ℤ) (index : List ℕ) → moved ≡ To due → length marks' ≡ length marks
+pub next_holds : (b text : List ℕ) (seed : ℕ) (s : State) (moved : Result Due Refusal) (due : Due) (marks marks' rows : List ℕ) (cells points : List ℤ) (index : List ℕ) → moved ≡ Ok due → length marks' ≡ length marks
     → NextDueHolds (model_at b) b moved → Holds (model_at b) b text seed s marks rows cells points index → Holds (model_at b) b text seed (due_next due s) marks' rows cells points index
 next_holds b text seed s moved due marks marks' rows cells points index e n d h = record {
   due = subst (NextDueHolds (model_at b) b) e d rows s.rows s.cells s.points;
@@ -101,11 +96,11 @@ module _ (topics : ℕ) (due : Due) (marks marks' : List ℕ) (e : marks' ≡ ma
       ap (λ (x : List ℕ). record { marks = x; rows = take s.rows rows; cells = take s.cells cells; points = take (4 * s.points) points }) all_marks
       ∙ (due_marks topics due).0 (content_of (length marks) s marks rows cells points)
 
-  pub marked_to : (b : List ℕ) (moved : NextDue) → moved ≡ To due → (s : State) (rows : List ℕ) (cells points : List ℤ)
+  pub marked_to : (b : List ℕ) (moved : Result Due Refusal) → moved ≡ Ok due → (s : State) (rows : List ℕ) (cells points : List ℤ)
       → lines.go (due_of b due) (content_of (length marks) s marks' rows cells points) ≡ marked_of b topics moved (content_of (length marks) s marks rows cells points)
   marked_to b moved m s rows cells points =
       ap (lines.go (due_of b due)) (marked_taken s rows cells points)
-      ∙ sym (ap (λ (x : NextDue). marked_of b topics x (content_of (length marks) s marks rows cells points)) m)
+      ∙ sym (ap (λ (x : Result Due Refusal). marked_of b topics x (content_of (length marks) s marks rows cells points)) m)
 
 -- ## What a good model bounds
 
@@ -125,7 +120,7 @@ pub by_frame : (m : model.Model) (rooms : Rooms) (text : List ℕ) (due due' : F
 by_frame m rooms text due due' l fs c x e h = h ∙ sym (ap (λ (d : FrameDue). line_due m rooms text (frame_due_of d) l fs c) e)
 
 -- what a line outside objects does: it means this, and what holds stays
-abbrev FrameSteps : (b : List ℕ) (s : State) (l marks marks' : List ℕ) (due : FrameDue) (r : Step) → Type 0
+abbrev FrameSteps : (b : List ℕ) (s : State) (l marks marks' : List ℕ) (due : FrameDue) (r : Result State Refusal) → Type 0
 FrameSteps b s l marks marks' due r =
     ((rooms : Rooms) (text : List ℕ) (start : ℕ) (rows : List ℕ) (cells points : List ℤ)
     → step_of b (length marks) r marks' rows cells points
@@ -133,7 +128,7 @@ FrameSteps b s l marks marks' due r =
     × ((text : List ℕ) (seed : ℕ) (rows : List ℕ) (cells points : List ℤ) (index : List ℕ)
     → Holds (model_at b) b text seed s marks rows cells points index → StepHolds (model_at b) b text seed r marks' rows cells points index)
 
-module _ (b : List ℕ) (s : State) (l marks : List ℕ) (due due' : FrameDue) (e : due ≡ due') (moved : NextDue) (r : Step) (d : NextDueHolds (model_at b) b moved) where
+module _ (b : List ℕ) (s : State) (l marks : List ℕ) (due due' : FrameDue) (e : due ≡ due') (moved : Result Due Refusal) (r : Result State Refusal) (d : NextDueHolds (model_at b) b moved) where
   -- by a step that leaves the marks
   pub plain_frame :
       ((k : ℕ) (marks rows : List ℕ) (cells points : List ℤ) → step_of b k r marks rows cells points ≡ next_due_of b moved (content_of k s marks rows cells points))
@@ -166,7 +161,7 @@ module _ (b : List ℕ) (s : State) (l marks : List ℕ) (due due' : FrameDue) (
 -- ## A line among objects
 
 -- the table whose objects are read, by its number and the byte of its attributes
-pub table_open : (b : List ℕ) (shape : Shape) (places : List ℕ) (t first : ℕ) → RecordsPlaced b shape places → t < shape.tables → first ≡ attributes_place b places t
+pub table_open : (b : List ℕ) (shape : Shape) (places : Places) (t first : ℕ) → RecordsPlaced b shape places → t < shape.tables → first ≡ attributes_place b places t
     → TableHolds (model_at b) b (record { table = t; at = first })
 table_open b shape places t first p l e =
     let r = p.noted.table t l in
@@ -180,7 +175,7 @@ behind_within text at end behind a e h =
     omega arith
 
 -- a line that adds this adds the same by another name
-pub adds_as : (b text : List ℕ) (seed : ℕ) (s : State) (meant meant' : Rooms → Content → lines.Step) (rows rows' : List ℕ) (cells cells' : List ℤ) (index index' : List ℕ) (r : Step)
+pub adds_as : (b text : List ℕ) (seed : ℕ) (s : State) (meant meant' : Rooms → Content → lines.Step) (rows rows' : List ℕ) (cells cells' : List ℤ) (index index' : List ℕ) (r : Result State Refusal)
     → ((rooms : Rooms) (c : Content) → meant rooms c ≡ meant' rooms c) → RowAdds b text seed s meant rows rows' cells cells' index index' r → RowAdds b text seed s meant' rows rows' cells cells' index index' r
 adds_as b text seed s meant meant' rows rows' cells cells' index index' r e a = record {
   step = λ k rooms marks points er ec fits. a.step k rooms marks points er ec fits ∙ e rooms (content_of k s marks rows cells points);
@@ -188,16 +183,16 @@ adds_as b text seed s meant meant' rows rows' cells cells' index index' r e a = 
 }
 
 module _ (m : model.Model) (rooms : Rooms) (text l : List ℕ) (h : Head) (o : HeadOf l h) (t s : ℕ) (c : Content) where
-  code_object : has_code OBJE (fields_of s l) ≡ eqb h.code 8
+  code_object : has_code OBJE (fields_of s l) ≡ eqb (place_or_0 h.code) 8
   code_object = o.code 7 (omega arith) s
 
-  pub object_here : h.code ≡ 8 → object_fields m rooms text t (fields_of s l) c ≡ object_line m rooms text t (fields_of s l) c
+  pub object_here : place_or_0 h.code ≡ 8 → object_fields m rooms text t (fields_of s l) c ≡ object_line m rooms text t (fields_of s l) c
   unfolding object_line choose
-  object_here e = rw (code_object, eq-eqb h.code 8 e)
+  object_here e = rw (code_object, eq-eqb (place_or_0 h.code) 8 e)
 
-  pub object_none : (h.code ≡ 8 → ⊥) → behind_objects m rooms text t (fields_of s l) c ≡ object_line m rooms text t (fields_of s l) c
+  pub object_none : (place_or_0 h.code ≡ 8 → ⊥) → behind_objects m rooms text t (fields_of s l) c ≡ object_line m rooms text t (fields_of s l) c
   unfolding object_line choose
-  object_none e = rw (code_object, ne_eqb h.code 8 e)
+  object_none e = rw (code_object, ne_eqb (place_or_0 h.code) 8 e)
 
 -- ## What a line does to the buffers
 
@@ -207,7 +202,7 @@ by_due m rooms text b due due' l fs c x e h = h ∙ sym (ap (λ (d : Due). line_
 
 module _ (b text : List ℕ) (seed : ℕ) (s : State) (at size : ℕ) (marks rows : List ℕ) (cells points : List ℤ) (index : List ℕ) (h : Holds (model_at b) b text seed s marks rows cells points index) where
   -- a line outside objects
-  pub frame_steps : (due : FrameDue) (marks' : List ℕ) (r : Step) → s.due ≡ Frame due → FrameSteps b s (stretch text at size) marks marks' due r
+  pub frame_steps : (due : FrameDue) (marks' : List ℕ) (r : Result State Refusal) → s.due ≡ Frame due → FrameSteps b s (stretch text at size) marks marks' due r
       → Steps b text seed s (line_meant b text at size s.due) marks rows cells points index marks' rows cells points index r
   unfolding due_of
   frame_steps due marks' r e f = record {
@@ -218,7 +213,7 @@ module _ (b text : List ℕ) (seed : ℕ) (s : State) (at size : ℕ) (marks row
   }
 
   -- a line among the objects of a table
-  pub object_steps : (table : ℕ) (rows' : List ℕ) (cells' : List ℤ) (index' : List ℕ) (r : Step) → s.due ≡ Object table
+  pub object_steps : (table : ℕ) (rows' : List ℕ) (cells' : List ℤ) (index' : List ℕ) (r : Result State Refusal) → s.due ≡ Object table
       → RowAdds b text seed s (λ rooms c. object_line (model_at b) rooms text table (fields_of at (stretch text at size)) c) rows rows' cells cells' index index' r
       → Steps b text seed s (line_meant b text at size s.due) marks rows cells points index marks rows' cells' points index' r
   unfolding line_due due_of
@@ -230,7 +225,7 @@ module _ (b text : List ℕ) (seed : ℕ) (s : State) (at size : ℕ) (marks row
   }
 
   -- a line of the line attribute under way
-  pub line_steps : (u : OpenLine) (cells' points' : List ℤ) (r : Step) → s.due ≡ Line u
+  pub line_steps : (u : OpenLine) (cells' points' : List ℤ) (r : Result State Refusal) → s.due ≡ Line u
       → ((rooms : Rooms) (t : List ℕ) (start : ℕ) → rooms.points ≡ length points → LineDoes b u s (λ c. line_due (model_at b) rooms t (due_of b (Line u)) (stretch text at size) (fields_of start (stretch text at size)) c) cells points cells' points' r)
       → Steps b text seed s (line_meant b text at size s.due) marks rows cells points index marks rows cells' points' index r
   line_steps u cells' points' r e d = record {

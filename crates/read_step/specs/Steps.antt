@@ -1,17 +1,17 @@
 -- What a line makes of the state, under the model's bytes b: what it may take for granted, and what it does to the lent
 -- buffers.
-use Rattle.std.specs.Prelude.{ℕ, ◌+◌, ◌≡◌, List, ℤ, length}
+use Rattle.std.specs.Prelude.{ℕ, ◌+◌, ◌≡◌, Result, List, ℤ, length}
 use Rattle.meaning.specs.Field.{fields_of}
 use Rattle.meaning.specs.Reading.{Content, Rooms, stretch}
 use Rattle.meaning.specs.Lines as lines
 use Rattle.model_records.specs.Records.{model_at}
-use Rattle.model_records.specs.declared.places.Shape.{Shape}
-use Rattle.model_records.specs.Places.{RecordsPlaced}
+use Rattle.model_records.specs.declared.places.Records.{Records}
+use Rattle.model_records.specs.Places.{Placed}
 use Rattle.read_state.specs.Meaning.{topic_marked_by, marked_by, due_of, content_of, step_of}
 use Rattle.read_state.specs.declared.FrameDue.{FrameDue}
 use Rattle.read_state.specs.declared.Due.{Due}
 use Rattle.read_state.specs.declared.State.{State}
-use Rattle.read_state.specs.declared.Step.{Step}
+use Rattle.base.specs.declared.reasons.Refusal.{Refusal}
 use Rattle.read_polylines.specs.Ways.{StepHolds}
 use Rattle.table.specs.Contents.{marks_only}
 
@@ -28,14 +28,14 @@ marks_by topics due marks = (marked_by topics due (marks_only marks)).marks
 -- ## A line
 
 -- what every line may take for granted: a good model with its shape and its places, and a mark for each topic and table
-pub record Prepared (b : List ℕ) (shape : Shape) (places marks : List ℕ) : Type 0 where
-  pub placed : RecordsPlaced b shape places
-  pub mark_count : length marks ≡ shape.topics + shape.tables
+pub record Prepared (r : Records) (marks : List ℕ) : Type 0 where
+  pub placed : Placed r
+  pub mark_count : length marks ≡ r.shape.topics + r.shape.tables
 
 -- a step means this, with the buffers before and behind it; and what holds stays
 pub record Steps (b text : List ℕ) (seed : ℕ) (s : State) (meant : Rooms → Content → lines.Step) (marks rows : List ℕ)
     (cells points : List ℤ) (index : List ℕ) (marks' rows' : List ℕ) (cells' points' : List ℤ) (index' : List ℕ)
-    (r : Step) : Type 0 where
+    (r : Result State Refusal) : Type 0 where
   pub step : (rooms : Rooms) → rooms.rows ≡ length rows → rooms.cells ≡ length cells → rooms.points ≡ length points
       → step_of b (length marks) r marks' rows' cells' points'
       ≡ meant rooms (content_of (length marks) s marks rows cells points)

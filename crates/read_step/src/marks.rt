@@ -8,10 +8,8 @@ use read_state::{Due, FrameDue};
 fn put_mark(marks: &mut [u8], first: usize, n: usize)
     ensures { marks.new ≡ set marks.old (first + n) 1 }
 {
-    if first < marks.len() {
-        if n < marks.len() - first {
-            marks[first + n] = 1;
-        }
+    if first < marks.len() && n < marks.len() - first {
+        marks[first + n] = 1;
     }
 }
 
@@ -19,17 +17,8 @@ fn put_mark(marks: &mut [u8], first: usize, n: usize)
 fn mark_topic(marks: &mut [u8], due: FrameDue)
     ensures { marks.new ≡ topic_marks_by due marks.old }
 {
-    match due {
-        FrameDue::Opening => {}
-        FrameDue::Description => {}
-        FrameDue::Transfer => {}
-        FrameDue::ModelName => {}
-        FrameDue::Topic(_) => {}
-        FrameDue::Table(topic, _) => {
-            put_mark(marks, 0, topic);
-        }
-        FrameDue::Closing => {}
-        FrameDue::Nothing => {}
+    if let FrameDue::Table(topic, _) = due {
+        put_mark(marks, 0, topic);
     }
 }
 

@@ -11,11 +11,8 @@ use Rattle.meaning.specs.Lines.{Run, stopped}
 use Rattle.meaning.specs.Table.{Resolved, resolved, unresolved, resolve_rows, resolve, Result, refused_with, accepted_with, read_resolved, read_run}
 use Rattle.model_records.specs.Records.{model_at}
 use Rattle.read_state.specs.declared.State.{State}
-use Rattle.read_text.specs.Outcomes.{AllRead, RanTo, Fits, used_of, TableRead}
-use Rattle.read_text.specs.declared.loops.LinesRun.{LinesRun}
-use Rattle.read_text.specs.declared.loops.LinesRun.TheVariants.{Read, Stopped}
-use Rattle.read_text.specs.declared.Answer.{Answer}
-use Rattle.read_text.specs.declared.Answer.TheVariants.{Accepted}
+use Rattle.read_text.specs.Outcomes.{AllRead, Answer, Fits, used_of, TableRead}
+use Rattle.std.proofs.Common.{Ok}
 
 -- ## References
 
@@ -23,7 +20,7 @@ module _ (m : Model) (rooms : Rooms) (text marks rows : List ℕ) (cells points 
   -- the cells that count stand, resolved, before those behind them
   pub resolved_read : (lent : List ℤ) → length lent ≡ length (take c cells) → c ≤ length cells
       → resolved lent ≡ resolve_rows text (objects_of text (take c cells) (take o rows)) m.tables 0 (take o rows) (take c cells)
-      → TableRead (read_resolved rooms text (used_of marks rows cells points o c p) (resolve m text (used_of marks rows cells points o c p))) rooms text marks rows (lent ++ drop c cells) points (Accepted o c p)
+      → TableRead (read_resolved rooms text (used_of marks rows cells points o c p) (resolve m text (used_of marks rows cells points o c p))) rooms text marks rows (lent ++ drop c cells) points (Ok (record { objects = o; cells = c; points = p }))
   unfolding resolve read_resolved accepted_with
   resolved_read lent l h e =
       ap (λ (q : Resolved). read_resolved rooms text (used_of marks rows cells points o c p) q) (sym e)
@@ -36,7 +33,7 @@ module _ (m : Model) (rooms : Rooms) (text marks rows : List ℕ) (cells points 
   unresolved_read object field e = ap (λ (q : Resolved). read_resolved rooms text (used_of marks rows cells points o c p) q) (sym e)
 
 pub resolved_fits : (rows : List ℕ) (cells lent points : List ℤ) (o c p : ℕ) → o ≤ length rows → c ≤ length cells → 4 * p ≤ length points → length lent ≡ length (take c cells)
-    → Fits rows (lent ++ drop c cells) points (Accepted o c p)
+    → Fits rows (lent ++ drop c cells) points (Ok (record { objects = o; cells = c; points = p }))
 resolved_fits rows cells lent points o c p ho hc hp l = (ho, rw (length_front cells lent c l) hc, hp)
 
 -- ## The lines, then the references
@@ -46,13 +43,6 @@ unfolding read_run
 stopped_read m rooms text run number line field e = ap (read_run m rooms text) e
 
 module _ (b text : List ℕ) (seed : ℕ) (marks rows : List ℕ) (cells points : List ℤ) (index : List ℕ) (run : Run) where
-  -- what the lines came to, by the answer
-  pub ran_read : (r : LinesRun) (s : State) → r ≡ Read s → RanTo b text seed marks rows cells points index run r → AllRead b text seed marks rows cells points index run s
-  ran_read r s e h = subst (RanTo b text seed marks rows cells points index run) e h
-
-  pub ran_stopped : (r : LinesRun) (number line field : ℕ) → r ≡ Stopped number line field → RanTo b text seed marks rows cells points index run r → run ≡ stopped number line field
-  ran_stopped r number line field e h = subst (RanTo b text seed marks rows cells points index run) e h
-
   module _ (rooms : Rooms) (s : State) (h : AllRead b text seed marks rows cells points index run s) where
     lines_read : read_run (model_at b) rooms text run ≡ read_resolved rooms text (used_of marks rows cells points s.rows s.cells s.points) (resolve (model_at b) text (used_of marks rows cells points s.rows s.cells s.points))
     unfolding read_run

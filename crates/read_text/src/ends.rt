@@ -8,12 +8,10 @@ pub(crate) fn end_of_line(text: &[u8], at: usize) -> usize
     ensures end { result ≡ at + line_end (drop at text.now) }
     ensures within { result ≤ length text.now }
 {
-    let mut i = at;
-    while i < text.len() {
+    for i in at..text.len() {
         if text[i] == 10 {
             return i;
         }
-        i += 1;
     }
-    i
+    text.len()
 }

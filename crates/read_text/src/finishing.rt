@@ -3,7 +3,6 @@ ghost use Rattle.std.specs.Prelude.{◌≡◌, length, replicate};
 ghost use Rattle.read_text.specs.Outcomes.{Fits, Finished, Zeroed};
 
 use crate::Answer;
-use base::rooms;
 
 // "All result buffers are zeroed by every refusal".
 fn clear_all(
@@ -17,11 +16,11 @@ fn clear_all(
         text.old marks.old rows.old cells.old points.old
         text.new marks.new rows.new cells.new points.new }
 {
-    rooms::clear(text);
-    rooms::clear(marks);
-    rooms::clear_numbers(rows);
-    rooms::clear_cells(cells);
-    rooms::clear_cells(points);
+    text.fill(0);
+    marks.fill(0);
+    rows.fill(0);
+    cells.fill(0);
+    points.fill(0);
 }
 
 // "Every result buffer is zero behind its used part", and the index is all zeros.
@@ -42,11 +41,11 @@ pub fn finish(
 {
     table_index::clear(index);
     match answer {
-        Answer::Accepted(objects, used, count) => {
-            rooms::clear_numbers(&mut rows[objects..]);
-            rooms::clear_cells(&mut cells[used..]);
-            rooms::clear_cells(&mut points[4 * count..]);
+        Ok(used) => {
+            rows[used.objects..].fill(0);
+            cells[used.cells..].fill(0);
+            points[4 * used.points..].fill(0);
         }
-        Answer::Refused(_, _, _) => clear_all(text, marks, rows, cells, points),
+        Err(_) => clear_all(text, marks, rows, cells, points),
     }
 }

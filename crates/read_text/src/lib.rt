@@ -6,9 +6,8 @@ pub mod finishing;
 mod loops;
 pub mod tables;
 
+use base::reasons::Refused;
+use table::Used;
+
 // "0, objects, cells, points; or a refusal, two place numbers, 0".
-#[derive(Clone, Copy)]
-pub enum Answer {
-    Accepted(usize, usize, usize),
-    Refused(u8, usize, usize),
-}
+pub type Answer = Result<Used, Refused>;

@@ -1,3 +1,3 @@
 pub mod Cutting
-pub mod Behind
 pub mod FourCells
+pub mod Written

@@ -1,6 +1,7 @@
 -- A table's content, as it stands in lent buffers.
 use Rattle.std.specs.Prelude.{ℕ, List, [], ℤ}
 use Rattle.meaning.specs.Reading.{Content}
+use Rattle.table.specs.declared.Table.{Table}
 
 -- these buffers, whole
 abbrev pub content_in : (marks rows : List ℕ) (cells points : List ℤ) → Content
@@ -13,3 +14,7 @@ marks_only marks = content_in marks [] [] []
 -- rows, cells and points without marks
 abbrev pub unmarked_in : (rows : List ℕ) (cells points : List ℤ) → Content
 unmarked_in rows cells points = content_in [] rows cells points
+
+-- a table's buffers
+abbrev pub content : Table → Content
+content t = content_in t.marks.now t.rows.now t.cells.now t.points.now

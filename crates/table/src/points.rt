@@ -9,12 +9,6 @@ pub fn put_point(points: &mut [i64], at: usize, kind: u8, values: [i64; 3], coun
     requires at_in_bounds { at + 4 ≤ length points.old }
     ensures { points.new ≡ sets points.old at (point_cells kind (take count values)) }
 {
-    points[at] = kind as i64;
-    points[at + 1] = values[0];
-    points[at + 2] = values[1];
-    if count < 3 {
-        points[at + 3] = 0;
-    } else {
-        points[at + 3] = values[2];
-    }
+    let height = if count < 3 { 0 } else { values[2] };
+    points[at..at + 4].copy_from_slice(&[i64::from(kind), values[0], values[1], height]);
 }

@@ -3,7 +3,7 @@ ghost use Rattle.std.specs.Prelude.{◌≡◌, ◌+◌, ◌<◌, T, pos, length,
 ghost use Rattle.std.specs.Int.Signed.{non_neg};
 ghost use Rattle.meaning.specs.Reading.{cell_at};
 
-use crate::stretches::Part;
+use base::parts::Part;
 
 // The stretch of the text that the row's second and third cell say.
 pub fn identification_at(cells: &[i64], row: usize) -> Part

@@ -9,10 +9,11 @@ use lib.Dec.{eqb, ltb}
 use lib.ListN.{length, get_or, set, length-set, replicate}
 use lib.Seq.{get_or-set_same, get_or-set_other}
 use lib.IntN.{ℤ}
+use Rattle.std.specs.Prelude.{Some}
 use borrow.Author.Tests.{ltb-true, eqb-true, eqb-false}
 use Rattle.meaning.specs.Bytes.{choose}
 use Rattle.table_index.specs.Objects.{last_of}
-use Rattle.table.specs.Rows.{identification_of}
+use Rattle.table.specs.Rows.{identification_of, RowsListed}
 use Rattle.table_index.specs.Index.{head_of, has_head, hash_of, word_of, Chained, usable_of, Indexed, chain_of, insert_of}
 use Rattle.table_index.proofs.Last.{last_hit, last_miss}
 use Rattle.table_index.proofs.Walk.{head_lt}
@@ -42,9 +43,9 @@ module _ (seed : ℕ) (ids : ℕ → List ℕ) (links : ℕ) (index : List ℕ) 
   at_o : get_or grown o 0 ≡ get_or index p 0
   at_o = get_or-set_other with_link p o _ 0 (λ q. omega arith) ∙ get_or-set_same index o (get_or index p 0) 0 (omega arith)
 
-  at_p : get_or grown p 0 ≡ word_of seed ids (suc o)
+  at_p : get_or grown p 0 ≡ word_of seed ids (Some o)
   unfolding word_of
-  at_p = get_or-set_same with_link p _ 0 (rw length-set p_in) ∙ ap (λ (k : ℕ). k + 4294967296 * hash_of seed (ids o)) (add-one o)
+  at_p = get_or-set_same with_link p _ 0 (rw length-set p_in)
 
   links_grown : (k : ℕ) → k < o + 1 → get_or grown k 0 ≡ word_of seed ids (last_of (has_head seed m ids (head_of seed m (ids k))) k)
   links_grown k l = go (eqb k o) refl
@@ -73,6 +74,9 @@ usable_lt rows index h = go (ltb rows index) refl (ltb rows 4294967295) refl
     go true a true b = (ltb-true rows index a, ltb-true rows 4294967295 b)
     go true a false b = let z : ◌≡◌ {A = Bool} false true = rw (a, b) at h in let w : ◌≡◌ {A = ℕ} 0 1 = cc in absurd (omega arith)
     go false a y b = let z : ◌≡◌ {A = Bool} false true = rw a at h in let w : ◌≡◌ {A = ℕ} 0 1 = cc in absurd (omega arith)
+
+pub usable_few : (text rows : List ℕ) (cells : List ℤ) (index n : ℕ) → usable_of (length rows) index ≡ true → RowsListed text rows cells n → n < 4294967296
+usable_few text rows cells index n u l = omega (arith, usable_lt (length rows) index u, l.in_rows)
 
 -- an object put in front of its chain, in an index that can be used; any other stays as it is
 pub insert_used : (index : List ℕ) (rows o h : ℕ) → usable_of rows (length index) ≡ true → insert_of index rows o h ≡ chain_of index (rows + h % (length index - rows)) o h

@@ -10,23 +10,24 @@ use lib.IntN.{ℤ, pos}
 use lib.ListN.{length, get_or, take, set, length-set, replicate}
 use lib.Seq.{get_or-take, get_or-set_other}
 use borrow.Author.Tests.{ltb-true, ltb-false}
+use Rattle.std.specs.Prelude.{Option, None, Some}
 use Rattle.meaning.specs.Reading.{Object, object_at, objects_of, is_used}
 use Rattle.table_index.specs.Objects.{last_of, Unique}
 use Rattle.table.specs.Rows.{identification_of, RowsListed}
 use Rattle.table_index.specs.Index.{head_of, has_head, word_of, Chained, Indexed}
 use Rattle.table_index.specs.Holds.{ObjectsKnown, IndexedTable}
 use Rattle.table.specs.Rows.{BesideRows}
-use Rattle.table_index.proofs.Last.{last_same, last_le}
+use Rattle.table_index.proofs.Last.{upto, last_same, last_le}
 use Rattle.table_index.proofs.Grown.{nothing_chained}
 use Rattle.table_index.proofs.Meant.{objects_more}
 use Rattle.meaning.proofs.Lists.{first_same}
 
 -- ## The index depends on the identifications of its objects alone
 
-word_same : (seed : ℕ) (ids ids' : ℕ → List ℕ) (k : ℕ) → ((o : ℕ) → o < k → ids o ≡ ids' o) → word_of seed ids k ≡ word_of seed ids' k
+word_same : (seed : ℕ) (ids ids' : ℕ → List ℕ) (k : Option ℕ) → ((o : ℕ) → o < upto k → ids o ≡ ids' o) → word_of seed ids k ≡ word_of seed ids' k
 unfolding word_of
-word_same seed ids ids' zero h = refl
-word_same seed ids ids' (suc o) h = rw (h o (omega arith))
+word_same seed ids ids' None h = refl
+word_same seed ids ids' (Some o) h = rw (h o (omega arith))
 
 chained_same : (seed : ℕ) (ids ids' : ℕ → List ℕ) (links : ℕ) (index : List ℕ) (n : ℕ) → ((o : ℕ) → o < n → ids' o ≡ ids o) → Chained seed ids links index n → Chained seed ids' links index n
 chained_same seed ids ids' links index n same ch = record {
@@ -36,7 +37,7 @@ chained_same seed ids ids' links index n same ch = record {
   head = λ h l. ch.head h l ∙ words n h (omega arith);
 }
   where
-    word : (k : ℕ) → k ≤ n → word_of seed ids k ≡ word_of seed ids' k
+    word : (k : Option ℕ) → upto k ≤ n → word_of seed ids k ≡ word_of seed ids' k
     word k l = word_same seed ids ids' k (λ o g. sym (same o (omega arith)))
 
     words : (k h : ℕ) → k ≤ n → word_of seed ids (last_of (has_head seed (length index - links) ids h) k) ≡ word_of seed ids' (last_of (has_head seed (length index - links) ids' h) k)

@@ -1,15 +1,17 @@
 -- What the last object with an identification says of the objects: whether it is used (15), and what a reference names (17).
 -- Assumes nothing.
-use Prim.Native.Nat.{ℕ, zero, suc, ◌+◌, ◌-◌, ◌≤◌, ◌<◌}
+use Prim.Native.Nat.{ℕ, zero, suc, ◌+◌, ◌≤◌, ◌<◌}
 use mathlib.Core.Path.{◌≡◌, refl, sym, ap, ◌∙◌}
 use mathlib.Core.Bool.{Bool, true, false, ◌&&◌, ◌||◌, or_assoc, or-false, or-true, and-true, and-false}
 use mathlib.Core.List.{List, [], ◌∷◌, ◌++◌}
 use native.Mathlib.Omega.{arith}
-use lib.Dec.{eqb, ltb}
+use lib.Dec.{eqb}
 use lib.IntN.{ℤ}
 use lib.ListN.{length, get_or, take}
 use lib.Seq.{length-take-le, take-suc}
-use borrow.Author.Tests.{lt-ltb, ltb-false, eq-eqb, ne_eqb}
+use borrow.Author.Tests.{eq-eqb, ne_eqb}
+use Rattle.std.specs.Prelude.{Option, None, Some, IfSome}
+use Rattle.std.specs.Option.{is_some}
 use Rattle.meaning.specs.Bytes.{choose}
 use Rattle.meaning.specs.Model.{Found, found, missing}
 use Rattle.meaning.specs.Value.{same_identification}
@@ -18,7 +20,7 @@ use Rattle.meaning.specs.Table.{find_object}
 use Rattle.meaning.proofs.Tests.Same.{identification_alike}
 use Rattle.table_index.specs.Objects.{is_named, last_of, last_named, in_table, Unique}
 use Rattle.table.specs.Rows.{identification_of}
-use Rattle.table_index.proofs.Last.{last_le, last_passes, last_none}
+use Rattle.table_index.proofs.Last.{upto, last_le, last_passes, last_none}
 
 -- ## Objects in a row
 
@@ -56,41 +58,39 @@ module _ (text rows : List ℕ) (cells : List ℤ) (i : List ℕ) where
       ∙ ap (λ (t : Bool). is_used i (objects_of text cells (take n rows)) || t) (or-false (named n))
 
   -- an identification is used exactly where an object is found
-  pub used_last : (n : ℕ) → n ≤ length rows → is_used i (objects_of text cells (take n rows)) ≡ ltb 0 (last_named text rows cells i n)
-  unfolding is_used objects_of last_of
+  pub used_last : (n : ℕ) → n ≤ length rows → is_used i (objects_of text cells (take n rows)) ≡ is_some (last_named text rows cells i n)
+  unfolding is_used objects_of last_of choose
   used_last zero l = refl
   used_last (suc n) l = go (named n) refl (used_last n (omega arith))
     where
-      go : (x : Bool) → named n ≡ x → is_used i (objects_of text cells (take n rows)) ≡ ltb 0 (last_named text rows cells i n) → is_used i (objects_of text cells (take (suc n) rows)) ≡ ltb 0 (last_named text rows cells i (suc n))
-      go true h r = used_more n (omega arith) ∙ rw h (or-true (is_used i (objects_of text cells (take n rows))) ∙ sym (lt-ltb 0 (suc n) (omega arith)))
+      go : (x : Bool) → named n ≡ x → is_used i (objects_of text cells (take n rows)) ≡ is_some (last_named text rows cells i n) → is_used i (objects_of text cells (take (suc n) rows)) ≡ is_some (last_named text rows cells i (suc n))
+      go true h r = used_more n (omega arith) ∙ rw h (or-true (is_used i (objects_of text cells (take n rows))))
       go false h r = used_more n (omega arith) ∙ rw h (or-false (is_used i (objects_of text cells (take n rows))) ∙ r)
 
-  pub found_le : (n at : ℕ) → at ≡ last_named text rows cells i n → at ≤ n
-  found_le n at e = omega (arith, last_le named n)
+  -- what is found is one of the objects
+  pub found_in : (n : ℕ) (found : Option ℕ) → n ≤ length rows → found ≡ last_named text rows cells i n → IfSome found (λ o. o < length rows)
+  found_in n None l e = tt
+  found_in n (Some o) l e = omega (arith, last_le named n, ap upto e)
 
   -- where it is not used, no object has it
   pub unused_none : (n : ℕ) → n ≤ length rows → is_used i (objects_of text cells (take n rows)) ≡ false → (o : ℕ) → o < n → named o ≡ false
-  unused_none n l e = last_none named n (omega (arith, ltb-false 0 (last_named text rows cells i n) (sym (used_last n l) ∙ e)))
+  unused_none n l e = last_none named n (go (last_named text rows cells i n) (sym (used_last n l) ∙ e))
+    where
+      go : (x : Option ℕ) → is_some x ≡ false → x ≡ None
+      go None h = refl
+      go (Some o) h = cc
 
 -- ## 17
 
--- the object that a number says, by the test of its table
-module _ (rows : List ℕ) (cells : List ℤ) (t at : ℕ) where
-  pub in_table_none : at ≡ 0 → missing ≡ in_table rows cells t at
-  unfolding in_table
-  in_table_none e = sym (ap (in_table rows cells t) e)
+-- this object, by the test of its table
+module _ (rows : List ℕ) (cells : List ℤ) (t o : ℕ) where
+  pub in_table_hit : cell_at cells (get_or rows o 0) ≡ t → found o ≡ in_table rows cells t (Some o)
+  unfolding in_table choose
+  in_table_hit e = rw (eq-eqb (cell_at cells (get_or rows o 0)) t e)
 
-  in_table_some : 0 < at → in_table rows cells t at ≡ choose (eqb (cell_at cells (get_or rows (at - 1) 0)) t) (found (at - 1)) missing
-  unfolding in_table
-  in_table_some l = let e : at ≡ suc (at - 1) = omega arith in ap (in_table rows cells t) e
-
-  pub in_table_hit : 0 < at → cell_at cells (get_or rows (at - 1) 0) ≡ t → found (at - 1) ≡ in_table rows cells t at
-  unfolding choose
-  in_table_hit l e = sym (in_table_some l ∙ rw (eq-eqb (cell_at cells (get_or rows (at - 1) 0)) t e))
-
-  pub in_table_miss : 0 < at → (cell_at cells (get_or rows (at - 1) 0) ≡ t → ⊥) → missing ≡ in_table rows cells t at
-  unfolding choose
-  in_table_miss l e = sym (in_table_some l ∙ rw (ne_eqb (cell_at cells (get_or rows (at - 1) 0)) t e))
+  pub in_table_miss : (cell_at cells (get_or rows o 0) ≡ t → ⊥) → missing ≡ in_table rows cells t (Some o)
+  unfolding in_table choose
+  in_table_miss e = rw (ne_eqb (cell_at cells (get_or rows o 0)) t e)
 
 -- the first answer, or where it is none the second
 abbrev or_else : Found → Found → Found
@@ -125,13 +125,13 @@ unique_less : (ids : ℕ → List ℕ) (n : ℕ) → Unique ids (suc n) → Uniq
 unique_less ids n u = record { apart = λ o p a b. u.apart o p a (omega arith) }
 
 -- of unique identifications one object at most has this one
-none_before : (ids : ℕ → List ℕ) (i : List ℕ) (n : ℕ) → Unique ids (suc n) → is_named ids i n ≡ true → last_of (is_named ids i) n ≡ 0
+none_before : (ids : ℕ → List ℕ) (i : List ℕ) (n : ℕ) → Unique ids (suc n) → is_named ids i n ≡ true → last_of (is_named ids i) n ≡ None
 none_before ids i n u h = go (last_of (is_named ids i) n) refl
   where
-    go : (k : ℕ) → last_of (is_named ids i) n ≡ k → last_of (is_named ids i) n ≡ 0
-    go zero e = e
-    go (suc o) e =
-        let l : o < n = omega (arith, last_le (is_named ids i) n) in
+    go : (k : Option ℕ) → last_of (is_named ids i) n ≡ k → last_of (is_named ids i) n ≡ None
+    go None e = e
+    go (Some o) e =
+        let l : o < n = omega (arith, last_le (is_named ids i) n, ap upto e) in
         let a : same_identification (ids o) (ids n) ≡ true = identification_alike (ids o) (ids n) i (last_passes (is_named ids i) n o e) h in
         let z : ◌≡◌ {A = Bool} true false = sym a ∙ u.apart o n l (omega arith) in
         absurd (let w : ◌≡◌ {A = ℕ} 0 1 = cc in omega arith)

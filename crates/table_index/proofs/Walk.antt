@@ -6,10 +6,11 @@ use mathlib.Core.List.{List}
 use native.Mathlib.Omega.{arith}
 use native.Mathlib.Nat.{mod-lt}
 use lib.ListN.{length, get_or}
+use Rattle.std.specs.Prelude.{Option, None, Some}
 use borrow.Author.Tests.{eq-eqb, eqb-true}
 use Rattle.table_index.specs.Objects.{is_named, last_of}
 use Rattle.table_index.specs.Index.{hash_of, head_of, has_head, word_of, Chained}
-use Rattle.table_index.proofs.Last.{last_le, last_passes, last_skip, scan_miss}
+use Rattle.table_index.proofs.Last.{upto, upto_none, upto_some, last_le, last_passes, last_skip, scan_miss}
 use Rattle.table_index.proofs.Hashes.{hash_same}
 
 pub head_lt : (seed m : ℕ) (i : List ℕ) → 0 < m → head_of seed m i < m
@@ -17,23 +18,24 @@ head_lt seed m i h = mod-lt (hash_of seed i) h
 
 -- what a word says
 module _ (seed : ℕ) (ids : ℕ → List ℕ) where
-  pub word_at : (k : ℕ) → k < 4294967296 → word_of seed ids k % 4294967296 ≡ k
+  pub word_at : (k : Option ℕ) → upto k < 4294967296 → word_of seed ids k % 4294967296 ≡ upto k
   unfolding word_of
-  word_at zero h = refl
-  word_at (suc o) h = omega arith
+  word_at None h = refl
+  word_at (Some o) h = omega arith
 
-  pub word_hash : (o : ℕ) → suc o < 4294967296 → word_of seed ids (suc o) / 4294967296 ≡ hash_of seed (ids o)
+  pub word_hash : (o : ℕ) → suc o < 4294967296 → word_of seed ids (Some o) / 4294967296 ≡ hash_of seed (ids o)
   unfolding word_of
   word_hash o h = omega arith
 
-  pub word_none : word_of seed ids 0 ≡ 0
+  pub word_none : word_of seed ids None ≡ 0
   unfolding word_of
   word_none = refl
 
 -- at a word of a walk for `i` among the first n objects
 pub record Along (seed m : ℕ) (ids : ℕ → List ℕ) (n : ℕ) (i : List ℕ) (w : ℕ) : Type 0 where
   pub within : w % 4294967296 ≤ n
-  pub word : w ≡ word_of seed ids (w % 4294967296)
+  pub none : w % 4294967296 ≡ 0 → w ≡ 0
+  pub word : (o : ℕ) → w % 4294967296 ≡ suc o → w ≡ word_of seed ids (Some o)
   pub on : (o : ℕ) → w % 4294967296 ≡ suc o → head_of seed m (ids o) ≡ head_of seed m i
   pub rest : last_of (is_named ids i) (w % 4294967296) ≡ last_of (is_named ids i) n
 
@@ -45,21 +47,23 @@ module _ (seed : ℕ) (ids : ℕ → List ℕ) (n : ℕ) (i : List ℕ) (small :
   pub along_to : (m k w : ℕ) → k ≤ n → last_of (is_named ids i) k ≡ last_of (is_named ids i) n → w ≡ word_of seed ids (last_of (has_head seed m ids (head_of seed m i)) k) → Along seed m ids n i w
   along_to m k w l r e =
       let q = last_le (has_head seed m ids (head_of seed m i)) k in
-      let a : w % 4294967296 ≡ last_of (has_head seed m ids (head_of seed m i)) k = ap (λ (x : ℕ). x % 4294967296) e ∙ word_at seed ids _ (omega arith) in
+      let x : Option ℕ = last_of (has_head seed m ids (head_of seed m i)) k in
+      let a : w % 4294967296 ≡ upto x = ap (λ (x : ℕ). x % 4294967296) e ∙ word_at seed ids _ (omega arith) in
       record {
         within = omega arith;
-        word = e ∙ ap (word_of seed ids) (sym a);
-        on = λ o z. eqb-true _ _ (last_passes (has_head seed m ids (head_of seed m i)) k o (sym a ∙ z));
+        none = λ z. e ∙ ap (word_of seed ids) (upto_none x (sym a ∙ z)) ∙ word_none seed ids;
+        word = λ o z. e ∙ ap (word_of seed ids) (upto_some x o (sym a ∙ z));
+        on = λ o z. eqb-true _ _ (last_passes (has_head seed m ids (head_of seed m i)) k o (upto_some x o (sym a ∙ z)));
         rest = ap (last_of (is_named ids i)) a ∙ last_skip (is_named ids i) (has_head seed m ids (head_of seed m i)) k (λ o _ h. implied m o h) ∙ r;
       }
 
   module _ (m w : ℕ) (a : Along seed m ids n i w) where
     -- a word that is not 0 leads to an object
-    pub along_some : 0 < w → 0 < w % 4294967296
-    along_some h = go (w % 4294967296) refl
+    pub along_object : 0 < w → w % 4294967296 ≡ suc (w % 4294967296 - 1)
+    along_object h = go (w % 4294967296) refl
       where
-        go : (k : ℕ) → w % 4294967296 ≡ k → 0 < k
-        go zero e = absurd (let z : w ≡ 0 = a.word ∙ ap (word_of seed ids) e ∙ word_none seed ids in omega arith)
+        go : (k : ℕ) → w % 4294967296 ≡ k → w % 4294967296 ≡ suc (w % 4294967296 - 1)
+        go zero e = absurd (omega (arith, a.none e))
         go (suc k) e = omega arith
 
     -- another hash, another identification
@@ -68,7 +72,7 @@ module _ (seed : ℕ) (ids : ℕ → List ℕ) (n : ℕ) (i : List ℕ) (small :
       where
         go : (x : Bool) → is_named ids i o ≡ x → is_named ids i o ≡ false
         go true t =
-            let z : w / 4294967296 ≡ h = ap (λ (x : ℕ). x / 4294967296) (a.word ∙ ap (word_of seed ids) e) ∙ word_hash seed ids o (omega (arith, a.within)) ∙ hash_same seed (ids o) i t ∙ sym q in
+            let z : w / 4294967296 ≡ h = ap (λ (x : ℕ). x / 4294967296) (a.word o e) ∙ word_hash seed ids o (omega (arith, a.within)) ∙ hash_same seed (ids o) i t ∙ sym q in
             absurd (apart z)
         go false t = t
 

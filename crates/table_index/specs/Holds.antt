@@ -1,15 +1,13 @@
 -- What the index's answer says, and what a caller holds while its table grows.
-use Rattle.std.specs.Prelude.{ℕ, ◌+◌, ◌≤◌, ◌<◌, List, ℤ, length, get_or}
+use Rattle.std.specs.Prelude.{ℕ, ◌+◌, ◌≤◌, ◌<◌, List, Option, None, Some, ℤ, length, get_or}
 use Rattle.meaning.specs.Model as model
 use Rattle.table_index.specs.Objects.{Unique}
 use Rattle.table.specs.Rows.{identification_of, RowsListed}
 use Rattle.table_index.specs.Index.{Indexed}
-use Rattle.table_index.specs.declared.Found.{Found}
-use Rattle.table_index.specs.declared.Found.TheVariants.{At, Nothing}
 
-abbrev pub found_of : Found → model.Found
-found_of (At o) = model.found o
-found_of Nothing = model.missing
+abbrev pub found_of : Option ℕ → model.Found
+found_of (Some o) = model.found o
+found_of None = model.missing
 
 -- the first n objects can be looked for: their rows lie in the cells, their identifications differ, and the index has
 -- them

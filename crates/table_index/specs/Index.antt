@@ -1,6 +1,6 @@
 -- The index: chains of objects whose identifications have the same head.
-use Rattle.std.specs.Prelude.{ℕ, zero, suc, ◌+◌, ◌*◌, ◌-◌, ◌/◌, ◌%◌, ◌<◌, ◌≡◌, List, [], ◌∷◌, Bool, true, ◌&&◌, eqb}
-use Rattle.std.specs.Prelude.{ltb, ℤ, length, get_or, set}
+use Rattle.std.specs.Prelude.{ℕ, ◌+◌, ◌*◌, ◌-◌, ◌/◌, ◌%◌, ◌<◌, ◌≡◌, List, [], ◌∷◌, Bool, true, ◌&&◌, Option, None}
+use Rattle.std.specs.Prelude.{Some, eqb, ltb, ℤ, length, get_or, set}
 use Rattle.meaning.specs.Bytes.{choose}
 use Rattle.table_index.specs.Objects.{last_of}
 use Rattle.table.specs.Rows.{identification_of}
@@ -26,10 +26,10 @@ abbrev pub has_head : ℕ → ℕ → (ℕ → List ℕ) → ℕ → ℕ → Boo
 has_head seed heads ids h o = eqb (head_of seed heads (ids o)) h
 
 -- a word that leads to an object: 1 plus its number, and above 32 bits its hash; 0 leads to none
-unfoldable pub word_of : ℕ → (ℕ → List ℕ) → ℕ → ℕ
+unfoldable pub word_of : ℕ → (ℕ → List ℕ) → Option ℕ → ℕ
 unfolding hash_of
-word_of seed ids zero = 0
-word_of seed ids (suc o) = suc o + 4294967296 * hash_of seed (ids o)
+word_of seed ids None = 0
+word_of seed ids (Some o) = o + 1 + 4294967296 * hash_of seed (ids o)
 
 -- the first `links` words of the index are links, the others heads: a link leads to the last earlier object with the
 -- same head, a head to the last object that has it

@@ -1,3 +1,4 @@
 pub mod Objects
 pub mod Index
 pub mod Holds
+pub mod Read

@@ -1,22 +1,20 @@
 -- The claims of specs/Claims.antt. Assumes nothing.
 use Prim.Native.Nat.{ℕ}
-use native.Mathlib.Omega.{arith}
 use mathlib.Core.Path.{◌≡◌, sym, ◌∙◌}
-use Rattle.unfold.specs.Answer.{answer_of, Within}
+use Rattle.std.proofs.Common.{Result, Ok, Err}
+use Rattle.base.proofs.Numbered.{same_reason}
+use Rattle.unfold.specs.Answer.{answer_of}
 use Rattle.unfold.specs.Claims.{OneOutcome}
-use Rattle.unfold.specs.declared.Answer.{Answer}
-use Rattle.unfold.specs.declared.Answer.TheVariants.{Text, Fault, NoRoom}
+use Rattle.unfold.specs.declared.Fault.{Fault}
 
-one_answer : (size : ℕ) (a b : Answer) → Within size a → Within size b → answer_of a ≡ answer_of b → a ≡ b
-one_answer size (Text m) (Text n) h k e = cc
-one_answer size (Text m) (Fault number line) h k e = let z : ◌≡◌ {A = ℕ} 0 1 = cc in absurd (omega arith)
-one_answer size (Text m) NoRoom h k e = let z : ◌≡◌ {A = ℕ} 0 1 = cc in absurd (omega arith)
-one_answer size (Fault number line) (Text n) h k e = let z : ◌≡◌ {A = ℕ} 0 1 = cc in absurd (omega arith)
-one_answer size (Fault number line) (Fault other place) h k e = cc
-one_answer size (Fault number line) NoRoom h k e = let z : number ≡ 6 = cc in absurd (omega (arith, h.1))
-one_answer size NoRoom (Text n) h k e = let z : ◌≡◌ {A = ℕ} 0 1 = cc in absurd (omega arith)
-one_answer size NoRoom (Fault number line) h k e = let z : number ≡ 6 = cc in absurd (omega (arith, k.1))
-one_answer size NoRoom NoRoom h k e = cc
+one_answer : (a b : Result ℕ Fault) → answer_of a ≡ answer_of b → a ≡ b
+one_answer (Ok m) (Ok n) e = cc
+one_answer (Ok m) (Err f) e = cc
+one_answer (Err f) (Ok n) e = cc
+one_answer (Err f) (Err g) e =
+    let reason : f.reason ≡ g.reason = same_reason f.reason g.reason cc in
+    let line : f.line ≡ g.line = cc in
+    rw (reason, line)
 
 pub one_outcome : OneOutcome
-one_outcome mark file room text other a b x y = (one_answer _ a b x.within y.within (x.number ∙ sym y.number), x.text ∙ sym y.text)
+one_outcome mark file room text other a b x y = (one_answer a b (x.number ∙ sym y.number), x.text ∙ sym y.text)

@@ -74,17 +74,6 @@ module _ (m n : ℕ) (o c : Bool) (f : List ℕ) (k start len after : ℕ) (s : 
   pub part_length : length (take len (drop (k + start) f)) ≡ len
   part_length = length-take-le len (drop (k + start) f) (omega (arith, s.inside, step_within, length-drop (k + start) f))
 
--- what the code needs of the part's bounds
-abbrev pub Fitting : List ℕ → ℕ → ℕ → ℕ → ℕ → Type 0
-Fitting f k start len after = (start + len < after) × (k + after ≤ length f) × (length (take (k + start + len - (k + start)) (drop (k + start) f)) ≡ len)
-
-pub fitting : (m : ℕ) (o c : Bool) (f : List ℕ) (k start len after : ℕ) → Parted m o c (drop k f) start len after → Fitting f k start len after
-fitting m o c f k start len after s = (
-  s.inside,
-  step_within m 0 o c f k start len after s,
-  ap length (part_is m 0 o c f k start len after s) ∙ part_length m 0 o c f k start len after s,
-)
-
 -- ## The result
 
 flat_result : ℕ → Flat → TextResult

@@ -13,6 +13,7 @@ use Rattle.meaning.specs.Unfold.{permitted, every, ends, cont, prefix, tail, phy
 use Rattle.meaning.proofs.Unfolding.Physical.{phys_nil, some_left}
 use Rattle.meaning.proofs.Unfolding.Cuts.{both}
 use Rattle.base.proofs.Fill.{to_end}
+use Rattle.base.specs.declared.reasons.Reason.TheVariants.{EndMissing, ByteNotPermitted, ContinuationMissing}
 use Rattle.unfold.specs.First.{Shortened, LineOf}
 use Rattle.unfold.specs.LinePart.{skip, Parted, Refused}
 
@@ -52,11 +53,11 @@ part_in (suc s) t (suc k) (b ∷ l) h = part_in s t k l (omega arith)
 
 -- ## Where nothing is judged
 
-pub no_more : (m : ℕ) (o : Bool) (f : List ℕ) → f ≡ [] → o ≡ true → Refused m o f 3
+pub no_more : (m : ℕ) (o : Bool) (f : List ℕ) → f ≡ [] → o ≡ true → Refused m o f EndMissing
 unfolding unfold_lines
 no_more m o f e g = record { least = omega arith; greatest = omega arith; is = λ n. rw (e, g, phys_nil) }
 
-pub not_ended : (m : ℕ) (o : Bool) (f : List ℕ) → 0 < length f → physical f ≡ tail f → Refused m o f 3
+pub not_ended : (m : ℕ) (o : Bool) (f : List ℕ) → 0 < length f → physical f ≡ tail f → Refused m o f EndMissing
 unfolding unfold_lines
 not_ended m o [] h e = absurd (omega arith)
 not_ended m o (b ∷ f) h e = record { least = omega arith; greatest = omega arith; is = λ n. rw e }
@@ -67,17 +68,17 @@ module _ (m : ℕ) (o : Bool) (f : List ℕ) (len after : ℕ) (first : LineOf f
   last_line : none (physical (drop after f)) ≡ eqb after (length f)
   last_line = none_drop f after first.within
 
-  pub refused_3 : (ends m (take len f) && eqb after (length f)) ≡ true → Refused m o f 3
+  pub refused_3 : (ends m (take len f) && eqb after (length f)) ≡ true → Refused m o f EndMissing
   unfolding unfold_lines refuse
   refused_3 t = record { least = omega arith; greatest = omega arith; is = λ n. rw (first.split, last_line, t) }
 
   module _ (t : (ends m (take len f) && eqb after (length f)) ≡ false) where
-    pub refused_5 : (o && not (prefix cont (take len f))) ≡ true → Refused m o f 5
+    pub refused_5 : (o && not (prefix cont (take len f))) ≡ true → Refused m o f ContinuationMissing
     unfolding unfold_lines refuse
     refused_5 u = record { least = omega arith; greatest = omega arith; is = λ n. rw (first.split, last_line, t, u) }
 
     module _ (u : (o && not (prefix cont (take len f))) ≡ false) where
-      pub refused_4 : every permitted (take len f) ≡ false → Refused m o f 4
+      pub refused_4 : every permitted (take len f) ≡ false → Refused m o f ByteNotPermitted
       unfolding unfold_lines refuse
       refused_4 v = record { least = omega arith; greatest = omega arith; is = λ n. rw (first.split, last_line, t, u, v) }
 

@@ -5,16 +5,17 @@ use native.Mathlib.Omega.{arith}
 use mathlib.Core.Path.{◌≡◌, refl, ap, ◌∙◌}
 use mathlib.Core.Bool.{Bool, true, false}
 use mathlib.Core.List.{List, [], ◌∷◌, ◌++◌, append_assoc}
-use lib.ListN.{length, take, drop, replicate, length-append}
+use lib.ListN.{length, take, drop, length-append}
 use lib.Seq.{length-take-le}
 use lib.Dec.{ltb}
 use borrow.Author.Tests.{ltb-true, ltb-false}
-use Rattle.meaning.specs.Unfold.{lines, physical, next, unfold_lines, unfold_file}
+use Rattle.meaning.specs.Unfold.{physical, next, unfold_lines, unfold_file}
 use Rattle.meaning.specs.Answer.{text_refused, text_unfolded}
+use Rattle.base.specs.Reasons.{number_of}
+use Rattle.base.specs.declared.reasons.Reason.{Reason}
+use Rattle.base.specs.declared.reasons.Reason.TheVariants.{RoomTooSmall}
 use Rattle.unfold.specs.LinePart.{Parted, Refused}
-use Rattle.unfold.specs.Turn.{overfull, Put, Finished, TurnReady, Ended}
-use Rattle.unfold.specs.declared.Answer.{Answer}
-use Rattle.unfold.specs.declared.Answer.TheVariants.{Fault}
+use Rattle.unfold.specs.Turn.{overfull, Put, TurnReady, FaultOf, TextOf}
 use Rattle.unfold.specs.declared.LineCursor.{LineCursor}
 use Rattle.unfold.proofs.Flat.{ended, step_within, next_flat, next_full, part_length, grown_full, result_bad, result_done, nothing_left}
 
@@ -67,39 +68,38 @@ module _ (m : ℕ) (f text : List ℕ) (s : LineCursor) (ready : TurnReady m f t
           let long : length text < length w = omega (arith, put.end, length-append (take s.used text) (ended c (take len (drop (s.at + start) f))), length-take-le s.used text below) in
           grown_full (length text) _ _ w c (next_flat m s.line s.continues c f s.at start len after p _ _ (ready.fits below)) long
 
-  -- no line is left
-  pub done : (exit : List ℕ) (answer : Answer) → drop s.at f ≡ [] → s.continues ≡ false → Finished s.used text exit answer → Ended m f (length text) exit answer
-  unfolding overfull
-  done exit answer e g finished = go (ltb (length text) s.used) refl
-    where
-      none_left : unfold_lines m s.line s.continues (physical (drop s.at f)) ≡ lines []
-      none_left = nothing_left m s.line _ _ e g
+  -- no line is left, and the text fits
+  pub done : drop s.at f ≡ [] → s.continues ≡ false → s.used ≤ length text → TextOf m f text (length text) s.used
+  done e g below = record {
+    shorter = omega (arith, ready.shorter, ready.inside);
+    fits = below;
+    result =
+        let size : length (take s.used text) ≡ s.used = length-take-le s.used text below in
+        result_done (length text) _ _ (take s.used text) s.continues (ready.fits below) (nothing_left m s.line _ _ e g) g (omega arith) ∙ rw size refl;
+  }
 
-      go : (x : Bool) → ltb (length text) s.used ≡ x → Ended m f (length text) exit answer
-      go true h =
-          let is = finished.full (ltb-true _ _ h) in
-          let result : text_unfolded (length text) (unfold_file m f) ≡ text_refused (length text) 6 0 = ready.full (ltb-true _ _ h) ∙ ap (overfull (length text)) none_left in
-          record { number = rw (is.0, result); text = is.1 ∙ rw result; within = rw is.0 tt }
-      go false h =
-          let below : s.used ≤ length text = ltb-false _ _ h in
-          let is = finished.fits below in
-          let size : length (take s.used text) ≡ s.used = length-take-le s.used text below in
-          let result = result_done (length text) _ _ (take s.used text) s.continues (ready.fits below) none_left g (omega arith) in
-          record {
-            number = rw (is.0, result, size);
-            text = is.1 ∙ rw (result, size);
-            within = rw is.0 (omega (arith, ready.shorter, ready.inside));
-          }
+  -- no line is left, and the text does not fit
+  pub too_long : drop s.at f ≡ [] → s.continues ≡ false → length text < s.used → FaultOf m f (length text) (record { reason = RoomTooSmall; line = 0 })
+  unfolding overfull
+  too_long e g above = record {
+    result = ready.full above ∙ ap (overfull (length text)) (nothing_left m s.line _ _ e g);
+    within = record { least = omega arith; greatest = omega arith; first = λ h. absurd (omega arith); last = omega arith; roomless = λ h. refl };
+  }
 
   -- a fault
-  pub refused : (exit : List ℕ) (number : ℕ) → Refused m s.continues (drop s.at f) number → exit ≡ replicate (length text) 0 → Ended m f (length text) exit (Fault number s.line)
+  pub refused : (reason : Reason) → Refused m s.continues (drop s.at f) reason → FaultOf m f (length text) (record { reason = reason; line = s.line })
   unfolding overfull
-  refused exit number bad zeros = record {
-    number = rw (result (ltb (length text) s.used) refl);
-    text = zeros ∙ rw (result (ltb (length text) s.used) refl);
-    within = (bad.least, bad.greatest, ready.first, omega (arith, ready.numbered, ready.inside));
+  refused reason bad = record {
+    result = result (ltb (length text) s.used) refl;
+    within = record {
+      least = bad.least;
+      greatest = omega (arith, bad.greatest);
+      first = λ h. ready.first;
+      last = omega (arith, ready.numbered, ready.inside);
+      roomless = λ h. absurd (omega (arith, bad.greatest));
+    };
   }
     where
-      result : (x : Bool) → ltb (length text) s.used ≡ x → text_unfolded (length text) (unfold_file m f) ≡ text_refused (length text) number s.line
+      result : (x : Bool) → ltb (length text) s.used ≡ x → text_unfolded (length text) (unfold_file m f) ≡ text_refused (length text) (number_of reason) s.line
       result true h = ready.full (ltb-true _ _ h) ∙ ap (overfull (length text)) (bad.is s.line)
-      result false h = result_bad (length text) _ _ (take s.used text) s.continues (ready.fits (ltb-false _ _ h)) number s.line (bad.is s.line)
+      result false h = result_bad (length text) _ _ (take s.used text) s.continues (ready.fits (ltb-false _ _ h)) (number_of reason) s.line (bad.is s.line)

@@ -1,21 +1,21 @@
 -- The first physical line of a file: by its permitted bytes and the line end behind them, and by its LF.
 -- Assumes nothing.
-use Prim.Native.Nat.{ℕ, zero, suc, ◌+◌, ◌<◌, ◌≤◌, zero-le}
+use Prim.Native.Nat.{ℕ, zero, suc, ◌+◌, ◌-◌, ◌<◌, ◌≤◌, zero-le}
 use native.Mathlib.Omega.{arith}
 use native.Mathlib.Numerals.{add-one}
 use mathlib.Core.Path.{◌≡◌, refl, sym, ap, ◌∙◌}
-use mathlib.Core.Bool.{Bool, true, false, and-false}
+use mathlib.Core.Bool.{Bool, true, false, and-true, and-false}
 use mathlib.Core.List.{List, [], ◌∷◌, ◌++◌}
 use lib.ListN.{length, get_or, take, drop, length-take, length-drop, length-append, take-append-drop}
 use lib.Seq.{take_all, take-length, split_at, take-take, drop-drop, drop-append_seam}
 use lib.Dec.{eqb}
-use borrow.Author.Tests.{eq-eqb, ne_eqb, eqb-true, not-false}
-use Rattle.meaning.specs.Bytes.{choose, begins}
+use borrow.Author.Tests.{eqb-true, not-false}
+use Rattle.meaning.specs.Bytes.{choose, begins, prefix}
 use Rattle.meaning.specs.Unfold.{permitted, every, ends, without_last, Physical, tail, line, physical, without_last_if}
 use Rattle.meaning.specs.Cut.{End, lf, crlf}
 use Rattle.meaning.proofs.Unfolding.Physical.{phys_lf, phys_tail}
 use Rattle.meaning.proofs.Unfolding.Cuts.{Spelled, s_tail, s_line, spelled, phys_line}
-use Rattle.unfold.specs.First.{leading, no_lf, end_len, Shortened, LineOf}
+use Rattle.unfold.specs.First.{leading, no_lf, end_len, Shortened, LineOf, FirstLineOf}
 use Rattle.unfold.proofs.Leading.{leading_within, leading_every, leading_behind, leading_append}
 
 -- ## Without the last byte
@@ -28,14 +28,12 @@ last_take (b ∷ []) (suc k) h = absurd (omega arith)
 last_take (b ∷ (c ∷ l)) zero h = absurd (omega arith)
 last_take (b ∷ (c ∷ l)) (suc k) h = ap (λ (x : List ℕ). b ∷ x) (last_take (c ∷ l) k (omega arith))
 
-pub shorter_none : (l : List ℕ) → length l ≡ 0 → Shortened true l 0
+pub shorter : (l : List ℕ) → Shortened true l (length l - 1)
 unfolding without_last_if without_last
-shorter_none [] h = record { within = zero-le; same = refl }
-shorter_none (b ∷ l) h = absurd (omega arith)
-
-pub shorter_one : (l : List ℕ) (k : ℕ) → length l ≡ suc k → Shortened true l k
-unfolding without_last_if
-shorter_one l k h = record { within = omega arith; same = last_take l k h }
+shorter [] = record { within = zero-le; same = refl }
+shorter (b ∷ l) =
+    let n : suc (length l) - 1 ≡ length l = omega arith in
+    record { within = omega arith; same = rw n (last_take (b ∷ l) (length l) refl) }
 
 pub not_shorter : (l : List ℕ) → Shortened false l (length l)
 unfolding without_last_if
@@ -43,38 +41,12 @@ not_shorter l = record { within = omega arith; same = take-length l }
 
 -- ## The line end behind the permitted bytes
 
-pub end_none : (f : List ℕ) → length f ≡ 0 → end_len f ≡ 0
-unfolding end_len
-end_none [] h = refl
-end_none (b ∷ f) h = absurd (omega arith)
-
-pub end_lf : (f : List ℕ) → 0 < length f → get_or f 0 0 ≡ 0x0a → end_len f ≡ 1
-unfolding end_len choose
-end_lf [] h e = absurd (omega arith)
-end_lf (b ∷ f) h e = rw (eq-eqb b 0x0a e)
-
-pub end_other : (f : List ℕ) → 0 < length f → (get_or f 0 0 ≡ 0x0a → ⊥) → (get_or f 0 0 ≡ 0x0d → ⊥) → end_len f ≡ 0
-unfolding end_len choose
-end_other [] h e g = absurd (omega arith)
-end_other (b ∷ f) h e g = rw (ne_eqb b 0x0a e, ne_eqb b 0x0d g)
-
-pub end_cr : (f : List ℕ) → length f ≡ 1 → (get_or f 0 0 ≡ 0x0a → ⊥) → end_len f ≡ 0
-unfolding end_len choose begins
-end_cr [] h e = absurd (omega arith)
-end_cr (b ∷ []) h e = rw (ne_eqb b 0x0a e, and-false (eqb b 0x0d))
-end_cr (b ∷ (c ∷ f)) h e = absurd (omega arith)
-
-pub end_crlf : (f : List ℕ) → 1 < length f → get_or f 0 0 ≡ 0x0d → get_or f 1 0 ≡ 0x0a → end_len f ≡ 2
-unfolding end_len choose begins
-end_crlf [] h e g = absurd (omega arith)
-end_crlf (b ∷ []) h e g = absurd (omega arith)
-end_crlf (b ∷ (c ∷ f)) h e g = rw (e, g)
-
-pub end_cr_other : (f : List ℕ) → 1 < length f → get_or f 0 0 ≡ 0x0d → (get_or f 1 0 ≡ 0x0a → ⊥) → end_len f ≡ 0
-unfolding end_len choose begins
-end_cr_other [] h e g = absurd (omega arith)
-end_cr_other (b ∷ []) h e g = absurd (omega arith)
-end_cr_other (b ∷ (c ∷ f)) h e g = rw (e, ne_eqb c 0x0a g)
+-- by the texts that it may be
+pub end_begins : (f : List ℕ) → end_len f ≡ choose (prefix (0x0a ∷ []) f) 1 (choose (prefix (0x0d ∷ 0x0a ∷ []) f) 2 0)
+unfolding end_len begins prefix choose
+end_begins [] = refl
+end_begins (b ∷ []) = rw (and-true (eqb b 0x0a)) refl
+end_begins (b ∷ (d ∷ f)) = rw (and-true (eqb b 0x0a), and-true (eqb d 0x0a)) refl
 
 -- g begins with a line end of k bytes
 record EndAt (g : List ℕ) (k : ℕ) : Type 0 where
@@ -99,20 +71,21 @@ end_at (b ∷ (c ∷ f)) h = go (eqb b 0x0a) (eqb b 0x0d) (eqb c 0x0a) refl refl
     go false true false ex ey ez = absurd (h (rw (ex, ey, ez)))
     go false false z ex ey ez = absurd (h (rw (ex, ey)))
 
-pub line_permitted : (f : List ℕ) (n k : ℕ) → n ≡ leading permitted f → k ≡ end_len (drop n f) → (k ≡ 0 → ⊥) → LineOf f n (n + k) × (every permitted (take n f) ≡ true)
+pub line_permitted : (f : List ℕ) (n k : ℕ) → n ≡ leading permitted f → k ≡ end_len (drop n f) → (k ≡ 0 → ⊥) → FirstLineOf f (record { len = n; after = n + k; permitted = true })
 line_permitted f n k e g h =
     let fine : every permitted (take n f) ≡ true = rw e (leading_every permitted f) in
     let a : EndAt (drop n f) k = rw g (end_at (drop n f) (λ z. h (g ∙ z))) in
     let behind : drop n f ≡ a.end ++ drop (n + k) f = a.split ∙ ap (λ (x : List ℕ). a.end ++ x) (drop-drop k n f) in
     let fits : length (drop n f) ≡ k + length (drop k (drop n f)) = ap length a.split ∙ length-append a.end (drop k (drop n f)) ∙ ap (λ (x : ℕ). x + length (drop k (drop n f))) a.long in
-    let whole : f ≡ take n f ++ (a.end ++ drop (n + k) f) = sym (take-append-drop n f) ∙ ap (λ (x : List ℕ). take n f ++ x) behind in (
-      record {
+    let whole : f ≡ take n f ++ (a.end ++ drop (n + k) f) = sym (take-append-drop n f) ∙ ap (λ (x : List ℕ). take n f ++ x) behind in
+    record {
+      line_of = record {
         inside = omega arith;
         within = omega (arith, leading_within permitted f, length-drop n f);
         split = ap physical whole ∙ phys_line (take n f) (drop (n + k) f) fine a.is;
-      },
-      fine,
-    )
+      };
+      tested = fine;
+    }
 
 -- ## The line by its LF
 
@@ -171,11 +144,7 @@ not_permitted f l p e h = go (every permitted l) refl
     go true g = let s : Spelt l f = spelt (spelled f) l p e in absurd (some_run l f s.rest s.split s.is g h)
 
 pub line_not_permitted : (f : List ℕ) (n len : ℕ) → end_len (drop (leading permitted f) f) ≡ 0 → n ≡ leading no_lf f → n < length f → Shortened (ends 0x0d (take n f)) (take n f) len
-    → LineOf f len (n + 1) × (every permitted (take len f) ≡ false)
+    → FirstLineOf f (record { len = len; after = n + 1; permitted = false })
 line_not_permitted f n len none e h s =
     let first : LineOf f len (n + 1) = line_of f n len e h s in
-    (first, not_permitted f (take len f) (physical (drop (n + 1) f)) first.split none)
-
-pub nil : (l : List ℕ) → length l ≡ 0 → l ≡ []
-nil [] h = refl
-nil (b ∷ l) h = absurd (omega arith)
+    record { line_of = first; tested = not_permitted f (take len f) (physical (drop (n + 1) f)) first.split none }

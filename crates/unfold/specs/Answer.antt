@@ -1,18 +1,24 @@
 -- The answer of unfolding, in 01's numbers.
-use Rattle.std.specs.Prelude.{ℕ, ◌+◌, ◌≤◌}
+use Rattle.std.specs.Prelude.{ℕ, ◌+◌, ◌≤◌, ◌≡◌, Result, Ok, Err}
 use Rattle.meaning.specs.Answer.{accepted, refusal}
 use Rattle.meaning.specs.Answer as table
-use Rattle.unfold.specs.declared.Answer.{Answer}
-use Rattle.unfold.specs.declared.Answer.TheVariants.{Text, Fault, NoRoom}
+use Rattle.base.specs.Reasons.{number_of}
+use Rattle.unfold.specs.declared.Fault.{Fault}
 
 -- "0, text bytes, 0, 0 or reading's .. 3 to 6": a fault's place is its logical line, and 6 has none
-abbrev pub answer_of : Answer → table.Answer
-answer_of (Text bytes) = accepted bytes 0 0
-answer_of (Fault number line) = refusal number line 0
-answer_of NoRoom = refusal 6 0 0
+abbrev pub answer_of : Result ℕ Fault → table.Answer
+answer_of (Ok bytes) = accepted bytes 0 0
+answer_of (Err f) = refusal (number_of f.reason) f.line 0
+
+-- 3 to 5 have a line of the file, and 6 has none
+pub record FaultWithin (size : ℕ) (f : Fault) : Type 0 where
+  pub least : 3 ≤ number_of f.reason
+  pub greatest : number_of f.reason ≤ 6
+  pub first : number_of f.reason ≤ 5 → 1 ≤ f.line
+  pub last : f.line ≤ size + 1
+  pub roomless : 6 ≤ number_of f.reason → f.line ≡ 0
 
 -- the values that an answer can have for a file of this size
-abbrev pub Within : ℕ → Answer → Type 0
-Within size (Text bytes) = bytes ≤ size
-Within size (Fault number line) = (3 ≤ number) × (number ≤ 5) × (1 ≤ line) × (line ≤ size + 1)
-Within size NoRoom = Unit {0}
+abbrev pub Within : ℕ → Result ℕ Fault → Type 0
+Within size (Ok bytes) = bytes ≤ size
+Within size (Err f) = FaultWithin size f

@@ -1,8 +1,10 @@
 -- What a step over one physical line promises.
 use Rattle.std.specs.Prelude.{ℕ, ◌+◌, ◌<◌, ◌≤◌, ◌≡◌, Bool, true, false, List, [], length, take, drop}
+use Rattle.std.specs.Prelude.{Option, Some, None, Result, Ok, Err}
 use Rattle.meaning.specs.Unfold.{fault, physical, put, next, unfold_lines}
+use Rattle.base.specs.Reasons.{number_of}
+use Rattle.base.specs.declared.reasons.Reason.{Reason}
 use Rattle.unfold.specs.declared.steps.LinePart.{LinePart}
-use Rattle.unfold.specs.declared.steps.LinePart.TheVariants.{Done, Bad, More, Last}
 
 -- the length of CONT and a space, where they are dropped
 abbrev pub skip : Bool → ℕ
@@ -18,14 +20,18 @@ pub record Parted (m : ℕ) (continues continued : Bool) (f : List ℕ) (start l
       → unfold_lines m n continues (physical f)
       ≡ put continued (take len (drop start f)) (unfold_lines m (next continued n) continued (physical (drop after f)))
 
-pub record Refused (m : ℕ) (continues : Bool) (f : List ℕ) (number : ℕ) : Type 0 where
-  pub least : 3 ≤ number
-  pub greatest : number ≤ 5
-  pub is : (n : ℕ) → unfold_lines m n continues (physical f) ≡ fault number n
+pub record Refused (m : ℕ) (continues : Bool) (f : List ℕ) (reason : Reason) : Type 0 where
+  pub least : 3 ≤ number_of reason
+  pub greatest : number_of reason ≤ 5
+  pub is : (n : ℕ) → unfold_lines m n continues (physical f) ≡ fault (number_of reason) n
+
+-- what the first physical line of f is judged to be, where it continues a line or not
+abbrev pub Judged : ℕ → Bool → List ℕ → Result LinePart Reason → Type 0
+Judged m continues f (Ok p) = Parted m continues p.continued f p.part.start p.part.len p.after
+Judged m continues f (Err reason) = Refused m continues f reason
 
 -- what a step over the first physical line of f finds, where it continues a line or not
-abbrev pub Stepped : ℕ → Bool → List ℕ → LinePart → Type 0
-Stepped m continues f Done = (f ≡ []) × (continues ≡ false)
-Stepped m continues f (Bad number) = Refused m continues f number
-Stepped m continues f (More start len after) = Parted m continues true f start len after
-Stepped m continues f (Last start len after) = Parted m continues false f start len after
+abbrev pub Stepped : ℕ → Bool → List ℕ → Result (Option LinePart) Reason → Type 0
+Stepped m continues f (Ok None) = (f ≡ []) × (continues ≡ false)
+Stepped m continues f (Ok (Some p)) = Judged m continues f (Ok p)
+Stepped m continues f (Err reason) = Judged m continues f (Err reason)

@@ -1,15 +1,13 @@
 -- What the loop over the physical lines keeps, and what the functions in it promise.
-use Rattle.std.specs.Prelude.{ℕ, ◌+◌, ◌-◌, ◌<◌, ◌≤◌, ◌≡◌, Bool, true, false, List, [], ◌∷◌, ◌++◌, length, take, drop}
-use Rattle.std.specs.Prelude.{replicate}
+use Rattle.std.specs.Prelude.{ℕ, ◌+◌, ◌<◌, ◌≤◌, ◌≡◌, Bool, true, false, List, [], ◌∷◌, ◌++◌, length, take, drop}
+use Rattle.std.specs.Prelude.{Option, Some, None, Result, Ok, Err}
 use Rattle.meaning.specs.Unfold.{Unfolded, lines, fault, physical, unfold_lines, unfold_file}
 use Rattle.meaning.specs.Unfold.{unfolded_text}
-use Rattle.meaning.specs.Answer.{TextResult, text_refused, text_unfolded}
-use Rattle.unfold.specs.Answer.{answer_of, Within}
-use Rattle.unfold.specs.declared.Answer.{Answer}
-use Rattle.unfold.specs.declared.Answer.TheVariants.{Text, NoRoom}
+use Rattle.meaning.specs.Answer.{accepted, TextResult, filled, text_refused, text_unfolded}
+use Rattle.base.specs.Reasons.{number_of}
+use Rattle.unfold.specs.Answer.{answer_of, FaultWithin, Within}
+use Rattle.unfold.specs.declared.Fault.{Fault}
 use Rattle.unfold.specs.declared.LineCursor.{LineCursor}
-use Rattle.unfold.specs.declared.Turn.{Turn}
-use Rattle.unfold.specs.declared.Turn.TheVariants.{Go, Stop}
 
 -- ## The text of a rest of the file
 
@@ -44,10 +42,21 @@ pub record Put (used : ℕ) (part text exit : List ℕ) (r : ℕ) : Type 0 where
   pub end : r ≡ used + length part
   pub fits : r ≤ length text → take r exit ≡ take used text ++ part
 
--- a text of used bytes, and zeros behind it; or nothing but zeros, where it did not fit
-pub record Finished (used : ℕ) (text exit : List ℕ) (answer : Answer) : Type 0 where
-  pub fits : used ≤ length text → (answer ≡ Text used) × (exit ≡ take used text ++ replicate (length text - used) 0)
-  pub full : length text < used → (answer ≡ NoRoom) × (exit ≡ replicate (length text) 0)
+-- a fault of f, which is the answer for a room of this size
+pub record FaultOf (m : ℕ) (f : List ℕ) (room : ℕ) (fault : Fault) : Type 0 where
+  pub result : text_unfolded room (unfold_file m f) ≡ text_refused room (number_of fault.reason) fault.line
+  pub within : FaultWithin (length f) fault
+
+-- the text of f, which is the first used bytes of the room
+pub record TextOf (m : ℕ) (f exit : List ℕ) (room used : ℕ) : Type 0 where
+  pub shorter : used ≤ length f
+  pub fits : used ≤ room
+  pub result : text_unfolded room (unfold_file m f)
+      ≡ record { answer = accepted used 0 0; text = filled 0 room (take used exit) }
+
+abbrev pub Over : ℕ → List ℕ → ℕ → List ℕ → Result ℕ Fault → Type 0
+Over m f room exit (Ok used) = TextOf m f exit room used
+Over m f room exit (Err found) = FaultOf m f room found
 
 -- ## What the loop keeps
 
@@ -65,11 +74,18 @@ pub record TurnReady (m : ℕ) (f text : List ℕ) (s : LineCursor) : Type 0 whe
       ≡ overfull (length text) (unfold_lines m s.line s.continues (physical (drop s.at f)))
 
 -- the answer, and the room's content
-pub record Ended (m : ℕ) (f : List ℕ) (room : ℕ) (exit : List ℕ) (answer : Answer) : Type 0 where
+pub record Ended (m : ℕ) (f : List ℕ) (room : ℕ) (exit : List ℕ) (answer : Result ℕ Fault) : Type 0 where
   pub number : answer_of answer ≡ (text_unfolded room (unfold_file m f)).answer
   pub text : exit ≡ (text_unfolded room (unfold_file m f)).text
   pub within : Within (length f) answer
 
-abbrev pub Turned : ℕ → List ℕ → ℕ → List ℕ → ℕ → Turn → Type 0
-Turned m f room exit at (Go s) = (at < s.at) × TurnReady m f exit s
-Turned m f room exit at (Stop answer) = Ended m f room exit answer
+-- no line is left behind the cursor
+pub record Finished (f text exit : List ℕ) (s : LineCursor) : Type 0 where
+  pub kept : exit ≡ text
+  pub empty : drop s.at f ≡ []
+  pub ended : s.continues ≡ false
+
+abbrev pub Turned : ℕ → (f text exit : List ℕ) → LineCursor → Result (Option LineCursor) Fault → Type 0
+Turned m f text exit s (Ok None) = Finished f text exit s
+Turned m f text exit s (Ok (Some after)) = (s.at < after.at) × TurnReady m f exit after
+Turned m f text exit s (Err found) = FaultOf m f (length text) found

@@ -8,17 +8,30 @@ ghost use Rattle.std.specs.Prelude.{◌≡◌, [], ◌∷◌, ◌+◌, ◌<◌, 
 ghost use Rattle.meaning.specs.Unfold.{unfold_file};
 ghost use Rattle.meaning.specs.Answer.{text_unfolded};
 ghost use Rattle.unfold.specs.Answer.{answer_of, Within};
-ghost use Rattle.unfold.specs.Turn.{Put, Finished, TurnReady, Turned};
+ghost use Rattle.unfold.specs.Turn.{Put, TurnReady, Turned, Over};
 
-use crate::steps::LinePart;
+use base::reasons::{Reason, Refused};
 use base::rooms;
 
-// What unfolding answers: the text's length; the number of a fault and its logical line; no room for the text.
+// A fault and its logical line; too little room for the text has none, 0.
 #[derive(Clone, Copy)]
-pub enum Answer {
-    Text(usize),
-    Fault(u8, usize),
-    NoRoom,
+pub struct Fault {
+    pub reason: Reason,
+    pub line: usize,
+}
+
+impl From<Fault> for Refused {
+    ghost use Rattle.std.specs.Prelude.{◌≡◌};
+
+    ghost from_gives = { λ fault r. r ≡ record { reason = fault.reason; first = fault.line; second = 0 } };
+
+    fn from(fault: Fault) -> Refused {
+        Refused {
+            reason: fault.reason,
+            first: fault.line,
+            second: 0,
+        }
+    }
 }
 
 // Before the physical line at `at`: its logical line, the length of the text so far (which goes on growing where the
@@ -29,12 +42,6 @@ struct LineCursor {
     line: usize,
     used: usize,
     continues: bool,
-}
-
-#[derive(Clone, Copy)]
-enum Turn {
-    Go(LineCursor),
-    Stop(Answer),
 }
 
 // Puts part behind the first used bytes of text, if there is room, and says where it ends or would end.
@@ -50,92 +57,73 @@ fn put_part(part: &[u8], text: &mut [u8], used: usize) -> usize
     }
 }
 
-// Puts an LF behind the first used bytes of text, if there is room, and says where it ends or would end.
-fn put_line_end(text: &mut [u8], used: usize) -> usize
-    requires { used + 1 < 2 ^ 64 }
-    ensures { Put used (0x0a ∷ []) text.old text.new result }
-{
-    if text.len() <= used {
-        return used + 1;
-    }
-    text[used] = 10;
-    used + 1
-}
-
-// The answer for a text of used bytes, which stands in the room if it fits.
-fn finish(text: &mut [u8], used: usize) -> Answer
-    ensures { Finished used text.old text.new result }
-{
-    if text.len() < used {
-        rooms::clear(text);
-        return Answer::NoRoom;
-    }
-    rooms::clear(&mut text[used..]);
-    Answer::Text(used)
-}
-
-// One turn: the physical line at the cursor.
-fn one_turn(file: &[u8], mark: u8, text: &mut [u8], cursor: LineCursor) -> Turn
+// One turn: the physical line at the cursor. There is no next cursor where no line is left.
+fn one_turn(
+    file: &[u8],
+    mark: u8,
+    text: &mut [u8],
+    cursor: LineCursor,
+) -> Result<Option<LineCursor>, Fault>
     requires { TurnReady mark file.now text.old cursor }
-    ensures { Turned mark file.now (length text.old) text.new cursor.at result }
+    ensures { Turned mark file.now text.old text.new cursor result }
 {
     let at = cursor.at;
     let line = cursor.line;
-    let used = cursor.used;
-    let continues = cursor.continues;
-    let step = steps::over_line(&file[at..], mark, continues);
-    match step {
-        LinePart::Done => Turn::Stop(finish(text, used)),
-        LinePart::Bad(number) => {
-            rooms::clear(text);
-            Turn::Stop(Answer::Fault(number, line))
-        }
-        LinePart::More { start, len, after } => {
-            let from = at + start;
-            let end = put_part(&file[from..from + len], text, used);
-            Turn::Go(LineCursor {
-                at: at + after,
-                line,
-                used: end,
-                continues: true,
-            })
-        }
-        LinePart::Last { start, len, after } => {
-            let from = at + start;
-            let end = put_part(&file[from..from + len], text, used);
-            Turn::Go(LineCursor {
-                at: at + after,
-                line: line + 1,
-                used: put_line_end(text, end),
-                continues: false,
-            })
-        }
+    let step = steps::over_line(&file[at..], mark, cursor.continues);
+    let Some(found) = step.map_err(|reason| Fault { reason, line })? else {
+        return Ok(None);
+    };
+    let from = at + found.part.start;
+    let end = put_part(&file[from..from + found.part.len], text, cursor.used);
+    let next = LineCursor {
+        at: at + found.after,
+        line,
+        used: end,
+        continues: true,
+    };
+    if found.continued {
+        return Ok(Some(next));
     }
+    Ok(Some(LineCursor {
+        line: line + 1,
+        used: put_part(b"\n", text, end),
+        continues: false,
+        ..next
+    }))
+}
+
+// The lines of file, in text as far as they fit: the length of their text.
+fn over_lines(file: &[u8], mark: u8, text: &mut [u8]) -> Result<usize, Fault>
+    ensures { Over mark file.now (length text.old) text.new result }
+{
+    let mut cursor = LineCursor {
+        at: 0,
+        line: 1,
+        used: 0,
+        continues: false,
+    };
+    while let Some(next) = one_turn(file, mark, text, cursor)? {
+        cursor = next;
+    }
+    if text.len() < cursor.used {
+        return Err(Fault {
+            reason: Reason::RoomTooSmall,
+            line: 0,
+        });
+    }
+    Ok(cursor.used)
 }
 
 // Unfolds file with this mark into text: each logical line and one LF, then zeros. A refusal leaves nothing but zeros.
-pub fn unfold_with(file: &[u8], mark: u8, text: &mut [u8]) -> Answer
+pub fn unfold_with(file: &[u8], mark: u8, text: &mut [u8]) -> Result<usize, Fault>
     ensures answer { answer_of result
         ≡ (text_unfolded (length text.old) (unfold_file mark file.now)).answer }
     ensures room { text.new
         ≡ (text_unfolded (length text.old) (unfold_file mark file.now)).text }
     ensures within { Within (length file.now) result }
 {
-    let mut s = LineCursor {
-        at: 0,
-        line: 1,
-        used: 0,
-        continues: false,
-    };
-    loop {
-        let t = one_turn(file, mark, text, s);
-        match t {
-            Turn::Go(next) => {
-                s = next;
-            }
-            Turn::Stop(answer) => {
-                return answer;
-            }
-        }
-    }
+    let over = over_lines(file, mark, text);
+    let used = over.unwrap_or(0);
+    text[used..].fill(0);
+    over
 }

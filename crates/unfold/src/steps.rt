@@ -1,40 +1,29 @@
 // A step over one physical line: its fault, or its part of a logical line.
-ghost use Rattle.std.specs.Prelude.{◌≡◌, not, ◌&&◌, take};
-ghost use Rattle.meaning.specs.Unfold.{permitted, every, prefix, cont};
-ghost use Rattle.unfold.specs.First.{LineOf};
-ghost use Rattle.unfold.specs.LinePart.{skip, Stepped};
+ghost use Rattle.std.specs.Prelude.{◌≡◌, not, ◌&&◌};
+ghost use Rattle.meaning.specs.Unfold.{prefix, cont};
+ghost use Rattle.unfold.specs.First.{FirstLineOf};
+ghost use Rattle.unfold.specs.LinePart.{skip, Judged, Stepped};
 
 use crate::lines;
-use crate::lines::First;
-use base::{bools, compare};
+use crate::lines::FirstLine;
+use base::compare;
+use base::parts::Part;
+use base::reasons::Reason;
 
-// What a step finds: no line left; the number of a fault; a part of a line that is continued, or that ends one. A part
-// is len bytes from start, and the next physical line begins at after.
+// A physical line's part of a logical line, where the next physical line begins, and whether that one continues the
+// logical line.
 #[derive(Clone, Copy)]
-pub(crate) enum LinePart {
-    Done,
-    Bad(u8),
-    More {
-        start: usize,
-        len: usize,
-        after: usize,
-    },
-    Last {
-        start: usize,
-        len: usize,
-        after: usize,
-    },
+pub(crate) struct LinePart {
+    pub part: Part,
+    pub after: usize,
+    pub continued: bool,
 }
 
 // Whether a line should begin with CONT and a space, and does not.
 fn unled(line: &[u8], continues: bool) -> bool
     ensures { result ≡ (continues && not (prefix cont line.now)) }
 {
-    if continues {
-        !compare::starts_cont(line)
-    } else {
-        false
-    }
+    continues && !compare::starts_cont(line)
 }
 
 // The length of CONT and one space, where they are dropped.
@@ -44,47 +33,41 @@ fn skipped(continues: bool) -> usize
     if continues { 5 } else { 0 }
 }
 
-// The first physical line of the rest, whose content is its first len bytes: 3, then 5, then 4, then its part.
-fn judge(rest: &[u8], len: usize, after: usize, fine: bool, mark: u8, continues: bool) -> LinePart
-    requires line_of { LineOf rest.now len after }
-    requires rest_value { every permitted (take len rest.now) ≡ fine }
-    ensures { Stepped mark continues rest.now result }
+// The first physical line of the rest: 3, then 5, then 4, then its part.
+fn judge(rest: &[u8], first: FirstLine, mark: u8, continues: bool) -> Result<LinePart, Reason>
+    requires { FirstLineOf rest.now first }
+    ensures { Judged mark continues rest.now result }
 {
-    let l = &rest[..len];
-    let continued = compare::ends_in(l, mark);
-    if bools::both(continued, after == rest.len()) {
-        return LinePart::Bad(3);
+    let line = &rest[..first.len];
+    let continued = compare::ends_in(line, mark);
+    if continued & (first.after == rest.len()) {
+        return Err(Reason::EndMissing);
     }
-    if unled(l, continues) {
-        return LinePart::Bad(5);
+    if unled(line, continues) {
+        return Err(Reason::ContinuationMissing);
     }
-    if !fine {
-        return LinePart::Bad(4);
+    if !first.permitted {
+        return Err(Reason::ByteNotPermitted);
     }
     let start = skipped(continues);
-    let len = lines::without_last(&l[start..], continued);
-    if continued {
-        LinePart::More { start, len, after }
-    } else {
-        LinePart::Last { start, len, after }
-    }
+    let len = lines::without_last(&line[start..], continued);
+    Ok(LinePart {
+        part: Part { start, len },
+        after: first.after,
+        continued,
+    })
 }
 
-// A step over the first physical line of the rest, which continues a line or not.
-pub(crate) fn over_line(rest: &[u8], mark: u8, continues: bool) -> LinePart
+// A step over the first physical line of the rest, which continues a line or not. There is no part where none is left.
+pub(crate) fn over_line(rest: &[u8], mark: u8, continues: bool) -> Result<Option<LinePart>, Reason>
     ensures { Stepped mark continues rest.now result }
 {
-    let first = lines::first_line(rest);
-    match first {
-        First::Nothing => {
-            if continues {
-                LinePart::Bad(3)
-            } else {
-                LinePart::Done
-            }
-        }
-        First::Open => LinePart::Bad(3),
-        First::Permitted { len, after } => judge(rest, len, after, true, mark, continues),
-        First::NotPermitted { len, after } => judge(rest, len, after, false, mark, continues),
-    }
+    let Some(first) = lines::first_line(rest)? else {
+        return if continues {
+            Err(Reason::EndMissing)
+        } else {
+            Ok(None)
+        };
+    };
+    Ok(Some(judge(rest, first, mark, continues)?))
 }

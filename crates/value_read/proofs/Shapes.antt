@@ -2,10 +2,14 @@
 use Prim.Native.Nat.{ℕ, zero, suc, ◌+◌, ◌-◌, ◌/◌, ◌%◌, ◌≤◌, ◌<◌, ◌^◌}
 use native.Mathlib.Omega.{arith}
 use mathlib.Core.Path.{◌≡◌, refl, ◌∙◌}
-use mathlib.Core.Bool.{Bool, true, false, ◌&&◌}
-use mathlib.Core.List.{List, ◌++◌}
+use mathlib.Core.Bool.{Bool, not, true, false, ◌&&◌, ◌||◌}
+use mathlib.Core.List.{List, [], ◌∷◌, ◌++◌}
 use lib.Dec.{leb, ltb, eqb}
-use lib.IntN.{ℤ, pos, neg_ℤ}
+use lib.Pointwise.{pointwise}
+use Rattle.std.proofs.Common.{Option}
+use lib.IntN.{ℤ, pos, negsuc, neg_ℤ}
+use lib.Signed.{lt_z, le_z}
+use Rattle.std.proofs.lemmas.Bool.Decides.{nat_tests}
 use lib.ListN.{length, take, drop, get_or, length-take, length-drop, length-append}
 use borrow.Author.Tests.{le-leb, lt-leb, ne_eqb, ltb-true, ltb-false}
 use Rattle.meaning.specs.Bytes.{choose, refuse, digit, every, begins}
@@ -16,7 +20,6 @@ use Rattle.meaning.proofs.Values.Digits.{after_append, every_append, digits_are}
 use Rattle.base.proofs.Scan.{and_false}
 use Rattle.value_read.specs.Meant.{Reads, judged}
 use Rattle.meaning.proofs.Values.Counts.{below_18, date_year, date_month, date_day}
-use Rattle.value_read.specs.declared.digits.DigitsFound.{DigitsFound}
 
 -- ## So many digits
 
@@ -33,7 +36,7 @@ pub just_digits : (least most : ℕ) (s : List ℕ) → least ≤ length s → l
 unfolding is_digits
 just_digits least most s l h = rw (le-leb least (length s) l, le-leb (length s) most h)
 
-pub digits_read : (least most : ℕ) (s : List ℕ) (n : ℕ) (r : DigitsFound) → least ≤ length s → length s ≤ most → Reads (every digit s) n r → Reads (is_digits least most s) n r
+pub digits_read : (least most : ℕ) (s : List ℕ) (n : ℕ) (r : Option ℕ) → least ≤ length s → length s ≤ most → Reads (every digit s) n r → Reads (is_digits least most s) n r
 digits_read least most s n r l h e = rw (just_digits least most s l h) e
 
 pub count_small : (s : List ℕ) → is_digits 1 18 s ≡ true → digits_value s < 10 ^ 18
@@ -88,7 +91,7 @@ module _ (d : ℕ) (s : List ℕ) (above : 0 < d) (size : d + 1 < length s) (few
   pointed_none e = pointed_parts d s above size few point ∙ rw e
 
   -- the whole part was digits, and r is what the decimals were
-  pub pointed_read : (n : ℕ) (r : DigitsFound) → (every digit (take (whole d s) s) ≡ true) × (n ≡ digits_value (take (whole d s) s))
+  pub pointed_read : (n : ℕ) (r : Option ℕ) → (every digit (take (whole d s) s) ≡ true) × (n ≡ digits_value (take (whole d s) s))
       → Reads (every digit (drop (whole d s + 1) s)) (digits_after n (drop (whole d s + 1) s)) r → Reads (is_number d s) (digits_value (number_digits d s)) r
   pointed_read n r e x =
       let shape : is_number d s ≡ every digit (drop (whole d s + 1) s) = pointed_parts d s above size few point ∙ rw e.0 in
@@ -132,6 +135,40 @@ unfolding date_of refuse
 date_other s h e = rw (just_digits 8 8 s (omega arith) (omega arith), e)
 
 -- ## Numbers with their sign
+
+le_not : (x y : ℤ) → le_z x y ≡ not (lt_z y x)
+le_not (pos a) (pos b) = grind (arith, nat_tests)
+le_not (pos a) (negsuc b) = refl
+le_not (negsuc a) (pos b) = refl
+le_not (negsuc a) (negsuc b) = grind (arith, nat_tests)
+
+-- the two bounds, tested as the code does
+pub within_is : (c : Component) (v : ℤ) → within c v ≡ (le_z c.least v && le_z v c.greatest)
+unfolding within
+within_is c v = rw (le_not c.least v, le_not v c.greatest)
+
+-- the first byte, tested as the library does
+pub first_begins : (b : ℕ) (s : List ℕ) → pointwise eqb (b ∷ []) (take 1 s) ≡ begins b s
+unfolding begins
+first_begins b [] = refl
+first_begins b (c ∷ s) = grind (arith, nat_tests)
+
+begins_some : (b : ℕ) (s : List ℕ) → begins b s ≡ true → 1 ≤ length s
+unfolding begins
+begins_some b [] e = cc
+begins_some b (c ∷ s) e = omega arith
+
+pub signed_size : (s : List ℕ) → (begins 0x2b s || begins 0x2d s) ≡ true → (1 ≤ length s) × (drop 1 s ≡ unsigned s)
+unfolding unsigned choose
+signed_size s e = (some (begins 0x2b s) refl, rw e)
+  where
+    some : (plus : Bool) → begins 0x2b s ≡ plus → 1 ≤ length s
+    some true h = begins_some 0x2b s h
+    some false h = begins_some 0x2d s (rw h at e)
+
+pub unsigned_size : (s : List ℕ) → (begins 0x2b s || begins 0x2d s) ≡ false → s ≡ unsigned s
+unfolding unsigned choose
+unsigned_size s e = rw e
 
 pub number_read : (c : Component) (s : List ℕ) (n : ℕ) (v : ℤ) → (is_number c.decimals (unsigned s) ≡ true) × (n ≡ digits_value (number_digits c.decimals (unsigned s)))
     → v ≡ choose (begins 0x2d s) (neg_ℤ (pos n)) (pos n) → judged (within c v) v ≡ number_of c s

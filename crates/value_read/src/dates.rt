@@ -1,11 +1,10 @@
 // Dates and enumerations.
-ghost use Rattle.std.specs.Prelude.{◌≡◌, ◌<◌, ◌^◌, ◌/◌, ◌%◌, ltb, pos};
+ghost use Rattle.std.specs.Prelude.{◌≡◌};
 ghost use Rattle.meaning.specs.Value.{is_leap_year, days_of_month, is_day, date_of, enumeration_of};
-ghost use Rattle.value_read.specs.Meant.{judged, value_meant};
+ghost use Rattle.value_read.specs.Meant.{value_meant};
 
-use crate::digits::DigitsFound;
-use crate::{Value, digits};
-use base::bools;
+use crate::digits;
+use base::reasons::Reason;
 
 // A leap year of the Gregorian calendar; year 0000 is one.
 fn is_leap_year(year: u64) -> bool
@@ -34,53 +33,26 @@ pub fn is_day(year: u64, month: u64, day: u64) -> bool
     ensures { result ≡ is_day year month day }
 {
     match month {
-        1..=12 => bools::both(1 <= day, day <= days_of_month(year, month)),
+        1..=12 => 1 <= day && day <= days_of_month(year, month),
         _ => false,
     }
 }
 
-// The value of eight digits, where they are a day.
-fn judge_date(n: u64) -> Value
-    requires { n < 10 ^ 8 }
-    ensures { value_meant result ≡ judged (is_day (n / 10000) (n / 100 % 100) (n % 100)) (pos n) }
-{
-    if is_day(n / 10000, n / 100 % 100, n % 100) {
-        Value::Pair(1, n as i64)
-    } else {
-        Value::Wrong(14)
-    }
-}
-
 // "Date: eight digits"
-pub fn read_date(field: &[u8]) -> Value
+pub fn read_date(field: &[u8]) -> Result<(i64, i64), Reason>
     ensures { value_meant result ≡ date_of field.now }
 {
     if field.len() != 8 {
-        return Value::Wrong(13);
+        return Err(Reason::WrongShape);
     }
-    match digits::read_digits(0, 0, field) {
-        DigitsFound::Number(n) => judge_date(n),
-        DigitsFound::Others => Value::Wrong(13),
-    }
-}
-
-fn judge_leaf(n: u64, leaves: u64) -> Value
-    requires { n < 10 ^ 18 }
-    ensures { value_meant result ≡ judged (ltb n leaves) (pos n) }
-{
-    if n < leaves {
-        Value::Pair(1, n as i64)
-    } else {
-        Value::Wrong(14)
-    }
+    let n = digits::read_digits(0, 0, field).ok_or(Reason::WrongShape)?;
+    crate::judge(is_day(n / 10000, n / 100 % 100, n % 100), n as i64)
 }
 
 // "Enumeration: 1 to 18 digits, below the count of leaves"
-pub fn read_enumeration(field: &[u8], leaves: u64) -> Value
+pub fn read_enumeration(field: &[u8], leaves: u64) -> Result<(i64, i64), Reason>
     ensures { value_meant result ≡ enumeration_of leaves field.now }
 {
-    match digits::read_count(field) {
-        DigitsFound::Number(n) => judge_leaf(n, leaves),
-        DigitsFound::Others => Value::Wrong(13),
-    }
+    let n = digits::read_count(field).ok_or(Reason::WrongShape)?;
+    crate::judge(n < leaves, n as i64)
 }

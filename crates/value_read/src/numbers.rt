@@ -3,36 +3,31 @@ ghost use Rattle.std.specs.Prelude.{◌≡◌, ◌+◌, ◌≤◌, ◌<◌, ◌^
 ghost use Rattle.meaning.specs.Bytes.{choose, begins};
 ghost use Rattle.meaning.specs.Value.{digits_value, unsigned, is_number, number_digits, within, number_of};
 ghost use Rattle.model_records.specs.Components.{component_of};
-ghost use Rattle.value_read.specs.Meant.{Reads, judged, value_meant};
+ghost use Rattle.value_read.specs.Meant.{Reads, value_meant};
 
-use crate::digits::DigitsFound;
-use crate::{Value, digits};
+use crate::digits;
+use base::reasons::Reason;
 use model_records::Component;
 
 // A point and exactly so many digits behind it, at least one before it.
-fn read_pointed(field: &[u8], decimals: usize) -> DigitsFound
+fn read_pointed(field: &[u8], decimals: usize) -> Option<u64>
     requires decimals_nonzero { 0 < decimals }
     requires decimals_bound { decimals < 256 }
     ensures { Reads (is_number decimals field.now) (digits_value (number_digits decimals field.now)) result }
 {
     if field.len() <= decimals + 1 {
-        return DigitsFound::Others;
+        return None;
     }
     let whole = field.len() - (decimals + 1);
-    if 18 < whole + decimals {
-        return DigitsFound::Others;
+    if 18 < whole + decimals || field[whole] != b'.' {
+        return None;
     }
-    if field[whole] != b'.' {
-        return DigitsFound::Others;
-    }
-    match digits::read_digits(0, 0, &field[..whole]) {
-        DigitsFound::Number(n) => digits::read_digits(n, whole, &field[whole + 1..]),
-        DigitsFound::Others => DigitsFound::Others,
-    }
+    let n = digits::read_digits(0, 0, &field[..whole])?;
+    digits::read_digits(n, whole, &field[whole + 1..])
 }
 
 // A number without its sign: its value with all decimals.
-fn read_unsigned(field: &[u8], decimals: u8) -> DigitsFound
+fn read_unsigned(field: &[u8], decimals: u8) -> Option<u64>
     ensures { Reads (is_number decimals field.now) (digits_value (number_digits decimals field.now)) result }
 {
     if decimals == 0 {
@@ -47,24 +42,17 @@ fn sign_size(field: &[u8]) -> usize
     ensures { (result ≤ length field.now)
         × (drop result field.now ≡ unsigned field.now) }
 {
-    if field.len() == 0 {
-        return 0;
-    }
-    let b = field[0];
-    match b {
-        b'+' | b'-' => 1,
-        _ => 0,
+    if field.starts_with(b"+") || field.starts_with(b"-") {
+        1
+    } else {
+        0
     }
 }
 
 fn is_negative(field: &[u8]) -> bool
     ensures { result ≡ begins 0x2d field.now }
 {
-    if field.len() == 0 {
-        false
-    } else {
-        field[0] == b'-'
-    }
+    field.starts_with(b"-")
 }
 
 // The value: the sign is that of the field, also where the whole part is zero.
@@ -72,38 +60,21 @@ fn with_sign(negative: bool, n: u64) -> i64
     requires { n < 10 ^ 18 }
     ensures { result ≡ choose negative (neg_ℤ (pos n)) (pos n) }
 {
-    if negative { 0 - (n as i64) } else { n as i64 }
+    if negative { -(n as i64) } else { n as i64 }
 }
 
 // Within the bounds of a component.
 pub fn is_within(component: Component, v: i64) -> bool
     ensures { result ≡ within (component_of component) v }
 {
-    if v < component.least {
-        false
-    } else if component.greatest < v {
-        false
-    } else {
-        true
-    }
+    component.least <= v && v <= component.greatest
 }
 
-fn judge_number(component: Component, v: i64) -> Value
-    ensures { value_meant result ≡ judged (within (component_of component) v) v }
-{
-    if is_within(component, v) {
-        Value::Pair(1, v)
-    } else {
-        Value::Wrong(14)
-    }
-}
-
-pub fn read_number(field: &[u8], component: Component) -> Value
+pub fn read_number(field: &[u8], component: Component) -> Result<(i64, i64), Reason>
     ensures { value_meant result ≡ number_of (component_of component) field.now }
 {
     let size = sign_size(field);
-    match read_unsigned(&field[size..], component.decimals) {
-        DigitsFound::Number(n) => judge_number(component, with_sign(is_negative(field), n)),
-        DigitsFound::Others => Value::Wrong(13),
-    }
+    let n = read_unsigned(&field[size..], component.decimals).ok_or(Reason::WrongShape)?;
+    let v = with_sign(is_negative(field), n);
+    crate::judge(is_within(component, v), v)
 }

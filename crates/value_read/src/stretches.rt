@@ -5,28 +5,27 @@ ghost use Rattle.meaning.specs.Value.{is_undefined_twice};
 ghost use Rattle.meaning.specs.Value.{stretch_of};
 ghost use Rattle.value_read.specs.Meant.{value_meant, field_of};
 
-use crate::Value;
+use base::reasons::Reason;
 
 // "Text: 1 plus length, start"
-fn pair_stretch(field: &[u8], start: usize) -> Value
+fn stretch(field: &[u8], start: usize) -> (i64, i64)
     requires { start + (1 + length field.now) < 2 ^ 63 }
-    ensures { value_meant result ≡ stretch_of (field_of start field.now) }
+    ensures { value_meant (Ok result) ≡ stretch_of (field_of start field.now) }
 {
-    let size = 1 + field.len();
-    Value::Pair(size as i64, start as i64)
+    ((1 + field.len()) as i64, start as i64)
 }
 
-pub fn read_text(field: &[u8], start: usize, longest: usize) -> Value
+pub fn read_text(field: &[u8], start: usize, longest: usize) -> Result<(i64, i64), Reason>
     requires { start + (1 + length field.now) < 2 ^ 63 }
     ensures { value_meant result ≡ text_of longest (field_of start field.now) }
 {
     if !base::kinds::every_text_byte(field) {
-        return Value::Wrong(13);
+        return Err(Reason::WrongShape);
     }
     if longest < field.len() {
-        return Value::Wrong(14);
+        return Err(Reason::OutsideDomain);
     }
-    pair_stretch(field, start)
+    Ok(stretch(field, start))
 }
 
 // The shape of an identification.
@@ -62,14 +61,14 @@ pub fn same_identification(a: &[u8], b: &[u8]) -> bool
 }
 
 // A reference's stretch: the object's number comes when all lines are read.
-pub fn read_reference(field: &[u8], start: usize) -> Value
+pub fn read_reference(field: &[u8], start: usize) -> Result<(i64, i64), Reason>
     requires { start + (1 + length field.now) < 2 ^ 63 }
     ensures { value_meant result ≡ reference_of (field_of start field.now) }
 {
     if is_identification(field) {
-        pair_stretch(field, start)
+        Ok(stretch(field, start))
     } else {
-        Value::Wrong(13)
+        Err(Reason::WrongShape)
     }
 }
 
@@ -77,12 +76,12 @@ pub fn read_reference(field: &[u8], start: usize) -> Value
 pub fn is_undefined(undefined: u8, field: &[u8]) -> bool
     ensures { (start : ℕ) → result ≡ is_undefined undefined (field_of start field.now) }
 {
-    base::compare::same_bytes(field, &[undefined])
+    field == [undefined].as_slice()
 }
 
 // "Two undefined bytes as a field"
 pub fn is_undefined_twice(undefined: u8, field: &[u8]) -> bool
     ensures { (start : ℕ) → result ≡ is_undefined_twice undefined (field_of start field.now) }
 {
-    base::compare::same_bytes(field, &[undefined, undefined])
+    field == [undefined, undefined].as_slice()
 }

@@ -3,32 +3,16 @@ use Prim.Native.Nat.{ℕ, zero, suc, ◌+◌, ◌-◌, ◌/◌, ◌%◌, ◌≤�
 use native.Mathlib.Nat.{zero-add, le_refl}
 use native.Mathlib.Numerals.{add-one}
 use native.Mathlib.Omega.{arith}
-use mathlib.Core.Path.{◌≡◌, refl, sym, ap, ◌∙◌}
-use mathlib.Core.Bool.{Bool, true, false}
+use mathlib.Core.Path.{◌≡◌, sym, ap, ◌∙◌}
 use mathlib.Core.List.{List, [], ◌∷◌, ◌++◌, append_assoc, append-nil}
-use lib.Dec.{ltb}
 use lib.IntN.{ℤ, nat_abs}
 use lib.ListN.{length, take, drop, get_or, set, length-set, length-append, length-drop, drop_of_length-le}
 use lib.Seq.{sets, sets-eq, length-sets, drop-cons, drop-set-lt, get_or-set_same, append_snoc, length-take-le, take-suc, take_at, drop_at, set_at, drop-append-add, drop-drop}
 use borrow.Rule.Slice.PartMut.{put_mid, mid_of, mid_len, Post-is}
-use borrow.Author.Tests.{ltb-true, ltb-false}
 use Rattle.meaning.specs.Digits.{last_digits, digits_of, pointed, sign_of}
 use Rattle.meaning.proofs.Values.Digits.{last_length}
 use Rattle.meaning.proofs.Values.Shortest.{div_tens, last_pointed}
 use Rattle.value_write.specs.Written.{point_size, value_bytes}
-
--- ## Counting the digits
-
-pub count_next : (n size : ℕ) → 10 ^ size ≤ n → ((j : ℕ) → 0 < j → j < size → 10 ^ j ≤ n) → (j : ℕ) → 0 < j → j < size + 1 → 10 ^ j ≤ n
-count_next n size more before j a h = go (ltb j size) refl
-  where
-    go : (t : Bool) → ltb j size ≡ t → 10 ^ j ≤ n
-    go true e = before j a (ltb-true j size e)
-    go false e = let z : j ≡ size = omega (arith, ltb-false j size e) in rw z more
-
-pub point_one : (d : ℕ) → 0 < d → 1 ≡ point_size d
-point_one zero h = absurd (omega arith)
-point_one (suc d) h = refl
 
 -- ## A digit stored in front of those that stand
 
@@ -105,11 +89,6 @@ module _ (d n w : ℕ) (xs ys zs : List ℕ) (above : 0 < d) (room : d < length 
           ∙ set_at zs (get_or xs point_at 0) ys 0x2e point_at zs_size
           ∙ rw (e, f) (sym (pointed_at d point_at n above) ∙ ap (λ (k : ℕ). pointed d (last_digits k n)) (omega arith))
 
-      pub point_length : length (set (put_mid 0 (point_at - 0) decimals_put zs) point_at 0x2e) ≡ length xs
-      point_length =
-          length-set (put_mid 0 (point_at - 0) decimals_put zs) point_at 0x2e
-          ∙ ap (λ (l : List ℕ). length l) parts_put ∙ length-append zs (get_or xs point_at 0 ∷ ys) ∙ omega (arith, zs_size, ys_size)
-
 -- ## A value in front of a slice: its sign, then its digits
 
 -- without decimals the digits stand as they are
@@ -117,10 +96,6 @@ pub pointed_none : (d m n : ℕ) → d ≡ 0 → last_digits m n ≡ pointed d (
 unfolding pointed
 pointed_none zero m n e = ap (λ (k : ℕ). last_digits k n) (omega arith)
 pointed_none (suc d) m n e = absurd (omega arith)
-
-pub pointed_some : (d m n : ℕ) → 0 < d → pointed d (last_digits (m - 1) n) ≡ pointed d (last_digits (m - point_size d) n)
-pointed_some zero m n h = absurd (omega arith)
-pointed_some (suc d) m n h = refl
 
 pub pointed_size : (d : ℕ) (s : List ℕ) → d < length s → length (pointed d s) ≡ length s + point_size d
 unfolding pointed

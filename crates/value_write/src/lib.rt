@@ -6,20 +6,19 @@ ghost use Rattle.std.proofs.lemmas.List.Edits.{sets};
 ghost use Rattle.meaning.specs.Digits.{last_digits, digits_of, sign_of, pointed, number_bytes, date_bytes};
 ghost use Rattle.value_write.specs.Written.{point_size, value_bytes};
 
-use base::numbers;
-
 // The count of the shortest digits, `least` at least.
 fn count_digits(n: u64, least: usize) -> usize
     requires { (n < 10 ^ 19) × (0 < least) × (least ≤ 19) }
     ensures { (least ≤ result) × (result ≤ 19) × (digits_of least n ≡ last_digits result n) }
 {
-    let mut size = 1;
+    let mut size: usize = 1;
     let mut limit: u64 = 10;
+    // By hand: limits that grow, since a division for each digit is slower (docs/DECISIONS.md).
     while limit <= n {
         limit *= 10;
         size += 1;
     }
-    if size < least { least } else { size }
+    size.max(least)
 }
 
 // Fills a part with the last digits of n; what is left of n is the answer.
@@ -28,9 +27,7 @@ fn put_last(n: u64, out: &mut [u8]) -> u64
     ensures digits { out.new ≡ last_digits (length out.old) n }
 {
     let mut rest = n;
-    let mut i = out.len();
-    while 0 < i {
-        i -= 1;
+    for i in (0..out.len()).rev() {
         out[i] = 0x30 + (rest % 10) as u8;
         rest /= 10;
     }
@@ -41,7 +38,7 @@ fn put_last(n: u64, out: &mut [u8]) -> u64
 fn point_size(decimals: usize) -> usize
     ensures { result ≡ point_size decimals }
 {
-    if decimals == 0 { 0 } else { 1 }
+    usize::from(decimals != 0)
 }
 
 // Fills a part with the last digits of n and the point before the decimals.
@@ -90,7 +87,7 @@ fn put_value(v: i64, least: usize, decimals: usize, out: &mut [u8]) -> usize
     ensures bytes { out.new ≡ sets out.old 0 (value_bytes least decimals v) }
 {
     let sign = put_sign(v, out);
-    let n = numbers::magnitude(v);
+    let n = v.unsigned_abs();
     let size = count_digits(n, least);
     let end = sign + size + point_size(decimals);
     put_parts(n, decimals, &mut out[sign..end]);
@@ -124,5 +121,5 @@ pub fn put_enumeration(v: i64, out: &mut [u8]) -> usize
     ensures few { result ≤ 21 }
     ensures bytes { out.new ≡ sets out.old 0 (number_bytes 0 v) }
 {
-    put_value(v, 1, 0, out)
+    put_number(v, 0, out)
 }

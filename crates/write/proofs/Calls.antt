@@ -4,104 +4,128 @@ use native.Mathlib.Omega.{arith}
 use mathlib.Core.Path.{◌≡◌, refl, sym, ap, subst, ◌∙◌}
 use mathlib.Core.Bool.{Bool, true, false, not, ◌||◌}
 use mathlib.Core.List.{List, [], ◌∷◌, ◌++◌, append-nil}
+use mathlib.Core.Logic.{◌⊎◌, inl, inr}
 use lib.Dec.{ltb}
 use lib.ListN.{length, take, drop, replicate, length-append, length-take, length-drop, drop_of_length-le}
 use lib.Seq.{take-append-le}
 use borrow.Author.Tests.{lt-ltb, le-ltb, ltb-true, ltb-false, leb-true, not-false}
 use Rattle.meaning.specs.Bytes.{refuse}
 use Rattle.meaning.specs.Model.{Model}
-use Rattle.meaning.specs.Check.{good, check_model}
-use Rattle.meaning.specs.Answer.{accepted, refusal, check}
+use Rattle.meaning.specs.Check.{Checked, good, bad, check_model}
+use Rattle.meaning.specs.Answer.{accepted, refusal, check, check_answer}
 use Rattle.meaning.specs.Writing.{Lent, counts_fit, content_of, lines_of}
 use Rattle.meaning.specs.Readback.{is_table}
-use Rattle.meaning.specs.Width.{writing_refused, cut_lines, write_bytes, write_checked, write}
+use Rattle.meaning.specs.Width.{Written, writing_refused, cut_lines, write_bytes, write_checked, write}
+use Rattle.std.specs.Prelude.{Result, Ok, Err}
+use Rattle.std.specs.Result.{is_err}
+use Rattle.base.specs.declared.reasons.Reason.{Reason}
+use Rattle.base.specs.declared.reasons.Reason.TheVariants.{NoSuchLines, WidthWrong}
+use Rattle.base.specs.declared.reasons.Refused.{Refused}
+use Rattle.base.specs.Reasons.{number_of}
 use Rattle.base.proofs.Fill.{to_end}
 use Rattle.model_records.specs.Records.{model_at}
 use Rattle.meaning.proofs.Tests.Refuse.{holds}
-use Rattle.model_check.proofs.Found.{found_bad}
 use Rattle.write_lines.specs.declared.Put.{Put}
 use Rattle.write_lines.specs.Puts.{Puts}
 use Rattle.write_lines.proofs.Puts.{at_front}
 use Rattle.table.specs.Contents.{content_in}
-use Rattle.write.specs.Answers.{refusal_of, Fitting, Limited, settled_of}
+use Rattle.write.specs.Answers.{answer_of, came_to, refusal_of, Fitting, Limited, settled_of}
 
 module _ (b : List ℕ) (t : Lent) (width room : ℕ) where
-  pub under_bad : (at : ℕ) → refusal 2 at 0 ≡ check b → write b t width room ≡ writing_refused room 2 at
-  unfolding write write_checked
-  under_bad at h = rw (found_bad b at h)
+  pub under_bad : (number first second : ℕ) → refusal number first second ≡ check b → write b t width room ≡ record { answer = refusal number first second; output = replicate room 0 }
+  unfolding write write_checked check check_answer
+  under_bad number first second h = go (check_model b) refl
+    where
+      go : (c : Checked) → check_model b ≡ c → write b t width room ≡ record { answer = refusal number first second; output = replicate room 0 }
+      go (good m) e = let f : refusal number first second ≡ accepted (length m.topics) 0 0 = rw e at h in cc
+      go (bad at) e = let f : refusal number first second ≡ refusal 2 at 0 = rw e at h in rw (e, f) refl
 
   pub under_good : check_model b ≡ good (model_at b) → write b t width room ≡ write_checked t width room (good (model_at b))
   unfolding write
   under_good e = rw e
 
+-- ## The rooms that an answer leaves
+
+module _ (room : ℕ) (out : List ℕ) (w : Written) where
+  pub told : (r : Result ℕ Refused) → came_to room r out ≡ w → answer_of r ≡ w.answer
+  unfolding came_to
+  told (Ok n) e = ap (λ (x : Written). x.answer) e
+  told (Err r) e = ap (λ (x : Written). x.answer) e
+
+  pub left_bytes : (r : Result ℕ Refused) → is_err r ≡ false → came_to room r out ≡ w → out ≡ w.output
+  unfolding came_to
+  left_bytes (Ok n) h e = ap (λ (x : Written). x.output) e
+  left_bytes (Err r) h e = cc
+
+  pub left_zeros : (r : Result ℕ Refused) → is_err r ≡ true → came_to room r out ≡ w → replicate room 0 ≡ w.output
+  unfolding came_to
+  left_zeros (Ok n) h e = cc
+  left_zeros (Err r) h e = ap (λ (x : Written). x.output) e
+
 -- ## 20 and 19
 
 module _ (m : Model) (t : Lent) (width : ℕ) where
-  pub too_narrow : width < 16 → 20 ≡ refusal_of m t width
+  pub width_wrong : (width < 16) ⊎ ((16 ≤ width) × (65535 < width)) → Err WidthWrong ≡ refusal_of m t width
   unfolding refusal_of refuse
-  too_narrow h = rw (lt-ltb width 16 h)
+  width_wrong (inl h) = rw (lt-ltb width 16 h)
+  width_wrong (inr h) = rw (le-ltb width 16 h.0, lt-ltb 65535 width h.1)
 
-  pub too_wide : 16 ≤ width → 65535 < width → 20 ≡ refusal_of m t width
-  unfolding refusal_of refuse
-  too_wide l h = rw (le-ltb width 16 l, lt-ltb 65535 width h)
-
-  pub not_table : 16 ≤ width → width ≤ 65535 → is_table m t ≡ false → 19 ≡ refusal_of m t width
+  pub not_table : 16 ≤ width → width ≤ 65535 → is_table m t ≡ false → Err NoSuchLines ≡ refusal_of m t width
   unfolding refusal_of refuse
   not_table l h e = rw (le-ltb width 16 l, le-ltb 65535 width h, e)
 
-  pub a_table : 16 ≤ width → width ≤ 65535 → is_table m t ≡ true → 0 ≡ refusal_of m t width
+  pub a_table : 16 ≤ width → width ≤ 65535 → is_table m t ≡ true → Ok tt ≡ refusal_of m t width
   unfolding refusal_of refuse
   a_table l h e = rw (le-ltb width 16 l, le-ltb 65535 width h, e)
 
-  module _ (room n : ℕ) (r : n ≡ refusal_of m t width) where
-    pub refused_with_lem : (n ≡ 0 → ⊥) → write_checked t width room (good m) ≡ writing_refused room n 0
-    unfolding refusal_of refuse write_checked
-    refused_with_lem some = go (ltb width 16 || ltb 65535 width) refl (not (is_table m t)) refl
+  pub refused_with_lem : (room : ℕ) (reason : Reason) → Err reason ≡ refusal_of m t width → write_checked t width room (good m) ≡ writing_refused room (number_of reason) 0
+  unfolding refusal_of refuse write_checked
+  refused_with_lem room reason r = go (ltb width 16 || ltb 65535 width) refl (not (is_table m t)) refl
+    where
+      go : (x : Bool) → (ltb width 16 || ltb 65535 width) ≡ x → (y : Bool) → not (is_table m t) ≡ y → write_checked t width room (good m) ≡ writing_refused room (number_of reason) 0
+      go true p y q = let f : Err reason ≡ Err WidthWrong = rw p at r in let e : reason ≡ WidthWrong = cc in rw (p, e)
+      go false p true q = let f : Err reason ≡ Err NoSuchLines = rw (p, q) at r in let e : reason ≡ NoSuchLines = cc in rw (p, q, e)
+      go false p false q = let f : Err reason ≡ Ok tt = rw (p, q) at r in cc
+
+  module _ (r : Ok tt ≡ refusal_of m t width) where
+    narrow_enough : (ltb width 16 || ltb 65535 width) ≡ false
+    unfolding refusal_of refuse
+    narrow_enough = go (ltb width 16 || ltb 65535 width) refl
       where
-        go : (x : Bool) → (ltb width 16 || ltb 65535 width) ≡ x → (y : Bool) → not (is_table m t) ≡ y → write_checked t width room (good m) ≡ writing_refused room n 0
-        go true p y q = let e : n ≡ 20 = rw p at r in rw (p, e)
-        go false p true q = let e : n ≡ 19 = rw (p, q) at r in rw (p, q, e)
-        go false p false q = let e : n ≡ 0 = rw (p, q) at r in absurd (some e)
+        go : (x : Bool) → (ltb width 16 || ltb 65535 width) ≡ x → (ltb width 16 || ltb 65535 width) ≡ false
+        go false p = p
+        go true p = let f : Ok tt ≡ Err WidthWrong = rw p at r in cc
 
-    module _ (none : n ≡ 0) where
-      narrow_enough : (ltb width 16 || ltb 65535 width) ≡ false
-      unfolding refusal_of refuse
-      narrow_enough = go (ltb width 16 || ltb 65535 width) refl
-        where
-          go : (x : Bool) → (ltb width 16 || ltb 65535 width) ≡ x → (ltb width 16 || ltb 65535 width) ≡ false
-          go false p = p
-          go true p = let e : n ≡ 20 = rw p at r in absurd (omega arith)
+    table_read : not (is_table m t) ≡ false
+    unfolding refusal_of refuse
+    table_read = go (not (is_table m t)) refl
+      where
+        go : (y : Bool) → not (is_table m t) ≡ y → not (is_table m t) ≡ false
+        go false q = q
+        go true q = let f : Ok tt ≡ Err NoSuchLines = rw (narrow_enough, q) at r in cc
 
-      table_read : not (is_table m t) ≡ false
-      unfolding refusal_of refuse
-      table_read = go (not (is_table m t)) refl
-        where
-          go : (y : Bool) → not (is_table m t) ≡ y → not (is_table m t) ≡ false
-          go false q = q
-          go true q = let e : n ≡ 19 = rw (narrow_enough, q) at r in absurd (omega arith)
+    pub written_with : (room : ℕ) → write_checked t width room (good m) ≡ write_bytes room (cut_lines m.mark width (lines_of m t.text (content_of m t)))
+    unfolding refuse write_checked
+    written_with room = rw (narrow_enough, table_read)
 
-      pub written_with : write_checked t width room (good m) ≡ write_bytes room (cut_lines m.mark width (lines_of m t.text (content_of m t)))
-      unfolding refuse write_checked
-      written_with = rw (narrow_enough, table_read)
+    pub width_fits : (16 ≤ width) × (width ≤ 65535)
+    width_fits = go (ltb width 16) refl (ltb 65535 width) refl narrow_enough
+      where
+        go : (x : Bool) → ltb width 16 ≡ x → (y : Bool) → ltb 65535 width ≡ y → (ltb width 16 || ltb 65535 width) ≡ false → (16 ≤ width) × (width ≤ 65535)
+        go false p false q e = (ltb-false width 16 p, ltb-false 65535 width q)
+        go true p y q e = let z : true ≡ false = rw p at e in cc
+        go false p true q e = let z : true ≡ false = rw (p, q) at e in cc
 
-      pub width_fits : (16 ≤ width) × (width ≤ 65535)
-      width_fits = go (ltb width 16) refl (ltb 65535 width) refl narrow_enough
-        where
-          go : (x : Bool) → ltb width 16 ≡ x → (y : Bool) → ltb 65535 width ≡ y → (ltb width 16 || ltb 65535 width) ≡ false → (16 ≤ width) × (width ≤ 65535)
-          go false p false q e = (ltb-false width 16 p, ltb-false 65535 width q)
-          go true p y q e = let z : true ≡ false = rw p at e in let w : ◌≡◌ {A = ℕ} 0 1 = cc in absurd (omega arith)
-          go false p true q e = let z : true ≡ false = rw (p, q) at e in let w : ◌≡◌ {A = ℕ} 0 1 = cc in absurd (omega arith)
-
-      pub counts_fit_lem : Fitting m t
-      unfolding is_table counts_fit
-      counts_fit_lem =
-          let f : counts_fit m t ≡ true = holds (counts_fit m t ∷ _ ∷ []) 0 (not-false (is_table m t) table_read) in
-          record {
-            marks = leb-true _ _ (holds _ 0 f);
-            rows = leb-true _ _ (holds _ 1 f);
-            cells = leb-true _ _ (holds _ 2 f);
-            points = leb-true _ _ (holds _ 3 f);
-          }
+    pub counts_fit_lem : Fitting m t
+    unfolding is_table counts_fit
+    counts_fit_lem =
+        let f : counts_fit m t ≡ true = holds (counts_fit m t ∷ _ ∷ []) 0 (not-false (is_table m t) table_read) in
+        record {
+          marks = leb-true _ _ (holds _ 0 f);
+          rows = leb-true _ _ (holds _ 1 f);
+          cells = leb-true _ _ (holds _ 2 f);
+          points = leb-true _ _ (holds _ 3 f);
+        }
 
 -- ## The limit
 

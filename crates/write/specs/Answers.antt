@@ -1,5 +1,10 @@
 -- The answer of writing, and the room that it leaves.
 use Rattle.std.specs.Prelude.{ℕ, ◌*◌, ◌-◌, ◌+◌, ◌≤◌, min, ◌≡◌, not, ◌||◌, List, ◌++◌, ltb, length, take, replicate}
+use Rattle.std.specs.Prelude.{Result, Ok, Err}
+use Rattle.base.specs.declared.reasons.Reason.{Reason}
+use Rattle.base.specs.declared.reasons.Reason.TheVariants.{NoSuchLines, WidthWrong}
+use Rattle.base.specs.declared.reasons.Refused.{Refused}
+use Rattle.base.specs.Reasons.{number_of}
 use Rattle.meaning.specs.Bytes.{refuse}
 use Rattle.meaning.specs.Model.{Model}
 use Rattle.meaning.specs.Answer as meaning
@@ -7,17 +12,26 @@ use Rattle.meaning.specs.Writing.{Lent}
 use Rattle.meaning.specs.Readback.{is_table}
 use Rattle.meaning.specs.Width.{Written, writing_refused}
 use Rattle.write_lines.specs.declared.Put.{Put}
-use Rattle.write.specs.declared.Answer.{Answer}
-use Rattle.write.specs.declared.Answer.TheVariants as answers
 
 -- "success gives 0, bytes written, 0, 0"
-unfoldable pub answer_of : Answer → meaning.Answer
-answer_of (answers.Written bytes) = meaning.accepted bytes 0 0
-answer_of (answers.Refused number at) = meaning.refusal number at 0
+unfoldable pub answer_of : Result ℕ Refused → meaning.Answer
+answer_of (Ok bytes) = meaning.accepted bytes 0 0
+answer_of (Err r) = meaning.refusal (number_of r.reason) r.first r.second
 
--- 20 and 19, in this order; 0 where neither is due
-unfoldable pub refusal_of : Model → Lent → (width : ℕ) → ℕ
-refusal_of m t width = refuse (ltb width 16 || ltb 65535 width) 20 (refuse (not (is_table m t)) 19 0)
+-- a refusal with no place
+unfoldable pub unplaced : Result ℕ Reason → Result ℕ Refused
+unplaced (Ok bytes) = Ok bytes
+unplaced (Err reason) = Err (record { reason = reason; first = 0; second = 0 })
+
+-- an answer, and the room of so many bytes as it is then: "All result buffers are zeroed by every refusal"
+unfoldable pub came_to : (room : ℕ) → Result ℕ Refused → (out : List ℕ) → Written
+came_to room (Ok bytes) out = record { answer = answer_of (Ok bytes); output = out }
+came_to room (Err r) out = record { answer = answer_of (Err r); output = replicate room 0 }
+
+-- 20 and 19, in this order
+unfoldable pub refusal_of : Model → Lent → (width : ℕ) → Result (Unit {0}) Reason
+refusal_of m t width =
+    refuse (ltb width 16 || ltb 65535 width) (Err WidthWrong) (refuse (not (is_table m t)) (Err NoSuchLines) (Ok tt))
 
 -- each count is within its lent length
 pub record Fitting (m : Model) (t : Lent) : Type 0 where

@@ -6,21 +6,14 @@ ghost use Rattle.meaning.specs.Width as meaning;
 ghost use Rattle.meaning.specs.Writing.{lent_of};
 ghost use Rattle.write.specs.Answers.{answer_of};
 
-use model_check::check::Checked;
-use model_records::places;
-use table::Used;
+use base::reasons::Refused;
+use table::{Table, Used};
 
 pub mod writing;
 
-// So many bytes are written; or a refusal, and the byte of the model's first bad record.
-#[derive(Clone, Copy)]
-pub enum Answer {
-    Written(usize),
-    Refused(u8, usize),
-}
-
-// Writes a lent table under a model, at a width, into a room; "In writing: 2, 20, 19, 21". The index is working room
-// and comes back as zeros.
+// Writes a lent table under a model, at a width, into a room, and counts the bytes; "In writing: 2, 20, 19, 21", where
+// 2 has the byte of the model's first bad record. The index is working room and comes back as zeros; "All result
+// buffers are zeroed by every refusal".
 pub fn write(
     model: &[u8],
     text: &[u8],
@@ -35,7 +28,7 @@ pub fn write(
     out: &mut [u8],
     index: &mut [u64],
     seed: u64,
-) -> Answer
+) -> Result<usize, Refused>
     ensures answer { let table =
         lent_of text.now marks.now rows.now cells.now points.now objects cells_used points_used in
         let meant = meaning.write model.now table width (length out.old) in
@@ -46,25 +39,22 @@ pub fn write(
         out.new ≡ meant.output }
     ensures index { index.new ≡ replicate (length index.old) 0 }
 {
-    match model_check::check::check(model) {
-        Checked::Bad(at) => {
-            base::rooms::clear_numbers(index);
-            writing::refuse(2, at, out)
-        }
-        Checked::Good(_) => {
-            let mut noted: [usize; 1088] = [0; 1088];
-            let shape = places::place_records(model, &mut noted);
-            let used = Used {
-                objects,
-                cells: cells_used,
-                points: points_used,
-            };
-            let answer = writing::write_under(
-                model, &noted, shape, text, marks, rows, cells, points, used, width, out, index,
-                seed,
-            );
-            base::rooms::clear_numbers(index);
-            answer
-        }
+    let table = Table {
+        text,
+        marks,
+        rows,
+        cells,
+        points,
+    };
+    let used = Used {
+        objects,
+        cells: cells_used,
+        points: points_used,
+    };
+    let answer = writing::write_within(model, &table, used, width, out, index, seed);
+    index.fill(0);
+    if answer.is_err() {
+        out.fill(0);
     }
+    answer
 }

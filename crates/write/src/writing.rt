@@ -1,200 +1,137 @@
-// The call of writing under a good model: what is refused, the room's limit, and the room behind the bytes.
-ghost use Rattle.std.specs.Prelude.{◌≡◌, ◌≤◌, length, replicate};
-ghost use Rattle.meaning.specs.Answer as meaning;
+// The call of writing: what is refused, the room's limit, and the room behind the bytes.
+ghost use Rattle.std.specs.Prelude.{◌≡◌, ◌≤◌, length};
 ghost use Rattle.meaning.specs.Check.{good};
 ghost use Rattle.meaning.specs.Writing.{lent_of, content_of, lines_of};
-ghost use Rattle.meaning.specs.Width.{cut_lines, write_checked};
+ghost use Rattle.meaning.specs.Width.{cut_lines, write_checked, write};
 ghost use Rattle.model_records.specs.Records.{model_at};
-ghost use Rattle.model_records.specs.Places.{RecordsPlaced};
-ghost use Rattle.write_file.specs.Styles.{Fit};
-ghost use Rattle.table.specs.Contents.{content_in};
-ghost use Rattle.write.specs.Answers.{answer_of, refusal_of, Fitting, Limited, settled_of};
+ghost use Rattle.model_records.specs.Places.{Placed};
+ghost use Rattle.table.specs.Contents.{content};
+ghost use Rattle.write.specs.Answers.{answer_of, came_to, unplaced, refusal_of, Fitting, Limited, settled_of};
 
-use crate::Answer;
-use base::numbers::least_of;
-use model_records::places::Shape;
-use table::Used;
+use base::reasons::{Reason, Refused};
+use model_check::check::check;
+use model_records::places;
+use model_records::places::Records;
+use table::{Table, Used};
 use write_file::file;
-use write_file::lines::LineStyle;
 use write_judge::judging;
-use write_lines::Put;
-
-// "All result buffers are zeroed by every refusal"
-pub(crate) fn refuse(number: u8, at: usize, out: &mut [u8]) -> Answer
-    ensures answer { answer_of result ≡ meaning.refusal number at 0 }
-    ensures output { out.new ≡ replicate (length out.old) 0 }
-{
-    base::rooms::clear(out);
-    Answer::Refused(number, at)
-}
+use write_lines::{LineStyle, Put};
 
 // "Every result buffer is zero behind its used part"; 21 where the bytes are more than the room or the limit.
-fn settle(put: Put, out: &mut [u8]) -> Answer
-    ensures answer { answer_of result ≡ (settled_of put out.old).answer }
-    ensures output { out.new ≡ (settled_of put out.old).output }
+fn settle(put: Put, out: &mut [u8]) -> Result<usize, Reason>
+    ensures { came_to (length out.old) (unplaced result) out.new ≡ settled_of put out.old }
 {
-    let n = put.count;
-    if least_of(out.len(), 16777216) < n {
-        return refuse(21, 0, out);
+    if out.len().min(16777216) < put.count {
+        return Err(Reason::OutputTooSmall);
     }
-    base::rooms::clear(&mut out[n..]);
-    Answer::Written(n)
+    out[put.count..].fill(0);
+    Ok(put.count)
 }
 
 // The file, within the room and the limit.
-fn put_limited(
-    model: &[u8],
-    places: &[usize],
-    shape: Shape,
-    text: &[u8],
-    style: LineStyle,
-    marks: &[u8],
-    rows: &[u64],
-    cells: &[i64],
-    points: &[i64],
-    out: &mut [u8],
-) -> Put
-    requires records_placed { RecordsPlaced model.now shape places.now }
-    requires fit { Fit (model_at model.now) style }
-    ensures { Limited (cut_lines style.mark style.width
-        (lines_of (model_at model.now) text.now
-        (content_in marks.now rows.now cells.now points.now)))
-        out.old out.new result }
+fn put_limited(model: &Records<'_>, table: &Table<'_>, style: LineStyle, out: &mut [u8]) -> Put
+    requires placed { Placed model.now }
+    requires undefined_value { style.undefined ≡ (model_at model.now.bytes.now).undefined }
+    ensures { let t = table.now in
+        let lines = lines_of (model_at model.now.bytes.now) t.text.now (content t) in
+        Limited (cut_lines style.mark style.width lines) out.old out.new result }
 {
-    let room = least_of(out.len(), 16777216);
-    file::put_file(
-        model,
-        places,
-        shape,
-        text,
-        style,
-        marks,
-        rows,
-        cells,
-        points,
-        &mut out[..room],
-    )
+    let room = out.len().min(16777216);
+    file::put_file(model, table, style, &mut out[..room])
 }
 
 // "what lies behind the counts is not looked at": the file of what is used of the lent table.
-fn put_used(
-    model: &[u8],
-    places: &[usize],
-    shape: Shape,
-    text: &[u8],
-    marks: &[u8],
-    rows: &[u64],
-    cells: &[i64],
-    points: &[i64],
-    used: Used,
-    width: usize,
-    out: &mut [u8],
-) -> Put
-    requires records_placed { RecordsPlaced model.now shape places.now }
+fn put_used(model: &Records<'_>, table: &Table<'_>, used: Used, width: usize, out: &mut [u8]) -> Put
+    requires placed { Placed model.now }
     requires le_width { (16 ≤ width) × (width ≤ 65535) }
-    requires fitting { Fitting (model_at model.now)
-        (lent_of text.now marks.now rows.now cells.now points.now used.objects used.cells
-        used.points) }
-    ensures { let m = model_at model.now in
-        let table = lent_of text.now marks.now rows.now cells.now
-        points.now used.objects used.cells used.points in
-        let lines = lines_of m text.now (content_of m table) in
+    requires fitting { let t = table.now in
+        Fitting (model_at model.now.bytes.now)
+        (lent_of t.text.now t.marks.now t.rows.now t.cells.now t.points.now
+        used.objects used.cells used.points) }
+    ensures { let m = model_at model.now.bytes.now in
+        let t = table.now in
+        let lent = lent_of t.text.now t.marks.now t.rows.now t.cells.now t.points.now
+        used.objects used.cells used.points in
+        let lines = lines_of m t.text.now (content_of m lent) in
         Limited (cut_lines m.mark width lines) out.old out.new result }
 {
     let style = LineStyle {
-        undefined: shape.undefined,
-        mark: shape.mark,
+        undefined: model.shape.undefined,
+        mark: model.shape.mark,
         width,
     };
-    let count = shape.topics + shape.tables;
-    let objects = used.objects;
-    let filled = used.cells;
-    let end = 4 * used.points;
-    put_limited(
-        model,
-        places,
-        shape,
-        text,
-        style,
-        &marks[..count],
-        &rows[..objects],
-        &cells[..filled],
-        &points[..end],
-        out,
-    )
+    let marks = model.shape.topics + model.shape.tables;
+    put_limited(model, &table.cut(marks, used), style, out)
 }
 
-// 20: a width below 16 or above 65,535; 19: no lines read as the lent table; 0 where neither is so.
+// 20: a width below 16 or above 65,535; 19: no lines read as the lent table.
 fn refusal_of(
-    model: &[u8],
-    places: &[usize],
-    shape: Shape,
-    text: &[u8],
-    marks: &[u8],
-    rows: &[u64],
-    cells: &[i64],
-    points: &[i64],
+    model: &Records<'_>,
+    table: &Table<'_>,
     used: Used,
     width: usize,
     index: &mut [u64],
     seed: u64,
-) -> u8
-    requires { RecordsPlaced model.now shape places.now }
-    ensures { result
-        ≡ refusal_of (model_at model.now)
-        (lent_of text.now marks.now rows.now cells.now points.now
-        used.objects used.cells used.points) width }
+) -> Result<(), Reason>
+    requires { Placed model.now }
+    ensures { let t = table.now in
+        let lent = lent_of t.text.now t.marks.now t.rows.now t.cells.now t.points.now
+        used.objects used.cells used.points in
+        result ≡ refusal_of (model_at model.now.bytes.now) lent width }
 {
-    if width < 16 {
-        return 20;
+    if width < 16 || 65535 < width {
+        return Err(Reason::WidthWrong);
     }
-    if 65535 < width {
-        return 20;
+    if !judging::judge(model, table, used, index, seed) {
+        return Err(Reason::NoSuchLines);
     }
-    if judging::judge(
-        model, places, shape, text, marks, rows, cells, points, used, index, seed,
-    ) {
-        return 0;
-    }
-    19
+    Ok(())
 }
 
 // The call under a good model.
-pub(crate) fn write_under(
-    model: &[u8],
-    places: &[usize],
-    shape: Shape,
-    text: &[u8],
-    marks: &[u8],
-    rows: &[u64],
-    cells: &[i64],
-    points: &[i64],
+fn write_under(
+    model: &Records<'_>,
+    table: &Table<'_>,
     used: Used,
     width: usize,
     out: &mut [u8],
     index: &mut [u64],
     seed: u64,
-) -> Answer
-    requires { RecordsPlaced model.now shape places.now }
-    ensures answer { answer_of result
-        ≡ (write_checked
-        (lent_of text.now marks.now rows.now cells.now points.now
-        used.objects used.cells used.points) width (length out.old)
-        (good (model_at model.now))).answer }
-    ensures output { out.new
-        ≡ (write_checked
-        (lent_of text.now marks.now rows.now cells.now points.now
-        used.objects used.cells used.points) width (length out.old)
-        (good (model_at model.now))).output }
+) -> Result<usize, Reason>
+    requires { Placed model.now }
+    ensures { let t = table.now in
+        let lent = lent_of t.text.now t.marks.now t.rows.now t.cells.now t.points.now
+        used.objects used.cells used.points in
+        let room = length out.old in
+        came_to room (unplaced result) out.new
+        ≡ write_checked lent width room (good (model_at model.now.bytes.now)) }
 {
-    let number = refusal_of(
-        model, places, shape, text, marks, rows, cells, points, used, width, index, seed,
-    );
-    if number != 0 {
-        return refuse(number, 0, out);
-    }
-    let put = put_used(
-        model, places, shape, text, marks, rows, cells, points, used, width, out,
-    );
+    refusal_of(model, table, used, width, index, seed)?;
+    let put = put_used(model, table, used, width, out);
     settle(put, out)
+}
+
+// The call, but for the rooms that a refusal leaves.
+pub(crate) fn write_within(
+    model: &[u8],
+    table: &Table<'_>,
+    used: Used,
+    width: usize,
+    out: &mut [u8],
+    index: &mut [u64],
+    seed: u64,
+) -> Result<usize, Refused>
+    ensures { let t = table.now in
+        let lent = lent_of t.text.now t.marks.now t.rows.now t.cells.now t.points.now
+        used.objects used.cells used.points in
+        let room = length out.old in
+        came_to room result out.new ≡ write model.now lent width room }
+{
+    check(model)?;
+    let records = places::place_records(model);
+    write_under(&records, table, used, width, out, index, seed).map_err(|reason| Refused {
+        reason,
+        first: 0,
+        second: 0,
+    })
 }

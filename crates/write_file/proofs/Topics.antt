@@ -7,21 +7,22 @@ use mathlib.Core.Bool.{true, false}
 use mathlib.Core.List.{List, [], ◌∷◌, ◌++◌, append_assoc}
 use lib.Dec.{eqb}
 use lib.IntN.{ℤ}
-use lib.ListN.{length, take, drop, get_or, drop_of_length-le, get_or-eq_default}
+use lib.ListN.{length, take, drop, get_or, drop_of_length-le}
 use lib.Seq.{drop-cons}
 use borrow.Author.Tests.{ne_eqb, eq-eqb}
 use Rattle.meaning.specs.Bytes.{choose}
-use Rattle.meaning.specs.Model.{Table, Model, no_table, table_at}
+use Rattle.meaning.specs.Model.{Table, Model, table_at}
 use Rattle.meaning.specs.Field.{SCNT, slashes, MTID, MODL, TOPI, ETOP, EMOD, ENDE}
 use Rattle.meaning.specs.Reading.{Content, cell_at}
 use Rattle.meaning.specs.Writing.{rows_behind_topic, table_lines, topic_lines, field_lines, lines_bytes, lines_of}
 use Rattle.model_records.specs.declared.places.Shape.{Shape}
+use Rattle.model_records.specs.declared.places.Places.{Places}
 use Rattle.model_records.specs.Records.{next_at, model_at}
 use Rattle.model_records.specs.Places.{topic_place, TopicRecord, RecordsPlaced}
 use Rattle.model_records.proofs.Types.{payload_part}
 use Rattle.write_lines.specs.declared.Put.{Put}
 use Rattle.write_lines.specs.Puts.{Puts}
-use Rattle.write_file.specs.declared.lines.LineStyle.{LineStyle}
+use Rattle.write_lines.specs.declared.style.LineStyle.{LineStyle}
 use Rattle.write_file.specs.declared.walk.RowsWritten.{RowsWritten}
 use Rattle.write_file.specs.Styles.{cut_of}
 use Rattle.write_file.specs.Walks.{lines_of_topic, TopicEnd, TopicTurn}
@@ -31,18 +32,12 @@ use Rattle.meaning.proofs.Lists.{drop_next}
 
 -- ## Rows
 
-pub no_owner : (ts : List Table) (t : ℕ) → length ts ≤ t → 0 ≡ (table_at ts t).topic
-no_owner ts t h = sym (ap (λ (x : Table). x.topic) (get_or-eq_default ts no_table {n = t} h))
-
 -- the rows from `row` to i are of tables of topic p
 pub record TopicRun (ts : List Table) (p : ℕ) (cells : List ℤ) (rows : List ℕ) (row i : ℕ) : Type 0 where
   pub within : i ≤ length rows
   pub rest : rows_behind_topic ts p cells (drop i rows) ≡ rows_behind_topic ts p cells (drop row rows)
 
 module _ (ts : List Table) (p : ℕ) (cells : List ℤ) (rows : List ℕ) (row : ℕ) where
-  pub topic_start : row ≤ length rows → TopicRun ts p cells rows row row
-  topic_start h = record { within = h; rest = refl }
-
   module _ (i : ℕ) (r : TopicRun ts p cells rows row i) (h : i < length rows) where
     pub topic_on : (table_at ts (cell_at cells (get_or rows i 0))).topic ≡ p → TopicRun ts p cells rows row (i + 1)
     unfolding rows_behind_topic choose
@@ -58,26 +53,21 @@ module _ (ts : List Table) (p : ℕ) (cells : List ℤ) (rows : List ℕ) (row :
         let stays : drop i rows ≡ rows_behind_topic ts p cells (drop i rows) = rw (drop_next rows i 0 h, other) in
         record { within = r.within; rest = stays ∙ r.rest }
 
-  pub topic_end_lem : (i : ℕ) → TopicRun ts p cells rows row i → length rows ≤ i → TopicEnd ts p cells rows row i
+  pub topic_end_lem : (i : ℕ) → TopicRun ts p cells rows row i → length rows ≤ i → TopicEnd ts p cells rows row (length rows)
   unfolding rows_behind_topic
   topic_end_lem i r h =
       let no_row : drop i rows ≡ [] = drop_of_length-le rows {i = i} h in
-      record { within = r.within; rest = no_row ∙ (rw no_row at r.rest) }
+      let end : length rows ≡ i = omega (arith, r.within) in
+      rw end record { within = r.within; rest = no_row ∙ (rw no_row at r.rest) }
 
 -- ## Topics
 
 -- the record of topic p is at this byte, the next record at that one
-module _ (b : List ℕ) (shape : Shape) (places : List ℕ) (h : RecordsPlaced b shape places) (p : ℕ) (l : p < shape.topics) (at : ℕ) (e : at ≡ topic_place places p) where
+module _ (b : List ℕ) (shape : Shape) (places : Places) (h : RecordsPlaced b shape places) (p : ℕ) (l : p < shape.topics) (at : ℕ) (e : at ≡ topic_place places p) where
   record_of : TopicRecord (model_at b) b p at
   record_of = rw e (h.noted.topic p l)
 
-  pub topic_room_lem : at + 4 ≤ length b
-  topic_room_lem = omega (arith, record_of.fits)
-
   module _ (next : ℕ) (n : next ≡ next_at b at) where
-    pub topic_part : (at + 4 ≤ next) × (next ≤ length b)
-    topic_part = (omega (arith, n), omega (arith, n, record_of.fits))
-
     pub topic_name : take (next - (at + 4)) (drop (at + 4) b) ≡ get_or (model_at b).topics p []
     topic_name = rw n (payload_part b at 0 (at + 4) (omega arith) ∙ record_of.name)
 

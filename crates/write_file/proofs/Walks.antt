@@ -18,13 +18,13 @@ use Rattle.meaning.specs.Reading.{Content, cell_at}
 use Rattle.meaning.specs.Writing.{object_lines, row_lines, rows_of_table, rows_behind_table, is_delivered, table_lines, lines_bytes}
 use Rattle.meaning.specs.Width.{cut_lines}
 use Rattle.model_records.specs.declared.places.Shape.{Shape}
+use Rattle.model_records.specs.declared.places.Places.{Places}
 use Rattle.model_records.specs.Records.{next_at, model_at, pairs_at}
-use Rattle.model_records.specs.AtRecord.{AttributesHere}
 use Rattle.model_records.specs.Places.{table_place, topic_of, TableRecord, RecordsPlaced}
 use Rattle.model_records.proofs.Types.{payload_part}
 use Rattle.write_lines.specs.declared.Put.{Put}
 use Rattle.write_lines.specs.Puts.{Puts}
-use Rattle.write_file.specs.declared.lines.LineStyle.{LineStyle}
+use Rattle.write_lines.specs.declared.style.LineStyle.{LineStyle}
 use Rattle.write_file.specs.declared.walk.RowsWritten.{RowsWritten}
 use Rattle.write_file.specs.Styles.{cut_of}
 use Rattle.write_file.specs.Walks.{lines_of_table, TableEnd, TableTurn}
@@ -48,9 +48,6 @@ pub record TableRun (t : ℕ) (cells : List ℤ) (rows : List ℕ) (row i : ℕ)
   pub rest : rows_behind_table t cells (drop i rows) ≡ rows_behind_table t cells (drop row rows)
 
 module _ (t : ℕ) (cells : List ℤ) (rows : List ℕ) (row : ℕ) where
-  pub run_start : row ≤ length rows → TableRun t cells rows row row
-  run_start h = record { order = omega arith; within = h; first = λ j a b e. e; rest = refl }
-
   module _ (i : ℕ) (r : TableRun t cells rows row i) (h : i < length rows) where
     pub run_on : cell_at cells (get_or rows i 0) ≡ t → TableRun t cells rows row (i + 1)
     unfolding rows_of_table rows_behind_table choose
@@ -77,12 +74,13 @@ module _ (t : ℕ) (cells : List ℤ) (rows : List ℕ) (row : ℕ) where
           rest = rw (drop_next rows i 0 h) (rw (drop_next rows i 0 h, other) at r.rest);
         }
 
-  pub run_end : (i : ℕ) → TableRun t cells rows row i → length rows ≤ i → TableEnd t cells rows row i
+  pub run_end : (i : ℕ) → TableRun t cells rows row i → length rows ≤ i → TableEnd t cells rows row (length rows)
   unfolding rows_of_table rows_behind_table
   run_end i r h =
       let no_row : drop i rows ≡ [] = drop_of_length-le rows {i = i} h in
       let none : i - i ≡ 0 = omega arith in
-      record {
+      let end : length rows ≡ i = omega (arith, r.within) in
+      rw end record {
         order = r.order;
         within = r.within;
         first = r.first i (omega arith) r.within (rw (none, no_row) refl);
@@ -90,43 +88,32 @@ module _ (t : ℕ) (cells : List ℤ) (rows : List ℕ) (row : ℕ) where
       }
 
 -- the lines of the next object, and of no object
-module _ (mark width : ℕ) (m : Model) (text : List ℕ) (c : Content) (ps : List Pair) (rows : List ℕ) (i to : ℕ) where
-  pub rows_turn : i < to → to ≤ length rows → cut_lines mark width (lines_bytes (row_lines m text c ps (take (to - i) (drop i rows))))
-      ≡ cut_lines mark width (lines_bytes (object_lines m text c ps (get_or rows i 0))) ++ cut_lines mark width (lines_bytes (row_lines m text c ps (take (to - (i + 1)) (drop (i + 1) rows))))
+module _ (mark width : ℕ) (m : Model) (text : List ℕ) (c : Content) (ps : List Pair) (rows : List ℕ) (i : ℕ) where
+  pub rows_turn : i < length rows → cut_lines mark width (lines_bytes (row_lines m text c ps (drop i rows)))
+      ≡ cut_lines mark width (lines_bytes (object_lines m text c ps (get_or rows i 0))) ++ cut_lines mark width (lines_bytes (row_lines m text c ps (drop (i + 1) rows)))
   unfolding row_lines
-  rows_turn l h =
-      ap (λ (rs : List ℕ). cut_lines mark width (lines_bytes (row_lines m text c ps rs))) (take_next rows i to l h)
-      ∙ cut_lines_append mark width (object_lines m text c ps (get_or rows i 0)) (row_lines m text c ps (take (to - (i + 1)) (drop (i + 1) rows)))
+  rows_turn h = rw (drop_next rows i 0 h) (cut_lines_append mark width (object_lines m text c ps (get_or rows i 0)) (row_lines m text c ps (drop (i + 1) rows)))
 
-  pub rows_end : to ≤ i → cut_lines mark width (lines_bytes (row_lines m text c ps (take (to - i) (drop i rows)))) ≡ []
+  pub rows_end : length rows ≤ i → cut_lines mark width (lines_bytes (row_lines m text c ps (drop i rows))) ≡ []
   unfolding row_lines lines_bytes cut_lines
-  rows_end l = let none : to - i ≡ 0 = omega arith in rw none refl
+  rows_end h = rw (drop_of_length-le rows {i = i} h) refl
 
 -- ## Tables
 
 -- the record of table t is at this byte, the next record at that one
-module _ (b : List ℕ) (shape : Shape) (places : List ℕ) (h : RecordsPlaced b shape places) (t : ℕ) (l : t < shape.tables) (at : ℕ) (e : at ≡ table_place places t) where
+module _ (b : List ℕ) (shape : Shape) (places : Places) (h : RecordsPlaced b shape places) (t : ℕ) (l : t < shape.tables) (at : ℕ) (e : at ≡ table_place places t) where
   record_of : TableRecord (model_at b) b t at
   record_of = rw e (h.noted.table t l)
 
-  pub table_room_lem : at + 4 ≤ length b
-  table_room_lem = omega (arith, record_of.fits)
-
   module _ (next : ℕ) (n : next ≡ next_at b at) where
-    pub table_part : (at + 5 ≤ next) × (next ≤ length b)
-    table_part = (omega (arith, n, record_of.flag), omega (arith, n, record_of.fits))
-
     pub table_name : take (next - (at + 5)) (drop (at + 5) b) ≡ (table_at (model_at b).tables t).name
     table_name = rw n (payload_part b at 1 (at + 5) (omega arith) ∙ record_of.name)
-
-    pub table_attributes : AttributesHere (model_at b) b next
-    table_attributes = record { topics = (table_at (model_at b).tables t).topic + 1; tables = t + 1; standing = rw n record_of.standing }
 
     pub table_pairs : pairs_at b next ≡ pairs_of (table_at (model_at b).tables t).attributes
     table_pairs = rw n (ap pairs_of record_of.attributes)
 
 -- table t is passed: the test is whether it is one of topic p that is delivered
-module _ (b : List ℕ) (shape : Shape) (places text : List ℕ) (c : Content) (s : LineStyle) (p t row : ℕ) (put : Put) (e : List ℕ)
+module _ (b : List ℕ) (shape : Shape) (places : Places) (text : List ℕ) (c : Content) (s : LineStyle) (p t row : ℕ) (put : Put) (e : List ℕ)
     (h : RecordsPlaced b shape places) (l : t < shape.tables) (r : Bool)
     (test : r ≡ (eqb (topic_of places t) p && not (eqb (get_or c.marks (shape.topics + t) 0) 0))) where
   tested : (eqb (table_at (model_at b).tables t).topic p && is_delivered c (length (model_at b).topics + t)) ≡ r

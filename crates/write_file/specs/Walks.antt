@@ -9,7 +9,7 @@ use Rattle.meaning.specs.Writing.{row_lines, rows_of_table, rows_behind_table, r
 use Rattle.meaning.specs.Writing.{topic_lines}
 use Rattle.write_lines.specs.declared.Put.{Put}
 use Rattle.write_lines.specs.Puts.{Puts}
-use Rattle.write_file.specs.declared.lines.LineStyle.{LineStyle}
+use Rattle.write_lines.specs.declared.style.LineStyle.{LineStyle}
 use Rattle.write_file.specs.declared.walk.RowsWritten.{RowsWritten}
 use Rattle.write_file.specs.Styles.{cut_of}
 

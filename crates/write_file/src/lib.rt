@@ -2,5 +2,5 @@
 #![tactic(auto)]
 
 pub mod file;
-pub mod lines;
+mod lines;
 mod walk;

@@ -3,26 +3,18 @@ ghost use Rattle.std.specs.Prelude.{[], ◌∷◌, ◌≤◌, length};
 ghost use Rattle.write_lines.specs.Puts.{Puts};
 ghost use Rattle.write_file.specs.Styles.{cut_of};
 
-use write_lines::Put;
 use write_lines::cuts::end_line;
 use write_lines::fields::{put_bytes, put_field};
-
-// What the lines look like, whatever the table: the model's undefined byte and mark, and the width.
-#[derive(Clone, Copy)]
-pub struct LineStyle {
-    pub undefined: u8,
-    pub mark: u8,
-    pub width: usize,
-}
+use write_lines::{LineStyle, Put};
 
 // A line of a code, behind what was put.
 pub(crate) fn then_alone(put: Put, code: &[u8], style: LineStyle, out: &mut [u8]) -> Put
-    requires { (1 ≤ length code.now) × (16 ≤ style.width) × (style.width ≤ 65535) }
+    requires { 1 ≤ length code.now }
     ensures { let lines = (code.now ∷ []) ∷ [] in
         Puts (cut_of style lines) put out.old out.new result }
 {
     let line = put_bytes(out, put, code);
-    end_line(out, put.count, line, style.mark, style.width)
+    end_line(out, put.count, line, style)
 }
 
 // A line of a code and a name, behind what was put.
@@ -33,11 +25,10 @@ pub(crate) fn then_named(
     style: LineStyle,
     out: &mut [u8],
 ) -> Put
-    requires { (16 ≤ style.width) × (style.width ≤ 65535) }
     ensures { let lines = (code.now ∷ name.now ∷ []) ∷ [] in
         Puts (cut_of style lines) put out.old out.new result }
 {
     let begun = put_bytes(out, put, code);
     let line = put_field(out, begun, name);
-    end_line(out, put.count, line, style.mark, style.width)
+    end_line(out, put.count, line, style)
 }

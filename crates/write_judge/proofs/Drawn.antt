@@ -2,7 +2,7 @@
 use Prim.Native.Nat.{ℕ, suc, ◌+◌, ◌*◌, ◌-◌, ◌≤◌, ◌<◌}
 use native.Mathlib.Omega.{arith}
 use mathlib.Core.Path.{◌≡◌, refl, sym, ap, ◌∙◌}
-use mathlib.Core.Bool.{Bool, true, false, not, ◌&&◌}
+use mathlib.Core.Bool.{Bool, true, false, not, ◌&&◌, and_assoc}
 use mathlib.Core.List.{List, [], ◌∷◌}
 use lib.IntN.{ℤ, pos}
 use lib.ListN.{length, take, drop, get_or}
@@ -12,13 +12,13 @@ use Rattle.meaning.specs.Model as model
 use Rattle.meaning.specs.Value.{within}
 use Rattle.meaning.specs.Reading.{LineState, unstarted, stpt, lipt, arcp, other, Move, unexpected, undefined_line, ended, point, move, is_forbidden}
 use Rattle.meaning.specs.Judge.{cell_is, kind_code_of, are_within, is_reached, after_point, judge_points}
-use Rattle.model_records.specs.declared.Component.{Component}
+use Rattle.model_records.specs.declared.attributes.Component.{Component}
 use Rattle.model_records.specs.Components.{component_of, list_of}
 use Rattle.write_judge.specs.Meant.{point_then}
 use Rattle.write_judge.proofs.Signs.{alone}
 
-last : (x y z : Bool) → (x && (y && z)) ≡ (x && (y && (z && true)))
-last x y z = ap (λ (w : Bool). x && (y && w)) (alone z)
+last : (x y z : Bool) → (x && y && z) ≡ (x && (y && (z && true)))
+last x y z = and_assoc x y z ∙ ap (λ (w : Bool). x && (y && w)) (alone z)
 
 -- ## A point's first cell
 
@@ -43,7 +43,7 @@ module _ (kind : ℤ) where
 
 module _ (d : Component) (x y z : ℤ) where
   pub three_within : (items : List Component) (n : ℕ) → length items ≡ 3 → n ≡ 3
-      → (within (component_of (get_or items 0 d)) x && (within (component_of (get_or items 1 d)) y && within (component_of (get_or items 2 d)) z)) ≡ are_within (list_of (take n items)) (x ∷ y ∷ z ∷ [])
+      → (within (component_of (get_or items 0 d)) x && within (component_of (get_or items 1 d)) y && within (component_of (get_or items 2 d)) z) ≡ are_within (list_of (take n items)) (x ∷ y ∷ z ∷ [])
   unfolding are_within list_of
   three_within [] n l e = absurd (omega arith)
   three_within (a ∷ []) n l e = absurd (omega arith)
@@ -51,7 +51,7 @@ module _ (d : Component) (x y z : ℤ) where
   three_within (a ∷ (b ∷ (c ∷ items))) n l e = rw e (last (within (component_of a) x) (within (component_of b) y) (within (component_of c) z))
 
   pub two_within : (items : List Component) (n : ℕ) → length items ≡ 3 → n ≡ 2
-      → (within (component_of (get_or items 0 d)) x && (within (component_of (get_or items 1 d)) y && cell_is z 0)) ≡ are_within (list_of (take n items)) (x ∷ y ∷ z ∷ [])
+      → (within (component_of (get_or items 0 d)) x && within (component_of (get_or items 1 d)) y && cell_is z 0) ≡ are_within (list_of (take n items)) (x ∷ y ∷ z ∷ [])
   unfolding are_within list_of
   two_within [] n l e = absurd (omega arith)
   two_within (a ∷ []) n l e = absurd (omega arith)
@@ -102,9 +102,6 @@ module _ (forms : ℕ) (ks : List model.Component) (points : List ℤ) (n : ℕ)
   pub record PointsLeft (i : ℕ) (state : LineState) : Type 0 where
     pub count : i ≤ n
     pub same : judge_points forms ks state (n - i) (drop (4 * i) points) ≡ judge_points forms ks unstarted n points
-
-  pub points_start : PointsLeft 0 unstarted
-  points_start = record { count = omega arith; same = let e : n - 0 ≡ n = omega arith in rw e }
 
   pub points_end : (i : ℕ) (state : LineState) → PointsLeft i state → n ≤ i → is_reached state ≡ judge_points forms ks unstarted n points
   unfolding judge_points

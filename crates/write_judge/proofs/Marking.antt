@@ -9,20 +9,22 @@ use lib.Dec.{eqb}
 use lib.ListN.{length, get_or, drop, drop_of_length-le}
 use lib.Seq.{drop-cons}
 use Rattle.meaning.specs.Bytes.{choose, all_of}
-use Rattle.meaning.specs.Model.{Table, no_table, table_at}
+use Rattle.meaning.specs.Model as meaning
+use Rattle.meaning.specs.Model.{no_table, table_at}
 use Rattle.meaning.specs.Reading.{Content}
 use Rattle.meaning.specs.Writing.{is_delivered}
 use Rattle.meaning.specs.Judge.{judge_tables}
 use Rattle.model_records.specs.Records.{model_at}
 use Rattle.model_records.specs.Places.{topic_of}
-use Rattle.model_records.specs.declared.places.Shape.{Shape}
+use Rattle.model_records.specs.declared.places.Records.{Records}
+use Rattle.table.specs.declared.Table.{Table}
+use Rattle.table.specs.Contents.{content, marks_only}
 use Rattle.write_judge.specs.Marks.{Judging, tables_from, is_fine}
-use Rattle.table.specs.Contents.{marks_only}
 
 -- ## The judge of tables
 
 -- only the marks are looked at
-by_marks : (topics : ℕ) (c d : Content) → c.marks ≡ d.marks → (n : ℕ) (ts : List Table) → judge_tables topics c n ts ≡ judge_tables topics d n ts
+by_marks : (topics : ℕ) (c d : Content) → c.marks ≡ d.marks → (n : ℕ) (ts : List meaning.Table) → judge_tables topics c n ts ≡ judge_tables topics d n ts
 unfolding judge_tables
 by_marks topics c d e n [] = refl
 by_marks topics c d e n (t ∷ ts) = rw (by_marks topics c d e (n + 1) ts, e)
@@ -34,7 +36,7 @@ three true true false = refl
 three true false z = refl
 three false y z = refl
 
-module _ (topics : ℕ) (marks : List ℕ) (ts : List Table) (n : ℕ) where
+module _ (topics : ℕ) (marks : List ℕ) (ts : List meaning.Table) (n : ℕ) where
   -- one table more
   table_turn : n < length ts → tables_from topics marks ts n
       ≡ choose (is_fine (is_delivered (marks_only marks) (topics + n)) (is_delivered (marks_only marks) (table_at ts n).topic) (table_at ts n).optional) (tables_from topics marks ts (n + 1)) false
@@ -50,35 +52,21 @@ module _ (topics : ℕ) (marks : List ℕ) (ts : List Table) (n : ℕ) where
   tables_end e = rw (drop_of_length-le ts {i = n} (omega arith))
 
 -- the mark of a table of the model, and its topic's
-module _ (b : List ℕ) (shape : Shape) (places marks : List ℕ) (j : Judging b shape places marks) where
-  module _ (t : ℕ) (l : t < shape.tables) where
-    pub topic_room_lem : topic_of places t < length marks
-    topic_room_lem =
-        let r = j.placed.noted.table t l in
-        omega (arith, r.standing.topic_count, j.placed.noted.owner t l, j.placed.topics, j.marks_room)
+module _ (model : Records) (t : Table) (judging : Judging model t) where
+  abbrev topics : ℕ
+  topics = model.shape.topics
 
-    pub delivery_turn : tables_from shape.topics marks (model_at b).tables t
-        ≡ choose (is_fine (not (eqb (get_or marks (shape.topics + t) 0) 0)) (not (eqb (get_or marks (topic_of places t) 0) 0)) (table_at (model_at b).tables t).optional) (tables_from shape.topics marks (model_at b).tables (t + 1)) false
-    delivery_turn = rw (j.placed.noted.owner t l) (table_turn shape.topics marks (model_at b).tables t (omega (arith, j.placed.tables)))
+  abbrev m : meaning.Model
+  m = model_at model.bytes.now
 
-  -- all tables, of a table with these marks
-  pub all_tables : (c : Content) → c.marks ≡ marks → tables_from shape.topics marks (model_at b).tables 0 ≡ judge_tables (length (model_at b).topics) c 0 (model_at b).tables
+  pub delivery_turn : (n : ℕ) → n < model.shape.tables
+      → tables_from topics t.marks.now m.tables n
+      ≡ choose (is_fine (not (eqb (get_or t.marks.now (topics + n) 0) 0)) (not (eqb (get_or t.marks.now (topic_of model.places n) 0) 0)) (table_at m.tables n).optional) (tables_from topics t.marks.now m.tables (n + 1)) false
+  delivery_turn n l = rw (judging.placed.noted.owner n l) (table_turn topics t.marks.now m.tables n (omega (arith, judging.placed.tables)))
+
+  pub all_tables : tables_from topics t.marks.now m.tables 0 ≡ judge_tables (length m.topics) (content t) 0 m.tables
   unfolding tables_from
-  all_tables c e = rw j.placed.topics (by_marks (length (model_at b).topics) (marks_only marks) c (sym e) 0 (model_at b).tables)
-
--- a table by whether it is delivered, and whether its topic is
-pub fine_delivered : (b o : Bool) → b ≡ is_fine true b o
-unfolding is_fine
-fine_delivered true o = refl
-fine_delivered false o = refl
-
-pub fine_out : (o : Bool) → o ≡ is_fine false true o
-unfolding is_fine
-fine_out o = refl
-
-pub fine_none : (o : Bool) → true ≡ is_fine false false o
-unfolding is_fine
-fine_none o = refl
+  all_tables = rw judging.placed.topics (by_marks (length m.topics) (marks_only t.marks.now) (content t) refl 0 m.tables)
 
 -- ## A test and what follows it
 

@@ -3,7 +3,7 @@ use borrow.Author.Tests.{ltb-true, ltb-false, le-leb, lt-leb, eq-eqb, ne_eqb}
 use Prim.Native.Nat.{ℕ, ◌+◌, ◌-◌, ◌≤◌, ◌<◌}
 use native.Mathlib.Omega.{arith}
 use mathlib.Core.Path.{◌≡◌, refl}
-use mathlib.Core.Bool.{Bool, true, false, not, ◌&&◌, true≢false}
+use mathlib.Core.Bool.{Bool, true, false, not, ◌&&◌, true≢false, and-true, and_assoc}
 use mathlib.Core.List.{List, [], ◌∷◌}
 use lib.Dec.{ltb, eqb}
 use lib.IntN.{ℤ, pos, negsuc, nat_abs}
@@ -21,21 +21,13 @@ pub alone : (x : Bool) → x ≡ (x && true)
 alone true = refl
 alone false = refl
 
-pub all_three : (x y z : Bool) → (x && (y && z)) ≡ all_of (x ∷ y ∷ z ∷ [])
+pub all_three : (x y z : Bool) → (x && y && z) ≡ all_of (x ∷ y ∷ z ∷ [])
 unfolding all_of
-all_three true true true = refl
-all_three true true false = refl
-all_three true false z = refl
-all_three false y z = refl
+all_three x y z = rw (and-true, and_assoc)
 
 -- ## Cells
 
--- a negative cell is below every number
-pub negative_below : (a : ℤ) (n : ℕ) → lt_z a (pos 0) ≡ true → true ≡ lt_z a (pos n)
-negative_below (pos x) n h = absurd (omega (arith, ltb-true x 0 h))
-negative_below (negsuc x) n h = refl
-
--- any other one where its size is
+-- a cell that is not negative is below a number where its size is
 pub size_below : (a : ℤ) (n : ℕ) → lt_z a (pos 0) ≡ false → ltb (nat_abs a) n ≡ lt_z a (pos n)
 size_below (pos x) n h = refl
 size_below (negsuc x) n h = absurd (true≢false h)
@@ -52,11 +44,6 @@ size_is (pos x) n h = go (ltb n x) refl
     go true e = let l = ltb-true n x e in rw (h, ne_eqb x n (λ (q : x ≡ n). omega arith))
     go false e = let l = ltb-false n x e in rw (h, eq-eqb x n (omega (arith, ltb-false x n h)))
 size_is (negsuc x) n h = absurd (true≢false h)
-
--- a cell that is not below a number
-pub size_low : (a : ℤ) (n : ℕ) → lt_z a (pos n) ≡ false → n ≤ nat_abs a
-size_low (pos x) n h = ltb-false x n h
-size_low (negsuc x) n h = absurd (true≢false h)
 
 -- ## Stretches
 

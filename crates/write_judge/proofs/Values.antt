@@ -1,22 +1,22 @@
 -- The pair of an attribute with one field of its own: what each test says of it. Assumes nothing.
-use borrow.Author.Tests.{lt-ltb, le-ltb, le-leb, lt-leb, ne_eqb}
-use Prim.Native.Nat.{ℕ, zero, suc, ◌-◌, ◌/◌, ◌%◌, ◌^◌, ◌≤◌, ◌<◌}
-use native.Mathlib.Omega.{arith}
+use borrow.Author.Tests.{lt-ltb, le-ltb, le-leb, lt-leb}
+use Prim.Native.Nat.{ℕ, ◌-◌, ◌/◌, ◌%◌, ◌^◌, ◌≤◌, ◌<◌}
 use mathlib.Core.Path.{◌≡◌, refl, sym, ◌∙◌}
 use mathlib.Core.Bool.{Bool, true, false, ◌&&◌}
 use mathlib.Core.List.{List}
-use lib.Dec.{eqb, ltb}
+use lib.Dec.{ltb}
 use lib.IntN.{ℤ, pos, nat_abs}
 use lib.Signed.{lt_z}
 use lib.ListN.{length, get_or}
-use Rattle.meaning.specs.Bytes.{choose, all_of}
-use Rattle.meaning.specs.Model.{AttributeType, Reference, Coordinate, Number, Text, Date, Enumeration, Line}
+use Rattle.meaning.specs.Bytes.{all_of}
+use Rattle.meaning.specs.Model.{Text}
 use Rattle.meaning.specs.Value.{is_day}
 use Rattle.meaning.specs.Reading.{Content}
 use Rattle.meaning.specs.Judge.{cell_is, judge_stretch, judge_date, judge_reference, judge_value}
-use Rattle.model_records.specs.Components.{component_of, components_of}
-use Rattle.model_records.specs.declared.Attribute.{Attribute}
-use Rattle.model_records.specs.Attributes.{type_of, first_of}
+use Rattle.model_records.specs.declared.attributes.Component.{Component}
+use Rattle.model_records.specs.declared.attributes.Kind.{Kind}
+use Rattle.model_records.specs.declared.attributes.Kind.TheVariants as kind
+use Rattle.model_records.specs.Attributes.{of_kind}
 use Rattle.write_judge.specs.Meant.{judge_second}
 use Rattle.write_judge.proofs.Signs.{alone, size_below}
 
@@ -81,78 +81,27 @@ module _ (u : ℕ) (text : List ℕ) (c : Content) (longest : ℕ) (a b : ℤ) w
   unfolding judge_value all_of
   text_is_lem h n e l = rw (h, sym e, le-leb n longest l) (alone (judge_stretch u text b n))
 
--- ## By the number of the type
+-- ## By the type
 
--- the type by the tests of its number, where it is no text
-abbrev type_by : Attribute → (r s t x y z : Bool) → AttributeType
-type_by at r s t x y z =
-    choose r (Reference at.number)
-    (choose s (Coordinate (components_of at.components))
-    (choose t (Coordinate (components_of at.components))
-    (choose x (Number (component_of (first_of at.components.items)))
-    (choose y Date
-    (choose z (Enumeration at.number)
-    (Line at.number (components_of at.components)))))))
+module _ (c : Content) (b : ℤ) where
+  pub second_none : (k : Kind) → ((target : ℕ) → k ≡ kind.Reference target → ⊥) → ((x : Component) → k ≡ kind.Number x → ⊥) → (k ≡ kind.Date → ⊥) → ((leaves : ℕ) → k ≡ kind.Enumeration leaves → ⊥)
+      → false ≡ judge_second c (of_kind k) b
+  unfolding judge_second
+  second_none (kind.Reference target) r n d e = absurd (r target refl)
+  second_none (kind.Coordinate components) r n d e = refl
+  second_none (kind.Number x) r n d e = absurd (n x refl)
+  second_none (kind.Text longest) r n d e = refl
+  second_none kind.Date r n d e = absurd (d refl)
+  second_none (kind.Enumeration leaves) r n d e = absurd (e leaves refl)
+  second_none (kind.Line forms components) r n d e = refl
 
-module _ (at : Attribute) where
-  pub type_reference : at.kind ≡ 1 → type_of at ≡ Reference at.number
-  unfolding type_of choose
-  type_reference e = rw e
-
-  pub type_coordinate : 2 ≤ at.kind → at.kind ≤ 3 → type_of at ≡ Coordinate (components_of at.components)
-  unfolding type_of choose
-  type_coordinate l m = go at.kind refl l m
-    where
-      go : (n : ℕ) → at.kind ≡ n → 2 ≤ n → n ≤ 3 → type_of at ≡ Coordinate (components_of at.components)
-      go zero e l m = absurd (omega arith)
-      go (suc zero) e l m = absurd (omega arith)
-      go (suc (suc zero)) e l m = rw e
-      go (suc (suc (suc zero))) e l m = rw e
-      go (suc (suc (suc (suc n)))) e l m = absurd (omega arith)
-
-  pub type_number : at.kind ≡ 4 → type_of at ≡ Number (component_of (first_of at.components.items))
-  unfolding type_of choose
-  type_number e = rw e
-
-  pub type_text : at.kind ≡ 5 → type_of at ≡ Text at.number
-  unfolding type_of choose
-  type_text e = rw e
-
-  pub type_date : at.kind ≡ 6 → type_of at ≡ Date
-  unfolding type_of choose
-  type_date e = rw e
-
-  pub type_enumeration : at.kind ≡ 7 → type_of at ≡ Enumeration at.number
-  unfolding type_of choose
-  type_enumeration e = rw e
-
-  pub type_line : at.kind ≡ 8 → type_of at ≡ Line at.number (components_of at.components)
-  unfolding type_of choose
-  type_line e = rw e
-
-  module _ (c : Content) (b : ℤ) where
-    pub second_none : (at.kind ≡ 1 → ⊥) → (at.kind ≡ 4 → ⊥) → (at.kind ≡ 6 → ⊥) → (at.kind ≡ 7 → ⊥) → false ≡ judge_second c (type_of at) b
-    unfolding type_of choose judge_second
-    second_none n1 n4 n6 n7 =
-        rw (ne_eqb at.kind 1 n1, ne_eqb at.kind 4 n4, ne_eqb at.kind 6 n6, ne_eqb at.kind 7 n7) (go (eqb at.kind 2) (eqb at.kind 3) (eqb at.kind 5))
-      where
-        go : (x y z : Bool) → false ≡ judge_second c (choose x (Coordinate (components_of at.components)) (choose y (Coordinate (components_of at.components)) (choose z (Text at.number) (Line at.number (components_of at.components))))) b
-        go true y z = refl
-        go false true z = refl
-        go false false true = refl
-        go false false false = refl
-
-    -- every type but a text has 1 in its first cell
-    pub value_second : (u : ℕ) (text : List ℕ) (a : ℤ) → (at.kind ≡ 5 → ⊥) → (cell_is a 1 && judge_second c (type_of at) b) ≡ judge_value u text c (type_of at) a b
-    unfolding type_of choose judge_second judge_value
-    value_second u text a n5 =
-        rw (ne_eqb at.kind 5 n5) (go (eqb at.kind 1) (eqb at.kind 2) (eqb at.kind 3) (eqb at.kind 4) (eqb at.kind 6) (eqb at.kind 7))
-      where
-        go : (r s t x y z : Bool) → (cell_is a 1 && judge_second c (type_by at r s t x y z) b) ≡ judge_value u text c (type_by at r s t x y z) a b
-        go true s t x y z = refl
-        go false true t x y z = none (cell_is a 1)
-        go false false true x y z = none (cell_is a 1)
-        go false false false true y z = refl
-        go false false false false true z = refl
-        go false false false false false true = refl
-        go false false false false false false = none (cell_is a 1)
+  -- every type but a text has 1 in its first cell
+  pub value_second : (u : ℕ) (text : List ℕ) (a : ℤ) (k : Kind) → ((longest : ℕ) → k ≡ kind.Text longest → ⊥) → (cell_is a 1 && judge_second c (of_kind k) b) ≡ judge_value u text c (of_kind k) a b
+  unfolding judge_second judge_value
+  value_second u text a (kind.Reference target) t = refl
+  value_second u text a (kind.Coordinate components) t = none (cell_is a 1)
+  value_second u text a (kind.Number x) t = refl
+  value_second u text a (kind.Text longest) t = absurd (t longest refl)
+  value_second u text a kind.Date t = refl
+  value_second u text a (kind.Enumeration leaves) t = refl
+  value_second u text a (kind.Line forms components) t = none (cell_is a 1)

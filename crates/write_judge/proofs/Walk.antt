@@ -1,39 +1,50 @@
 -- The pairs of an attribute and of a row: pair by pair, and the walk over the attribute records. Assumes nothing.
-use borrow.Author.Tests.{leb-true, le-leb, lt-leb, eqb-true, eqb-false}
+use borrow.Author.Tests.{leb-true, le-leb, lt-leb}
 use Prim.Native.Nat.{ℕ, zero, suc, ◌+◌, ◌*◌, ◌-◌, ◌≤◌, ◌<◌}
 use native.Mathlib.Omega.{arith}
 use mathlib.Core.Path.{◌≡◌, refl, sym, ap, ◌∙◌}
 use mathlib.Core.Bool.{Bool, true, false, not, ◌&&◌}
 use mathlib.Core.List.{List, [], ◌∷◌, ◌++◌}
-use lib.Dec.{eqb, leb}
+use lib.Dec.{leb}
 use lib.IntN.{ℤ, pos, nat_abs}
 use lib.Signed.{lt_z}
 use lib.ListN.{length, take, drop, get_or, length-drop, length-append}
 use lib.Seq.{get_or-drop, drop-drop, take_all}
-use Rattle.meaning.specs.Bytes.{choose, all_of}
+use Rattle.meaning.specs.Bytes.{choose, all_of, byte_at}
 use Rattle.meaning.specs.Model as model
 use Rattle.meaning.specs.Model.{Found, found, missing, AttributeType, Reference, Coordinate, Number, Text, Date, Enumeration, Line}
 use Rattle.meaning.specs.Row.{Pair, OfAttribute, OfComponent, OfLine, component_pairs, pairs_of_type, pairs_of}
 use Rattle.meaning.specs.Reading.{unstarted, Content}
 use Rattle.meaning.specs.Judge.{cell_is, judge_undefined, judge_points, judge_value, judge_component, judge_line, fine_if, judge_pair, defined_behind, after_found, judge_pairs}
 use Rattle.meaning.proofs.Tests.Refuse.{holds}
-use Rattle.model_records.specs.declared.Component.{Component}
-use Rattle.model_records.specs.Components.{component_of, list_of}
-use Rattle.model_records.specs.declared.Attribute.{Attribute}
+use Rattle.model_records.specs.declared.attributes.Component.{Component}
+use Rattle.model_records.specs.declared.attributes.Components.{Components}
+use Rattle.model_records.specs.declared.attributes.Kind.{Kind}
+use Rattle.model_records.specs.declared.attributes.Kind.TheVariants as kind
+use Rattle.model_records.specs.declared.attributes.Attribute.{Attribute}
+use Rattle.model_records.specs.declared.places.Records.{Records}
+use Rattle.model_records.specs.Components.{component_of, components_of, list_of}
 use Rattle.model_records.specs.Records.{model_at, kind_at, next_at, attributes_at, pairs_at}
-use Rattle.model_records.specs.AtRecord.{AtRecord, AttributeHere, AttributesHere}
-use Rattle.model_records.specs.Attributes.{type_of, RecordAttribute}
+use Rattle.model_records.specs.AtRecord.{AtRecord, AttributeNext}
+use Rattle.model_records.specs.Attributes.{of_kind, type_of, RecordAttribute}
 use Rattle.model_records.specs.Counts.{pair_count}
 use Rattle.model_records.proofs.AtRecord.{attribute_here, no_attribute}
 use Rattle.model_records.proofs.Counting.{own_count}
-use Rattle.write_judge.specs.Meant.{ComponentsOfKind}
-use Rattle.table.specs.Contents.{content_in}
+use Rattle.std.proofs.Common.{Option}
+use Rattle.std.specs.Bool.{then_some}
+use Rattle.write_judge.specs.Meant.{fine_of}
+use Rattle.table.specs.declared.Table.{Table}
+use Rattle.table.specs.Contents.{content}
 use Rattle.write_judge.proofs.Signs.{alone}
-use Rattle.write_judge.proofs.Values.{type_coordinate, type_line}
 use Rattle.meaning.proofs.Judge.Pairs.{fine_if_lem}
-use Rattle.model_records.proofs.Types.{few_components}
+use Rattle.model_records.proofs.Types.{type_at}
 
 -- ## Found or not
+
+pub fine_told : (r : Option ℕ) (t : Bool) (k : ℕ) → r ≡ then_some t k → fine_of r ≡ fine_if t k
+unfolding fine_if choose
+fine_told r true k e = rw e
+fine_told r false k e = rw e
 
 after_fine : (t : Bool) (k : ℕ) (next : ℕ → Found) → after_found (fine_if t k) missing next ≡ choose t (next k) missing
 unfolding fine_if choose
@@ -160,56 +171,31 @@ lent_points points n = take_all (length points - n) (drop n points) (omega (arit
 
 -- ## The pairs of an attribute
 
-coordinate_size : (o : Bool) (items : List Component) (n : ℕ) → length items ≡ 3 → 2 ≤ n → n ≤ 3 → length (pairs_of_type o (Coordinate (list_of (take n items)))) ≡ n
+pub coordinate_size : (o : Bool) (cs : Components) → length cs.items ≡ 3 → length (pairs_of_type o (Coordinate (components_of cs))) ≡ cs.count
 unfolding pairs_of_type component_pairs list_of
-coordinate_size o [] n l e f = absurd (omega arith)
-coordinate_size o (x ∷ []) n l e f = absurd (omega arith)
-coordinate_size o (x ∷ (y ∷ [])) n l e f = absurd (omega arith)
-coordinate_size o (x ∷ (y ∷ (z ∷ items))) zero l e f = absurd (omega arith)
-coordinate_size o (x ∷ (y ∷ (z ∷ items))) (suc zero) l e f = absurd (omega arith)
-coordinate_size o (x ∷ (y ∷ (z ∷ items))) (suc (suc zero)) l e f = refl
-coordinate_size o (x ∷ (y ∷ (z ∷ items))) (suc (suc (suc zero))) l e f = refl
-coordinate_size o (x ∷ (y ∷ (z ∷ items))) (suc (suc (suc (suc n)))) l e f = absurd (omega arith)
+coordinate_size o cs l = counted_pairs cs.items cs.count l cs.counted
+  where
+    counted_pairs : (items : List Component) (n : ℕ) → length items ≡ 3 → (2 ≤ n) × (n ≤ 3) → length (pairs_of_type o (Coordinate (list_of (take n items)))) ≡ n
+    counted_pairs [] n l e = absurd (omega arith)
+    counted_pairs (x ∷ []) n l e = absurd (omega arith)
+    counted_pairs (x ∷ (y ∷ [])) n l e = absurd (omega arith)
+    counted_pairs (x ∷ (y ∷ (z ∷ items))) zero l e = absurd (omega (arith, e))
+    counted_pairs (x ∷ (y ∷ (z ∷ items))) (suc zero) l e = absurd (omega (arith, e))
+    counted_pairs (x ∷ (y ∷ (z ∷ items))) (suc (suc zero)) l e = refl
+    counted_pairs (x ∷ (y ∷ (z ∷ items))) (suc (suc (suc zero))) l e = refl
+    counted_pairs (x ∷ (y ∷ (z ∷ items))) (suc (suc (suc (suc n)))) l e = absurd (omega (arith, e))
 
-module _ (a : Attribute) (h : ComponentsOfKind a) where
-  pub coordinate_counted : 2 ≤ a.kind → a.kind ≤ 3 → (2 ≤ a.components.count) × (a.components.count ≤ 3) × (length (pairs_of_type a.optional (type_of a)) ≡ a.components.count)
-  coordinate_counted l m = go (eqb a.kind 2) refl
-    where
-      go : (x : Bool) → eqb a.kind 2 ≡ x → (2 ≤ a.components.count) × (a.components.count ≤ 3) × (length (pairs_of_type a.optional (type_of a)) ≡ a.components.count)
-      go true e =
-          let n = h.two (eqb-true a.kind 2 e) in
-          (omega arith, omega arith, rw (type_coordinate a l m) (coordinate_size a.optional a.components.items a.components.count h.room (omega arith) (omega arith)))
-      go false e =
-          let q = eqb-false a.kind 2 e in
-          let n = h.three (omega (arith, q)) in
-          (omega arith, omega arith, rw (type_coordinate a l m) (coordinate_size a.optional a.components.items a.components.count h.room (omega arith) (omega arith)))
-
-  pub line_pair : a.kind ≡ 8 → pairs_of_type a.optional (type_of a) ≡ OfLine a.optional a.number (list_of (take a.components.count a.components.items)) ∷ []
-  unfolding pairs_of_type
-  line_pair e = rw (type_line a e)
-
-  pub own_pair : (a.kind ≡ 2 → ⊥) → (a.kind ≡ 3 → ⊥) → (a.kind ≡ 8 → ⊥) → pairs_of_type a.optional (type_of a) ≡ OfAttribute a.optional (type_of a) ∷ []
-  unfolding pairs_of_type type_of choose
-  own_pair n2 n3 n8 = go a.kind refl
-    where
-      go : (n : ℕ) → a.kind ≡ n → pairs_of_type a.optional (type_of a) ≡ OfAttribute a.optional (type_of a) ∷ []
-      go zero e = absurd (omega (arith, h.least))
-      go (suc zero) e = rw e
-      go (suc (suc zero)) e = absurd (n2 e)
-      go (suc (suc (suc zero))) e = absurd (n3 e)
-      go (suc (suc (suc (suc zero)))) e = rw e
-      go (suc (suc (suc (suc (suc zero))))) e = rw e
-      go (suc (suc (suc (suc (suc (suc zero)))))) e = rw e
-      go (suc (suc (suc (suc (suc (suc (suc zero))))))) e = rw e
-      go (suc (suc (suc (suc (suc (suc (suc (suc zero)))))))) e = absurd (n8 e)
-      go (suc (suc (suc (suc (suc (suc (suc (suc (suc n))))))))) e = absurd (omega (arith, h.most))
-
-  pub size_one : (a.kind ≡ 2 → ⊥) → (a.kind ≡ 3 → ⊥) → length (pairs_of_type a.optional (type_of a)) ≡ 1
-  size_one n2 n3 = go (eqb a.kind 8) refl
-    where
-      go : (x : Bool) → eqb a.kind 8 ≡ x → length (pairs_of_type a.optional (type_of a)) ≡ 1
-      go true e = rw (line_pair (eqb-true a.kind 8 e))
-      go false e = ap length (own_pair n2 n3 (eqb-false a.kind 8 e))
+-- a type that is neither a coordinate nor a line has one pair
+pub own_pair : (o : Bool) (k : Kind) → ((cs : Components) → k ≡ kind.Coordinate cs → ⊥) → ((forms : ℕ) (cs : Components) → k ≡ kind.Line forms cs → ⊥)
+    → pairs_of_type o (of_kind k) ≡ OfAttribute o (of_kind k) ∷ []
+unfolding pairs_of_type
+own_pair o (kind.Reference target) c l = refl
+own_pair o (kind.Coordinate cs) c l = absurd (c cs refl)
+own_pair o (kind.Number x) c l = refl
+own_pair o (kind.Text longest) c l = refl
+own_pair o kind.Date c l = refl
+own_pair o (kind.Enumeration leaves) c l = refl
+own_pair o (kind.Line forms cs) c l = absurd (l forms cs refl)
 
 -- ## The pairs of a row
 
@@ -290,66 +276,66 @@ module _ (u : ℕ) (text : List ℕ) (c : Content) where
 
 -- ## The attribute records
 
-pub counted : (b : List ℕ) (at : ℕ) (a : Attribute) → RecordAttribute b at a → ComponentsOfKind a
-counted b at a d = record { least = d.least; most = d.most; room = d.room; two = d.two; three = d.three; line = λ e. few_components a.components.count (d.line e) }
+module _ (model : Records) (t : Table) (first cell k : ℕ) where
+  abbrev bytes : List ℕ
+  bytes = model.bytes.now
 
-module _ (b : List ℕ) (u : ℕ) (text rows : List ℕ) (cells points : List ℤ) (first cell k : ℕ) where
+  abbrev Judged : (before : ℕ) → List Pair → (here : ℕ) → Found
+  Judged before ps here = judge_pairs model.shape.undefined t.text.now (content t) true before ps (drop here t.cells.now)
+
+  abbrev Whole : Found
+  Whole = Judged k (pairs_at bytes first) cell
+
   -- judged up to the record at a byte: the rest means what the whole meant
   pub record PairsLeft (at here before : ℕ) : Type 0 where
     pub topics : ℕ
     pub tables : ℕ
-    pub standing : AtRecord (model_at b) b at topics tables
-    pub inside : here + 2 * length (pairs_at b at) ≤ length cells
-    pub drawn : 4 * before ≤ length points
-    pub same : (marks : List ℕ) → judge_pairs u text (content_in marks rows cells points) true before (pairs_at b at) (drop here cells)
-        ≡ judge_pairs u text (content_in marks rows cells points) true k (pairs_at b first) (drop cell cells)
-
-  pub pairs_start : AttributesHere (model_at b) b first → cell + 2 * length (pairs_at b first) ≤ length cells → 4 * k ≤ length points → PairsLeft first cell k
-  pairs_start h l m = record { topics = h.topics; tables = h.tables; standing = h.standing; inside = l; drawn = m; same = λ marks. refl }
+    pub standing : AtRecord (model_at bytes) bytes at topics tables
+    pub inside : here + 2 * length (pairs_at bytes at) ≤ length t.cells.now
+    pub drawn : 4 * before ≤ length t.points.now
+    pub same : Judged before (pairs_at bytes at) here ≡ Whole
 
   module _ (at here before : ℕ) (i : PairsLeft at here before) where
-    pub pairs_end : (kind_at b at ≡ 5 → ⊥) → (marks : List ℕ) → found before ≡ judge_pairs u text (content_in marks rows cells points) true k (pairs_at b first) (drop cell cells)
+    pub pairs_end : (kind_at bytes at ≡ 5 → ⊥) → found before ≡ Whole
     unfolding pairs_of judge_pairs
-    pairs_end n marks = rw (no_attribute (model_at b) b at i.topics i.tables i.standing n) at (i.same marks)
+    pairs_end n = rw (no_attribute (model_at bytes) bytes at i.topics i.tables i.standing n) at i.same
 
-    module _ (e : kind_at b at ≡ 5) where
-      pub good_here : AttributeHere b at
-      good_here = (attribute_here (model_at b) b at i.topics i.tables i.standing e).good
+    module _ (e : kind_at bytes at ≡ 5) where
+      next : AttributeNext (model_at bytes) bytes at i.topics i.tables
+      next = attribute_here (model_at bytes) bytes at i.topics i.tables i.standing e
 
-      module _ (a : Attribute) (d : RecordAttribute b at a) where
+      module _ (a : Attribute) (d : RecordAttribute bytes at a) where
         abbrev own : List Pair
         own = pairs_of_type a.optional (type_of a)
 
-        pairs_here_lem : pairs_at b at ≡ own ++ pairs_at b (next_at b at)
+        pairs_here_lem : pairs_at bytes at ≡ own ++ pairs_at bytes (next_at bytes at)
         unfolding pairs_of
-        pairs_here_lem = rw ((attribute_here (model_at b) b at i.topics i.tables i.standing e).attributes, d.type, d.optional) refl
+        pairs_here_lem = rw (next.attributes, d.type, d.optional) refl
 
-        pub own_inside : here + 2 * length own + 2 * length (pairs_at b (next_at b at)) ≤ length cells
-        own_inside = omega (arith, i.inside, ap length pairs_here_lem ∙ length-append own (pairs_at b (next_at b at)))
+        pub own_inside : here + 2 * length own + 2 * length (pairs_at bytes (next_at bytes at)) ≤ length t.cells.now
+        own_inside = omega (arith, i.inside, ap length pairs_here_lem ∙ length-append own (pairs_at bytes (next_at bytes at)))
 
-        own_size : length own ≡ pair_count a.kind
-        own_size = own_count b at a good_here d
+        own_size : length own ≡ pair_count (byte_at bytes (at + 5))
+        own_size = rw (type_at bytes at next.good) (own_count bytes at a next.good d)
 
-        pub count_inside : (count : ℕ) → count ≡ pair_count a.kind → here + 2 * count ≤ length cells
+        pub count_inside : (count : ℕ) → count ≡ pair_count (byte_at bytes (at + 5)) → here + 2 * count ≤ length t.cells.now
         count_inside count ec = omega (arith, own_inside, own_size)
 
-        turned : (marks : List ℕ) → judge_pairs u text (content_in marks rows cells points) true k (pairs_at b first) (drop cell cells)
-            ≡ after_found (judge_pairs u text (content_in marks rows cells points) true before own (drop here cells)) missing (λ n. judge_pairs u text (content_in marks rows cells points) true n (pairs_at b (next_at b at)) (drop (here + 2 * length own) cells))
-        turned marks =
-            sym (i.same marks) ∙ ap (λ (ps : List Pair). judge_pairs u text (content_in marks rows cells points) true before ps (drop here cells)) pairs_here_lem
-            ∙ attribute_turn u text (content_in marks rows cells points) own (attributes_at b (next_at b at)) before here cells
+        turned : Whole ≡ after_found (Judged before own here) missing (λ n. Judged n (pairs_at bytes (next_at bytes at)) (here + 2 * length own))
+        turned =
+            sym i.same ∙ ap (λ (ps : List Pair). Judged before ps here) pairs_here_lem
+            ∙ attribute_turn model.shape.undefined t.text.now (content t) own (attributes_at bytes (next_at bytes at)) before here t.cells.now
 
-        pub pairs_stop : ((marks : List ℕ) → missing ≡ judge_pairs u text (content_in marks rows cells points) true before own (drop here cells))
-            → (marks : List ℕ) → missing ≡ judge_pairs u text (content_in marks rows cells points) true k (pairs_at b first) (drop cell cells)
-        pairs_stop h marks = rw (turned marks, sym (h marks)) refl
+        pub pairs_stop : missing ≡ Judged before own here → missing ≡ Whole
+        pairs_stop h = rw (turned, sym h) refl
 
-        pub pairs_on : (n : ℕ) → ((marks : List ℕ) → found n ≡ judge_pairs u text (content_in marks rows cells points) true before own (drop here cells))
-            → (count next : ℕ) → count ≡ pair_count a.kind → next ≡ next_at b at → PairsLeft next (here + 2 * count) n
-        pairs_on n h count next ec en = rw (ec, ← own_size, en) (record {
+        pub pairs_on : (n : ℕ) → found n ≡ Judged before own here → (count at' : ℕ) → count ≡ pair_count (byte_at bytes (at + 5)) → at' ≡ next_at bytes at
+            → PairsLeft at' (here + 2 * count) n
+        pairs_on n h count at' ec en = rw (ec, ← own_size, en) (record {
           topics = i.topics;
           tables = i.tables;
-          standing = (attribute_here (model_at b) b at i.topics i.tables i.standing e).next;
+          standing = next.next;
           inside = own_inside;
-          drawn = pairs_within u text (content_in [] rows cells points) own true before n (drop here cells) i.drawn (sym (h []));
-          same = λ marks. sym (turned marks ∙ rw (sym (h marks)) refl);
+          drawn = pairs_within model.shape.undefined t.text.now (content t) own true before n (drop here t.cells.now) i.drawn (sym h);
+          same = sym (turned ∙ rw (sym h) refl);
         })

@@ -1,12 +1,11 @@
 -- The judge of a whole table: its counts, then what is used of it. Assumes nothing.
 use Prim.Native.Nat.{ℕ, ◌+◌, ◌*◌, ◌/◌, ◌≤◌}
 use native.Mathlib.Omega.{arith}
-use mathlib.Core.Path.{◌≡◌, refl, sym, ap, ◌∙◌}
-use mathlib.Core.Bool.{Bool, true, false, ◌&&◌}
+use mathlib.Core.Path.{◌≡◌, refl, ap}
+use mathlib.Core.Bool.{Bool, true, false, ◌&&◌, and-true, and_assoc}
 use mathlib.Core.List.{List, [], ◌∷◌}
 use lib.Dec.{leb}
-use lib.IntN.{ℤ}
-use lib.ListN.{length, take, replicate, length-replicate}
+use lib.ListN.{length, take}
 use lib.Seq.{length-take-le}
 use borrow.Author.Tests.{leb-true, leb-false, le-leb, lt-leb}
 use Rattle.meaning.specs.Bytes.{all_of, every}
@@ -16,10 +15,12 @@ use Rattle.meaning.specs.Writing.{Lent, counts_fit, content_of}
 use Rattle.meaning.specs.Judge.{is_mark, judge_tables, judge_rows, judge}
 use Rattle.meaning.proofs.Tests.Refuse.{holds}
 use Rattle.model_records.specs.Records.{model_at}
-use Rattle.model_records.specs.Places.{RecordsPlaced}
-use Rattle.model_records.specs.declared.places.Shape.{Shape}
+use Rattle.model_records.specs.Places.{Placed}
+use Rattle.model_records.specs.declared.places.Records.{Records}
+use Rattle.table.specs.declared.Used.{Used}
+use Rattle.table.specs.declared.Table.{Table}
+use Rattle.table.specs.Contents.{content}
 use Rattle.write_judge.specs.Marks.{Judging}
-use Rattle.table.specs.Contents.{content_in}
 use Rattle.write_judge.specs.Tables.{judge_used}
 use Rattle.meaning.specs.Writing.{lent_of}
 
@@ -37,9 +38,9 @@ last : (x : Bool) → x ≡ (x && true)
 last true = refl
 last false = refl
 
-pub four_counts : (a b c d : Bool) → (a && (b && (c && d))) ≡ all_of (a ∷ b ∷ c ∷ d ∷ [])
+pub four_counts : (a b c d : Bool) → (a && b && c && d) ≡ all_of (a ∷ b ∷ c ∷ d ∷ [])
 unfolding all_of
-four_counts a b c d = ap (λ (x : Bool). a && (b && (c && x))) (last d)
+four_counts a b c d = simp (and-true, and_assoc)
 
 -- ## What is used
 
@@ -57,38 +58,39 @@ module _ (m : Model) (text : List ℕ) (c : Content) where
     unfolding judge_used all_of
     used_rows h = rw (g, h) (last (judge_rows m text c 0 0 0 [] c.rows))
 
--- what a cleared index is
-pub cleared : (l : List ℕ) (n : ℕ) → l ≡ replicate n 0 → l ≡ replicate (length l) 0
-cleared l n e = e ∙ ap (λ (k : ℕ). replicate k 0) (sym (ap length e ∙ length-replicate n 0))
-
 -- ## The whole
 
-module _ (b : List ℕ) (shape : Shape) (places : List ℕ) (placed : RecordsPlaced b shape places)
-    (text marks rows : List ℕ) (cells points : List ℤ) (objects cell_count point_count : ℕ) where
+module _ (model : Records) (placed : Placed model) (t : Table) (used : Used) where
+  abbrev m : Model
+  m = model_at model.bytes.now
+
   abbrev count : ℕ
-  count = shape.topics + shape.tables
+  count = model.shape.topics + model.shape.tables
 
   abbrev Fit : Bool
-  Fit = all_of (leb count (length marks) ∷ leb objects (length rows) ∷ leb cell_count (length cells) ∷ leb (4 * point_count) (length points) ∷ [])
+  Fit = all_of (leb count (length t.marks.now) ∷ leb used.objects (length t.rows.now) ∷ leb used.cells (length t.cells.now) ∷ leb (4 * used.points) (length t.points.now) ∷ [])
 
-  abbrev t : Lent
-  t = lent_of text marks rows cells points objects cell_count point_count
+  abbrev lent : Lent
+  lent = lent_of t.text.now t.marks.now t.rows.now t.cells.now t.points.now used.objects used.cells used.points
 
-  fit_is : Fit ≡ counts_fit (model_at b) t
+  fit_is : Fit ≡ counts_fit m lent
   unfolding counts_fit
   fit_is = rw (placed.topics, placed.tables)
 
-  pub whole_none : Fit ≡ false → false ≡ judge (model_at b) t
+  pub whole_none : Fit ≡ false → false ≡ judge m lent
   unfolding judge all_of
   whole_none h = rw (← fit_is, h)
 
-  pub whole_used : Fit ≡ true → judge_used (model_at b) text (content_in (take count marks) (take objects rows) (take cell_count cells) (take (4 * point_count) points)) ≡ judge (model_at b) t
-  unfolding judge judge_used all_of content_of
-  whole_used h = rw (← fit_is, h, placed.topics, placed.tables)
+  module _ (h : Fit ≡ true) where
+    pub fit_counts : (count ≤ length t.marks.now) × (used.objects ≤ length t.rows.now) × (used.cells ≤ length t.cells.now) × (4 * used.points ≤ length t.points.now)
+    fit_counts = (leb-true _ _ (holds _ 0 h), leb-true _ _ (holds _ 1 h), leb-true _ _ (holds _ 2 h), leb-true _ _ (holds _ 3 h))
 
-  pub fit_counts : Fit ≡ true → (count ≤ length marks) × (objects ≤ length rows) × (cell_count ≤ length cells) × (4 * point_count ≤ length points)
-  fit_counts h = (leb-true _ _ (holds _ 0 h), leb-true _ _ (holds _ 1 h), leb-true _ _ (holds _ 2 h), leb-true _ _ (holds _ 3 h))
+    -- what is used of the table
+    module _ (cut : Table) (et : cut.text.now ≡ t.text.now) (em : cut.marks.now ≡ take count t.marks.now) (er : cut.rows.now ≡ take used.objects t.rows.now)
+        (ec : cut.cells.now ≡ take used.cells t.cells.now) (ep : cut.points.now ≡ take (4 * used.points) t.points.now) where
+      pub whole_judging : Judging model cut
+      whole_judging = record { placed = placed; marks_room = omega (arith, ap length em, length-take-le count t.marks.now fit_counts.0) }
 
-  -- what judging needs
-  pub whole_judging : Fit ≡ true → Judging b shape places (take count marks)
-  whole_judging h = record { placed = placed; marks_room = (let z = length-take-le count marks (fit_counts h).0 in omega arith) }
+      pub whole_used : judge_used m cut.text.now (content cut) ≡ judge m lent
+      unfolding judge judge_used all_of content_of
+      whole_used = rw (← fit_is, h, et, em, er, ec, ep, placed.topics, placed.tables)

@@ -1,5 +1,5 @@
 -- What the answers of the judge mean.
-use Rattle.std.specs.Prelude.{ℕ, ◌≤◌, ◌≡◌, Bool, false, not, List, [], ◌∷◌, ℤ, length}
+use Rattle.std.specs.Prelude.{ℕ, Bool, false, not, List, [], ◌∷◌, ℤ, Option, Some, None}
 use Rattle.meaning.specs.Bytes.{all_of}
 use Rattle.meaning.specs.Model.{Component, Found, found, missing}
 use Rattle.meaning.specs.Model.{AttributeType, Reference, Coordinate, Number, Text, Date, Enumeration, Line}
@@ -8,16 +8,12 @@ use Rattle.meaning.specs.Reading as meaning
 use Rattle.meaning.specs.Reading.{Content, move, is_forbidden}
 use Rattle.meaning.specs.Judge.{kind_code_of, are_within, after_point, judge_reference, judge_date, judge_leaf}
 use Rattle.read_state.specs.Meaning.{line_state_of}
-use Rattle.model_records.specs.declared.Attribute.{Attribute}
-use Rattle.write_judge.specs.declared.pairs.PairsJudged.{PairsJudged}
-use Rattle.write_judge.specs.declared.pairs.PairsJudged.TheVariants as fine
-use Rattle.write_judge.specs.declared.points.PointJudged.{PointJudged}
-use Rattle.write_judge.specs.declared.points.PointJudged.TheVariants as passed
+use Rattle.read_state.specs.declared.LineState.{LineState}
 
 -- a point that is fine leads to a line state, from which the line goes on
-abbrev pub passed_then : PointJudged → (meaning.LineState → Bool) → Bool
-passed_then (passed.To state) next = next (line_state_of state)
-passed_then passed.No next = false
+abbrev pub passed_then : Option LineState → (meaning.LineState → Bool) → Bool
+passed_then (Some state) next = next (line_state_of state)
+passed_then None next = false
 
 -- a point by its four cells, from a line state on: where it is fine, what follows from the line state behind it
 unfoldable pub point_then : (forms : ℕ) → List Component → meaning.LineState → (kind east north height : ℤ)
@@ -30,9 +26,9 @@ point_then forms ks state kind east north height next =
     ∷ []))
 
 -- the pairs are fine, with so many points before what follows; or one is not
-abbrev pub fine_of : PairsJudged → Found
-fine_of (fine.At k) = found k
-fine_of fine.No = missing
+abbrev pub fine_of : Option ℕ → Found
+fine_of (Some k) = found k
+fine_of None = missing
 
 -- the second cell of a pair whose first one is 1: "Reference: 1 and the number of the object.
 -- Number, date, enumeration: 1 and the value"
@@ -44,12 +40,3 @@ judge_second c (Text longest) b = false
 judge_second c Date b = judge_date b
 judge_second c (Enumeration leaves) b = judge_leaf leaves b
 judge_second c (Line forms ks) b = false
-
--- an attribute has the components of its type
-pub record ComponentsOfKind (a : Attribute) : Type 0 where
-  pub least : 1 ≤ a.kind
-  pub most : a.kind ≤ 8
-  pub room : length a.components.items ≡ 3
-  pub two : a.kind ≡ 2 → a.components.count ≡ 2
-  pub three : a.kind ≡ 3 → a.components.count ≡ 3
-  pub line : a.kind ≡ 8 → (2 ≤ a.components.count) × (a.components.count ≤ 3)

@@ -4,24 +4,18 @@ ghost use Rattle.std.specs.Int.Signed.{lt_z};
 ghost use Rattle.meaning.specs.Bytes.{all_of, text_byte, every, same};
 ghost use Rattle.meaning.specs.Judge.{cell_is, judge_stretch};
 
-use base::bools;
-
 // Is a cell below a number?
 pub(crate) fn is_below(a: i64, n: usize) -> bool
     ensures { result ≡ lt_z a (pos n) }
 {
-    if a < 0 { true } else { (a as usize) < n }
+    a < 0 || (a as usize) < n
 }
 
 // Is a cell this number?
 pub(crate) fn is_number(a: i64, n: usize) -> bool
     ensures { result ≡ cell_is a n }
 {
-    if is_below(a, n) {
-        false
-    } else {
-        table::cells::size_of(a) == n
-    }
+    !is_below(a, n) && table::cells::size_of(a) == n
 }
 
 // Bytes of an identification or a text, and never "one or two undefined bytes".
@@ -30,12 +24,9 @@ fn judge_bytes(undefined: u8, bytes: &[u8]) -> bool
         result ≡ all_of (every text_byte b
         ∷ not (same b (undefined ∷ [])) ∷ not (same b (undefined ∷ undefined ∷ [])) ∷ []) }
 {
-    let once = value_read::stretches::is_undefined(undefined, bytes);
-    let twice = value_read::stretches::is_undefined_twice(undefined, bytes);
-    bools::both(
-        value_read::stretches::is_identification(bytes),
-        bools::both(!once, !twice),
-    )
+    value_read::stretches::is_identification(bytes)
+        & !value_read::stretches::is_undefined(undefined, bytes)
+        & !value_read::stretches::is_undefined_twice(undefined, bytes)
 }
 
 // "a stretch outside the lent text is 19": so many bytes of the text from a start on.

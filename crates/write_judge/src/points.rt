@@ -8,18 +8,11 @@ ghost use Rattle.read_state.specs.Meaning.{line_state_of, line_code_of};
 ghost use Rattle.write_judge.specs.Meant.{passed_then, point_then};
 
 use crate::cells;
-use base::bools;
 use model_records::Components;
 use read_state::{LineCode, LineState, Move};
 
-// A point is fine, with the line state behind it; or it is not.
-#[derive(Clone, Copy)]
-pub(crate) enum PointJudged {
-    To(LineState),
-    No,
-}
-
 // "0 STPT, 1 LIPT, 2 ARCP"
+// By tests: the proof of a match on the number did not close.
 fn code_of(kind: i64) -> LineCode
     ensures { line_code_of result ≡ kind_code_of kind }
 {
@@ -37,34 +30,27 @@ fn code_of(kind: i64) -> LineCode
 
 // "east; north; height or 0": the values of a point of two or three components.
 fn are_within(components: Components, east: i64, north: i64, height: i64) -> bool
-    requires { (2 ≤ components.count) × (components.count ≤ 3) × (length components.items ≡ 3) }
     ensures { result ≡ are_within (components_of components) (east ∷ north ∷ height ∷ []) }
 {
     let items = components.items;
     let first = value_read::numbers::is_within(items[0], east);
     let second = value_read::numbers::is_within(items[1], north);
-    if components.count == 3 {
-        let third = value_read::numbers::is_within(items[2], height);
-        bools::both(first, bools::both(second, third))
+    let third = if components.count == 3 {
+        value_read::numbers::is_within(items[2], height)
     } else {
-        let none = cells::is_number(height, 0);
-        bools::both(first, bools::both(second, none))
-    }
+        cells::is_number(height, 0)
+    };
+    first & second & third
 }
 
 // May a line end here?
 fn is_reached(state: LineState) -> bool
     ensures { result ≡ is_reached (line_state_of state) }
 {
-    match state {
-        LineState::Unstarted => false,
-        LineState::Started => false,
-        LineState::InArc => false,
-        LineState::Reached => true,
-    }
+    state == LineState::Reached
 }
 
-// A point of a line by its four cells, from a line state on.
+// A point of a line by its four cells, from a line state on: the line state behind it, where it is fine.
 fn pass_point(
     forms: usize,
     components: Components,
@@ -73,23 +59,20 @@ fn pass_point(
     east: i64,
     north: i64,
     height: i64,
-) -> PointJudged
-    requires { (2 ≤ components.count) × (components.count ≤ 3) × (length components.items ≡ 3) }
+) -> Option<LineState>
     ensures { (next : meaning.LineState → Bool) → passed_then result next ≡
         point_then forms (components_of components) (line_state_of state) kind east north height next }
 {
     let code = code_of(kind);
     if state.forbids(code, forms) {
-        return PointJudged::No;
+        return None;
     }
     if !are_within(components, east, north, height) {
-        return PointJudged::No;
+        return None;
     }
     match state.step(code) {
-        Move::Unexpected => PointJudged::No,
-        Move::UndefinedLine => PointJudged::No,
-        Move::Ended => PointJudged::No,
-        Move::Point(_, next) => PointJudged::To(next),
+        Move::Unexpected | Move::UndefinedLine | Move::Ended => None,
+        Move::Point(_, next) => Some(next),
     }
 }
 
@@ -100,9 +83,8 @@ fn judge_point(
     state: LineState,
     points: &[i64],
     at: usize,
-) -> PointJudged
-    requires le_count { (2 ≤ components.count) × (components.count ≤ 3) × (length components.items ≡ 3) }
-    requires at_in_bounds { at + 4 ≤ length points.now }
+) -> Option<LineState>
+    requires { at + 4 ≤ length points.now }
     ensures { (next : meaning.LineState → Bool) → let p = points.now in
         passed_then result next ≡ point_then forms (components_of components) (line_state_of state)
         (get_or p at (pos 0)) (get_or p (at + 1) (pos 0)) (get_or p (at + 2) (pos 0)) (get_or p (at + 3) (pos 0)) next }
@@ -120,22 +102,15 @@ fn judge_point(
 
 // "STPT, then one or more of LIPT or ARCP LIPT, then ELIN": so many points that end a line.
 pub(crate) fn judge_points(forms: usize, components: Components, points: &[i64], n: usize) -> bool
-    requires le_count { (2 ≤ components.count) × (components.count ≤ 3) × (length components.items ≡ 3) }
-    requires n_in_bounds { 4 * n ≤ length points.now }
+    requires { 4 * n ≤ length points.now }
     ensures { result ≡ judge_points forms (components_of components) unstarted n points.now }
 {
     let mut state = LineState::Unstarted;
-    let mut i = 0;
-    while i < n {
-        match judge_point(forms, components, state, points, 4 * i) {
-            PointJudged::To(next) => {
-                state = next;
-            }
-            PointJudged::No => {
-                return false;
-            }
-        }
-        i += 1;
+    for i in 0..n {
+        let Some(next) = judge_point(forms, components, state, points, 4 * i) else {
+            return false;
+        };
+        state = next;
     }
     is_reached(state)
 }

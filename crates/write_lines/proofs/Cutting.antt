@@ -7,14 +7,16 @@ use mathlib.Core.Path.{◌≡◌, refl, sym, ap, ◌∙◌}
 use mathlib.Core.Bool.{Bool, true, false}
 use mathlib.Core.List.{List, [], ◌∷◌, ◌++◌, append_assoc}
 use lib.Dec.{leb}
-use lib.ListN.{length, take, drop, set, take-append-drop, length-append, length-drop, drop_of_length-le}
-use lib.Seq.{sets, length-sets, take-take, take_all, drop-drop}
+use lib.ListN.{length, take, drop, set, length-set, take-append-drop, length-append, length-drop, drop_of_length-le}
+use lib.Seq.{sets, sets-eq, paste, length-sets, take-take, take_all, drop-drop}
+use borrow.Rule.Slice.PartMut.{put_mid}
 use borrow.Author.Tests.{le-leb, lt-leb, leb-true, leb-false}
-use Rattle.meaning.specs.Bytes.{choose, ends}
+use Rattle.meaning.specs.Bytes.{choose, ends, cont}
 use Rattle.meaning.specs.Width.{goes_whole, cut_line}
 use Rattle.base.proofs.Scan.{and_false}
 use Rattle.write_lines.specs.Cuts.{cut_bytes, cut_rest, with_cuts, last_room}
 use Rattle.write_lines.proofs.Runs.{between, length_between, between_drop, between_same, take_sets, drop_run, sets_before}
+use Rattle.write_lines.proofs.Puts.{copied}
 use Rattle.meaning.proofs.Lists.{drop-take}
 use Rattle.meaning.proofs.Unfolding.Widths.{by_cuts_of_line}
 
@@ -152,21 +154,16 @@ module _ (mark step : ℕ) where
   cuts_append zero last l behind rest = sym (append_assoc l behind rest)
   cuts_append (suc count) last l behind rest = rw (← append_assoc (drop last l) behind rest) (cuts_append count (last - step) (take last l) (cut_bytes mark ++ (drop last l ++ behind)) rest)
 
--- a cut stored byte by byte before a part that was moved
-module _ (mark from to gap : ℕ) (out moved : List ℕ) (part : moved ≡ sets out (from + (gap + 7)) (between from to out)) where
-  pub cut_stored : let at : ℕ = from + gap in
-      set (set (set (set (set (set (set moved at mark) (at + 1) 0x0a) (at + 2) 0x43) (at + 3) 0x4f) (at + 4) 0x4e) (at + 5) 0x54) (at + 6) 0x20
-      ≡ sets out at (cut_bytes mark ++ between from to out)
-  cut_stored =
-      let at : ℕ = from + gap in
-      let a : at + 1 ≡ suc at = omega arith in
-      let b : at + 2 ≡ suc (suc at) = omega arith in
-      let c : at + 3 ≡ suc (suc (suc at)) = omega arith in
-      let d : at + 4 ≡ suc (suc (suc (suc at))) = omega arith in
-      let e : at + 5 ≡ suc (suc (suc (suc (suc at)))) = omega arith in
-      let f : at + 6 ≡ suc (suc (suc (suc (suc (suc at))))) = omega arith in
-      let z : from + (gap + 7) ≡ at + 7 = omega arith in
-      rw (a, b, c, d, e, f, part, z) (sets_before (cut_bytes mark) out at (between from to out))
+-- the bytes between two places moved behind a cut that is put
+pub cut_stored : (mark from to at : ℕ) (out : List ℕ) → to ≤ length out → at + 7 + (to - from) ≤ length out
+    → put_mid (at + 1) (at + 7 - (at + 1)) (set (paste out (at + 7) (drop from out) (to - from)) at mark) (0x0a ∷ cont) ≡ sets out at (cut_bytes mark ++ between from to out)
+cut_stored mark from to at out room fits =
+    let part : List ℕ = between from to out in
+    let n : length part ≡ to - from = length_between from to out room in
+    let moved : paste out (at + 7) (drop from out) (to - from) ≡ sets out (at + 7) part = sym (sets-eq part out (at + 7) (omega (arith, n)) ∙ rw n) in
+    let size : length (set (sets out (at + 7) part) at mark) ≡ length out = length-set (sets out (at + 7) part) at mark ∙ length-sets out (at + 7) part in
+    let z : at + 7 - (at + 1) ≡ at + 1 + 6 - (at + 1) = omega arith in
+    rw (moved, z) (copied (at + 1) (set (sets out (at + 7) part) at mark) (0x0a ∷ cont) (omega (arith, size)) ∙ rw (add-one at) (sets_before (cut_bytes mark) out at part))
 
 -- ## A line moved to its places, from its last part to its first
 

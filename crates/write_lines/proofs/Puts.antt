@@ -25,16 +25,16 @@ unfolding last_in
 last_append d [] ys = refl
 last_append d (x ∷ xs) ys = last_append x xs ys
 
-pub last_none : (d : ℕ) (l : List ℕ) → length l ≡ 0 → d ≡ last_in d l
+last_of : (d x : ℕ) (l : List ℕ) → get_or (x ∷ l) (length l) d ≡ last_in x l
 unfolding last_in
-last_none d [] h = refl
-last_none d (x ∷ l) h = absurd (omega arith)
+last_of d x [] = refl
+last_of d x (y ∷ l) = last_of d y l
 
-pub last_some : (d : ℕ) (l : List ℕ) → 0 < length l → get_or l (length l - 1) 0 ≡ last_in d l
+-- the last byte by its place
+pub last_got : (d : ℕ) (l : List ℕ) → get_or l (length l - 1) d ≡ last_in d l
 unfolding last_in
-last_some d [] h = absurd (omega arith)
-last_some d (x ∷ []) h = refl
-last_some d (x ∷ (y ∷ l)) h = let z : length (x ∷ (y ∷ l)) - 1 ≡ suc (length (y ∷ l) - 1) = omega arith in rw z (last_some x (y ∷ l) (omega arith))
+last_got d [] = refl
+last_got d (x ∷ l) = let z : suc (length l) - 1 ≡ length l = omega arith in rw z (last_of d x l)
 
 -- bytes behind bytes
 pub then : (xs ys : List ℕ) (p q r : Put) (e e' e'' : List ℕ) → Puts xs p e e' q → Puts ys q e' e'' r → Puts (xs ++ ys) p e e'' r

@@ -1,11 +1,11 @@
 -- Runs of bytes set in a list. Assumes nothing.
-use Prim.Native.Nat.{ℕ, zero, suc, ◌+◌, ◌-◌, ◌<◌, ◌≤◌}
+use Prim.Native.Nat.{ℕ, suc, ◌+◌, ◌-◌, ◌<◌, ◌≤◌}
 use native.Mathlib.Nat.{add-zero}
 use native.Mathlib.Omega.{arith}
 use mathlib.Core.Path.{◌≡◌, refl, sym, ap, ◌∙◌}
 use mathlib.Core.List.{List, [], ◌∷◌, ◌++◌, append_assoc}
-use lib.ListN.{length, take, drop, get_or, set, take-append-drop, length-drop}
-use lib.Seq.{sets, sets-eq, length-sets, take-set-le, drop-set-lt, set_comm, get_or-set_other, drop-cons, drop-drop, drop_at, length-take-le}
+use lib.ListN.{length, take, drop, set, take-append-drop, length-drop}
+use lib.Seq.{sets, sets-eq, length-sets, take-set-le, drop-set-lt, set_comm, drop-drop, drop_at, length-take-le}
 use Rattle.meaning.proofs.Lists.{drop-take}
 
 -- ## What a run leaves as it was
@@ -19,10 +19,6 @@ take_sets m l i (v ∷ vs) h = take_sets m (set l i v) (suc i) vs (omega arith) 
 pub drop_sets : (m : ℕ) (l : List ℕ) (i : ℕ) (vs : List ℕ) → i + length vs ≤ m → drop m (sets l i vs) ≡ drop m l
 drop_sets m l i [] h = refl
 drop_sets m l i (v ∷ vs) h = drop_sets m (set l i v) (suc i) vs (omega arith) ∙ drop-set-lt m l i v (omega arith)
-
-pub get_or_sets : (j : ℕ) (l : List ℕ) (i : ℕ) (vs : List ℕ) (d : ℕ) → j < i → get_or (sets l i vs) j d ≡ get_or l j d
-get_or_sets j l i [] d h = refl
-get_or_sets j l i (v ∷ vs) d h = get_or_sets j (set l i v) (suc i) vs d (omega arith) ∙ get_or-set_other l i j v d (λ e. omega arith)
 
 -- the list from the run on
 pub drop_run : (l : List ℕ) (i : ℕ) (vs : List ℕ) → i + length vs ≤ length l → drop i (sets l i vs) ≡ vs ++ drop (i + length vs) l
@@ -72,14 +68,3 @@ between_drop start n l h =
 -- two lists that agree before n agree between two places before it
 pub between_same : (start n : ℕ) (l k : List ℕ) → take n l ≡ take n k → between start n l ≡ between start n k
 between_same start n l k e = sym (drop-take start n l) ∙ rw e (drop-take start n k)
-
--- ## Bytes moved to the right, the last one first
-
-pub shift_turn : (i to by : ℕ) (d now : List ℕ) → 0 < i → i ≤ to → to ≤ length d → now ≡ sets d (i + by) (between i to d)
-    → set now (i - 1 + by) (get_or now (i - 1) 0) ≡ sets d (i - 1 + by) (between (i - 1) to d)
-shift_turn zero to by d now a h room e = absurd (omega arith)
-shift_turn (suc j) to by d now a h room e =
-    let z : suc j - 1 ≡ j = omega arith in
-    let s : suc j + by ≡ suc (j + by) = omega arith in
-    let t : to - j ≡ suc (to - suc j) = omega arith in
-    rw (z, t, drop-cons d j 0 (omega arith), e, s, get_or_sets j d (suc (j + by)) (between (suc j) to d) 0 (omega arith)) (set_sets (j + by) (get_or d j 0) d (suc (j + by)) (between (suc j) to d) (omega arith))

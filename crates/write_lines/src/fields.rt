@@ -8,22 +8,14 @@ use super::Put;
 pub(crate) fn count_on(count: usize, more: usize) -> usize
     ensures { result ≡ min 4294967295 (count + more) }
 {
-    if count < 4294967295 {
-        if more < 4294967295 - count {
-            return count + more;
-        }
-    }
-    4294967295
+    count.saturating_add(more).min(4294967295)
 }
 
 // The last byte of a part, or the one before it.
 pub(crate) fn last_in(before: u8, part: &[u8]) -> u8
     ensures { result ≡ last_in before part.now }
 {
-    if part.len() == 0 {
-        return before;
-    }
-    part[part.len() - 1]
+    part.last().copied().unwrap_or(before)
 }
 
 // Nothing more is put.
@@ -58,10 +50,8 @@ pub fn put_bytes(out: &mut [u8], put: Put, part: &[u8]) -> Put
         count: count_on(n, part.len()),
         last: last_in(put.last, part),
     };
-    if n <= out.len() {
-        if part.len() <= out.len() - n {
-            out[n..n + part.len()].copy_from_slice(part);
-        }
+    if n <= out.len() && part.len() <= out.len() - n {
+        out[n..n + part.len()].copy_from_slice(part);
     }
     all
 }

@@ -3,7 +3,10 @@
 
 pub mod cuts;
 pub mod fields;
+pub mod style;
 pub mod values;
+
+pub use style::LineStyle;
 
 // How many bytes are put, and the last of them. The count goes on where the room is full; 4,294,967,295 stands for
 // itself and all above.

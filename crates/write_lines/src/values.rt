@@ -10,7 +10,7 @@ pub fn put_number(out: &mut [u8], put: Put, decimals: u8, v: i64) -> Put
     requires { decimals ≤ 9 }
     ensures { Puts (number_bytes decimals v) put out.old out.new result }
 {
-    let mut room: [u8; 24] = [0; 24];
+    let mut room = [0; 24];
     let size = value_write::put_number(v, decimals, &mut room);
     put_bytes(out, put, &room[..size])
 }
@@ -36,19 +36,19 @@ pub fn put_number_field(out: &mut [u8], put: Put, decimals: u8, v: i64) -> Put
     requires { decimals ≤ 9 }
     ensures { Puts (0x20 ∷ number_bytes decimals v) put out.old out.new result }
 {
-    if put.count < out.len() {
-        if 22 <= out.len() - put.count {
-            return put_number_field_there(out, put, decimals, v);
-        }
+    if 22 <= out.len().saturating_sub(put.count) {
+        put_number_field_there(out, put, decimals, v)
+    } else {
+        let gap = put_byte(out, put, b' ');
+        put_number(out, gap, decimals, v)
     }
-    let gap = put_byte(out, put, b' ');
-    put_number(out, gap, decimals, v)
 }
 
+// As `put_number` but for the call: the digits of a number and of a date are known to `value_write` alone.
 pub fn put_date(out: &mut [u8], put: Put, v: i64) -> Put
     ensures { Puts (date_bytes v) put out.old out.new result }
 {
-    let mut room: [u8; 24] = [0; 24];
+    let mut room = [0; 24];
     let size = value_write::put_date(v, &mut room);
     put_bytes(out, put, &room[..size])
 }
@@ -57,7 +57,5 @@ pub fn put_date(out: &mut [u8], put: Put, v: i64) -> Put
 pub fn put_leaf(out: &mut [u8], put: Put, v: i64) -> Put
     ensures { Puts (number_bytes 0 v) put out.old out.new result }
 {
-    let mut room: [u8; 24] = [0; 24];
-    let size = value_write::put_enumeration(v, &mut room);
-    put_bytes(out, put, &room[..size])
+    put_number(out, put, 0, v)
 }

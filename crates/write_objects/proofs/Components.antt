@@ -8,7 +8,7 @@ use lib.ListN.{length, take, drop, get_or}
 use lib.Seq.{drop-drop, get_or-drop}
 use Rattle.meaning.specs.Digits.{number_bytes}
 use Rattle.meaning.specs.Writing.{field_bytes, point_fields, spaced}
-use Rattle.model_records.specs.declared.Component.{Component}
+use Rattle.model_records.specs.declared.attributes.Component.{Component}
 use Rattle.model_records.specs.Components.{list_of}
 use Rattle.model_records.proofs.ComponentLaws.{listed_next, listed_end}
 use Rattle.write_objects.specs.Given.{component_fields}

@@ -4,28 +4,25 @@ use native.Mathlib.Omega.{arith}
 use mathlib.Core.Path.{◌≡◌, refl, sym, ap}
 use mathlib.Core.Bool.{Bool, true, false}
 use mathlib.Core.List.{List, [], ◌∷◌, ◌++◌, append-nil}
-use mathlib.Core.Logic.{inr}
 use borrow.Author.Tests.{leb-true, leb-false, ne_eqb}
 use lib.Dec.{leb, eqb}
 use lib.IntN.{ℤ, pos, nat_abs}
 use lib.ListN.{length, drop, get_or, length-append, drop_of_length-le}
 use lib.Seq.{drop-drop}
 use Rattle.meaning.specs.Bytes.{choose}
-use Rattle.meaning.specs.Model.{Component, Coordinate}
-use Rattle.meaning.specs.Check.{good_type}
+use Rattle.meaning.specs.Model.{Component, Coordinate, Line}
+use Rattle.meaning.specs.Check.{good_components, good_type}
 use Rattle.meaning.specs.Field.{STPT, LIPT, ARCP, ELIN}
 use Rattle.meaning.specs.Row.{component_pairs, pairs_of_type}
-use Rattle.meaning.specs.Reading.{cell_at, line_attributes}
+use Rattle.meaning.specs.Reading.{Content, cell_at, line_attributes}
 use Rattle.meaning.specs.Writing.{point_code, point_fields, point_lines, attribute_lines, spaced, line_bytes, lines_bytes}
 use Rattle.meaning.specs.Width.{cut_line, cut_lines}
 use Rattle.meaning.proofs.Tests.Refuse.{holds}
 use Rattle.model_records.specs.Components.{components_of}
-use Rattle.model_records.specs.declared.Attribute.{Attribute}
-use Rattle.model_records.specs.Attributes.{type_of}
-use Rattle.model_records.proofs.Types.{coordinate_type, line_type}
-use Rattle.write_objects.specs.Given.{GoodComponents, GoodAttribute}
-use Rattle.table.specs.Contents.{unmarked_in}
-use Rattle.write_objects.proofs.Typed.{one_of, own_pairs_lem}
+use Rattle.model_records.specs.declared.attributes.Components.{Components}
+use Rattle.model_records.specs.declared.attributes.Kind.{Kind}
+use Rattle.model_records.specs.declared.attributes.Kind.TheVariants as kind
+use Rattle.model_records.specs.Attributes.{of_kind}
 
 -- ## A point
 
@@ -95,37 +92,38 @@ pub elin_line : (mark width : ℕ) → cut_line mark width ELIN ≡ cut_lines ma
 unfolding cut_lines lines_bytes line_bytes spaced
 elin_line mark width = sym (append-nil (cut_line mark width ELIN))
 
-module _ (t : Attribute) (cells points : List ℤ) (cell : ℕ) where
-  pub drawn : t.kind ≡ 8
-      → point_lines (components_of t.components) (min (cell_at cells cell - 1) (length points / 4)) (drop (4 * cell_at cells (cell + 1)) points) ++ ((ELIN ∷ []) ∷ [])
-      ≡ attribute_lines (unmarked_in [] cells points) (line_attributes cell (pairs_of_type t.optional (type_of t)))
+module _ (c : Content) (cell : ℕ) (o : Bool) where
+  pub drawn : (forms : ℕ) (ks : List Component)
+      → point_lines ks (min (cell_at c.cells cell - 1) (length c.points / 4)) (drop (4 * cell_at c.cells (cell + 1)) c.points) ++ ((ELIN ∷ []) ∷ [])
+      ≡ attribute_lines c (line_attributes cell (pairs_of_type o (Line forms ks)))
   unfolding attribute_lines line_attributes pairs_of_type
-  drawn e = rw (line_type t (inr (omega arith)))
+  drawn forms ks = refl
 
   further_none : (ks : List Component) (cell : ℕ) → line_attributes cell (component_pairs ks) ≡ []
   unfolding line_attributes component_pairs
   further_none [] cell = refl
   further_none (k ∷ ks) cell = further_none ks (cell + 2)
 
-  coordinate_none : (o : Bool) (ks : List Component) → line_attributes cell (pairs_of_type o (Coordinate ks)) ≡ []
+  coordinate_none : (ks : List Component) → line_attributes cell (pairs_of_type o (Coordinate ks)) ≡ []
   unfolding line_attributes pairs_of_type
-  coordinate_none o [] = refl
-  coordinate_none o (k ∷ ks) = further_none ks (cell + 2)
+  coordinate_none [] = refl
+  coordinate_none (k ∷ ks) = further_none ks (cell + 2)
 
-  no_line : 1 ≤ t.kind → t.kind ≤ 8 → (t.kind ≡ 8 → ⊥) → line_attributes cell (pairs_of_type t.optional (type_of t)) ≡ []
-  unfolding line_attributes
-  no_line l h d = go (leb 2 t.kind) (leb t.kind 3) refl refl
-    where
-      go : (x y : Bool) → leb 2 t.kind ≡ x → leb t.kind 3 ≡ y → line_attributes cell (pairs_of_type t.optional (type_of t)) ≡ []
-      go true true e f = rw (coordinate_type t (leb-true 2 t.kind e) (leb-true t.kind 3 f)) (coordinate_none t.optional (components_of t.components))
-      go true false e f = let q = leb-false t.kind 3 f in rw (own_pairs_lem t (one_of t.kind l h (λ x. omega arith) (λ x. omega arith) d))
-      go false y e f = let q = leb-false 2 t.kind e in rw (own_pairs_lem t (one_of t.kind l h (λ x. omega arith) (λ x. omega arith) d))
+  no_line : (k : Kind) → ((forms : ℕ) (ks : Components) → k ≡ kind.Line forms ks → ⊥) → line_attributes cell (pairs_of_type o (of_kind k)) ≡ []
+  unfolding line_attributes pairs_of_type
+  no_line (kind.Reference table) n = refl
+  no_line (kind.Coordinate ks) n = coordinate_none (components_of ks)
+  no_line (kind.Number k) n = refl
+  no_line (kind.Text longest) n = refl
+  no_line kind.Date n = refl
+  no_line (kind.Enumeration leaves) n = refl
+  no_line (kind.Line forms ks) n = absurd (n forms ks refl)
 
-  pub not_drawn : (mark width : ℕ) → 1 ≤ t.kind → t.kind ≤ 8 → (t.kind ≡ 8 → ⊥)
-      → [] ≡ cut_lines mark width (lines_bytes (attribute_lines (unmarked_in [] cells points) (line_attributes cell (pairs_of_type t.optional (type_of t)))))
+  pub not_drawn : (mark width : ℕ) (k : Kind) → ((forms : ℕ) (ks : Components) → k ≡ kind.Line forms ks → ⊥)
+      → [] ≡ cut_lines mark width (lines_bytes (attribute_lines c (line_attributes cell (pairs_of_type o (of_kind k)))))
   unfolding attribute_lines lines_bytes cut_lines
-  not_drawn mark width l h d = rw (no_line l h d)
+  not_drawn mark width k n = rw (no_line k n)
 
-pub line_good : (t : Attribute) → GoodAttribute t → t.kind ≡ 8 → GoodComponents t.components
+pub line_good : (forms : ℕ) (ks : List Component) → good_type (Line forms ks) ≡ true → good_components ks ≡ true
 unfolding good_type
-line_good t g e = record { good = holds _ 3 (rw (line_type t (inr (omega arith))) at g.type); room = g.room; count = g.count }
+line_good forms ks g = holds _ 3 g

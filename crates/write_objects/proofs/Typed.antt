@@ -1,36 +1,33 @@
--- Fields by the number of their attribute's type. Assumes nothing.
+-- Fields by their attribute's type. Assumes nothing.
 use Prim.Native.Nat.{ℕ, zero, suc, ◌+◌, ◌-◌, ◌≤◌, ◌<◌}
 use native.Mathlib.Omega.{arith}
-use mathlib.Core.Path.{◌≡◌, refl, sym, ap}
+use mathlib.Core.Path.{◌≡◌, refl, sym, ap, ◌∙◌}
 use mathlib.Core.Bool.{Bool, true, false}
 use mathlib.Core.List.{List, [], ◌∷◌, append-nil}
-use mathlib.Core.Logic.{◌⊎◌, inl, inr}
 use borrow.Author.Tests.{leb-true, ne_eqb}
-use lib.Dec.{eqb}
-use lib.IntN.{ℤ, pos, nat_abs}
+use lib.IntN.{ℤ, pos, negsuc, nat_abs}
+use mir.Syntax.{w64}
+use mir.Val.{SFits, to_z, of_z}
+use mir.ValLaws.{to_z-of_z}
 use lib.Signed.{lt_z}
-use lib.ListN.{length, take, drop, get_or, get_or-eq_default}
+use lib.ListN.{length, take, drop, get_or}
 use lib.Seq.{get_or-drop}
 use Rattle.meaning.specs.Bytes.{choose}
 use Rattle.meaning.specs.Model as meaning
 use Rattle.meaning.specs.Model.{AttributeType, Coordinate, Line}
 use Rattle.meaning.specs.Check.{good_component, good_components, good_type}
-use Rattle.meaning.specs.Digits.{number_bytes, date_bytes}
 use Rattle.meaning.specs.Row.{OfAttribute, component_pairs, pairs_of_type}
 use Rattle.meaning.specs.Reading.{Content}
 use Rattle.meaning.specs.Writing.{stretch_bytes, identification_bytes, type_bytes, field_bytes, pair_fields, spaced}
 use Rattle.meaning.proofs.Tests.Refuse.{both, holds}
-use Rattle.model_records.specs.declared.Component.{Component}
-use Rattle.model_records.specs.Components.{component_of, components_of, list_of}
-use Rattle.model_records.specs.declared.Attribute.{Attribute}
-use Rattle.model_records.specs.Attributes.{type_of, first_of}
-use Rattle.model_records.proofs.Types.{coordinate_type, line_type}
+use Rattle.model_records.specs.declared.attributes.Component.{Component}
+use Rattle.model_records.specs.declared.attributes.Components.{Components}
+use Rattle.model_records.specs.declared.attributes.Kind.{Kind}
+use Rattle.model_records.specs.declared.attributes.Kind.TheVariants as kind
+use Rattle.model_records.specs.Components.{component_of, list_of}
+use Rattle.model_records.specs.Attributes.{of_kind}
 use Rattle.table.specs.Stretches.{Cut}
-use Rattle.write_objects.specs.Given.{component_fields, GoodComponents, GoodAttribute}
-use Rattle.table.specs.Contents.{unmarked_in}
-
-pub no_row : (rows : List ℕ) (o : ℕ) → length rows ≤ o → 0 ≡ get_or rows o 0
-no_row rows o h = sym (get_or-eq_default rows 0 h)
+use Rattle.write_objects.specs.Given.{component_fields}
 
 -- ## Stretches
 
@@ -60,48 +57,22 @@ listed_good [] i (suc n) d h g e = absurd (omega arith)
 listed_good (k ∷ l) zero (suc n) d h g e = decimals_good (component_of k) (both (good_component (component_of k)) _ e).0
 listed_good (k ∷ l) (suc i) (suc n) d h g e = listed_good l i n d (omega arith) (omega arith) (both (good_component (component_of k)) _ e).1
 
-module _ (a : Attribute) (g : GoodAttribute a) where
-  pub number_good : a.kind ≡ 4 → (first_of a.components.items).decimals ≤ 9
-  unfolding type_of choose good_type
-  number_good e = decimals_good (component_of (first_of a.components.items)) (rw e at g.type)
+pub number_good : (k : meaning.Component) → good_type (meaning.Number k) ≡ true → k.decimals ≤ 9
+unfolding good_type
+number_good k g = decimals_good k g
 
-  pub coordinate_good : 2 ≤ a.kind → a.kind ≤ 3 → GoodComponents a.components
-  unfolding good_type
-  coordinate_good l h = record { good = holds _ 1 (rw (coordinate_type a l h) at g.type); room = g.room; count = g.count }
-
--- ## A value by its type
-
-module _ (text rows : List ℕ) (cells : List ℤ) (t : Attribute) (a b : ℤ) where
-  pub value_reference : t.kind ≡ 1 → identification_bytes text cells (get_or rows (nat_abs b) 0) ≡ type_bytes text (unmarked_in rows cells []) (type_of t) a b
-  unfolding type_bytes type_of choose
-  value_reference e = rw e
-
-  pub value_number : t.kind ≡ 4 → number_bytes (first_of t.components.items).decimals b ≡ type_bytes text (unmarked_in rows cells []) (type_of t) a b
-  unfolding type_bytes type_of choose
-  value_number e = rw e
-
-  pub value_text : t.kind ≡ 5 → stretch_bytes text b (nat_abs a - 1) ≡ type_bytes text (unmarked_in rows cells []) (type_of t) a b
-  unfolding type_bytes type_of choose
-  value_text e = rw e
-
-  pub value_date : t.kind ≡ 6 → date_bytes b ≡ type_bytes text (unmarked_in rows cells []) (type_of t) a b
-  unfolding type_bytes type_of choose
-  value_date e = rw e
-
-  pub value_leaf : t.kind ≡ 7 → number_bytes 0 b ≡ type_bytes text (unmarked_in rows cells []) (type_of t) a b
-  unfolding type_bytes type_of choose
-  value_leaf e = rw e
-
-  pub value_nothing : (t.kind ≡ 1 → ⊥) → (t.kind ≡ 4 → ⊥) → (t.kind ≡ 5 → ⊥) → (t.kind ≡ 6 → ⊥) → (t.kind ≡ 7 → ⊥) → [] ≡ type_bytes text (unmarked_in rows cells []) (type_of t) a b
-  unfolding type_bytes type_of choose
-  value_nothing n₁ n₄ n₅ n₆ n₇ = rw (ne_eqb t.kind 1 n₁, ne_eqb t.kind 4 n₄, ne_eqb t.kind 5 n₅, ne_eqb t.kind 6 n₆, ne_eqb t.kind 7 n₇) (go (eqb t.kind 2) (eqb t.kind 3))
-    where
-      go : (x y : Bool) → [] ≡ type_bytes text (unmarked_in rows cells []) (choose x (Coordinate (components_of t.components)) (choose y (Coordinate (components_of t.components)) (Line t.number (components_of t.components)))) a b
-      go true y = refl
-      go false true = refl
-      go false false = refl
+pub coordinate_good : (ks : List meaning.Component) → good_type (Coordinate ks) ≡ true → good_components ks ≡ true
+unfolding good_type
+coordinate_good ks g = holds _ 1 g
 
 -- ## A field, defined or not
+
+pub none_there : (a : ℤ) → SFits w64 a → of_z w64 a ≡ 0 → nat_abs a ≡ 0
+none_there a h e = let z : a ≡ pos 0 = sym (to_z-of_z w64 a h) ∙ ap (to_z w64) e in ap nat_abs z
+
+pub some_there : (a : ℤ) → (of_z w64 a ≡ 0 → ⊥) → nat_abs a ≡ 0 → ⊥
+some_there (pos n) d e = let z : n ≡ 0 = e in d (rw z)
+some_there (negsuc n) d e = absurd (omega arith)
 
 pub field_undefined : (u : ℕ) (a : ℤ) (defined : List ℕ) → nat_abs a ≡ 0 → (0x20 ∷ u ∷ []) ≡ 0x20 ∷ field_bytes u a defined
 unfolding field_bytes choose
@@ -113,25 +84,17 @@ field_defined u a defined d = rw (ne_eqb (nat_abs a) 0 d)
 
 -- ## The fields of an attribute's pairs
 
-pub one_of : (k : ℕ) → 1 ≤ k → k ≤ 8 → (k ≡ 2 → ⊥) → (k ≡ 3 → ⊥) → (k ≡ 8 → ⊥) → (k ≡ 1) ⊎ ((k ≡ 4) ⊎ ((k ≡ 5) ⊎ ((k ≡ 6) ⊎ (k ≡ 7))))
-one_of zero l h n₂ n₃ n₈ = absurd (omega arith)
-one_of (suc zero) l h n₂ n₃ n₈ = inl refl
-one_of (suc (suc zero)) l h n₂ n₃ n₈ = absurd (n₂ refl)
-one_of (suc (suc (suc zero))) l h n₂ n₃ n₈ = absurd (n₃ refl)
-one_of (suc (suc (suc (suc zero)))) l h n₂ n₃ n₈ = inr (inl refl)
-one_of (suc (suc (suc (suc (suc zero))))) l h n₂ n₃ n₈ = inr (inr (inl refl))
-one_of (suc (suc (suc (suc (suc (suc zero)))))) l h n₂ n₃ n₈ = inr (inr (inr (inl refl)))
-one_of (suc (suc (suc (suc (suc (suc (suc zero))))))) l h n₂ n₃ n₈ = inr (inr (inr (inr refl)))
-one_of (suc (suc (suc (suc (suc (suc (suc (suc zero)))))))) l h n₂ n₃ n₈ = absurd (n₈ refl)
-one_of (suc (suc (suc (suc (suc (suc (suc (suc (suc k))))))))) l h n₂ n₃ n₈ = absurd (omega arith)
-
-pub own_pairs_lem : (t : Attribute) → (t.kind ≡ 1) ⊎ ((t.kind ≡ 4) ⊎ ((t.kind ≡ 5) ⊎ ((t.kind ≡ 6) ⊎ (t.kind ≡ 7)))) → pairs_of_type t.optional (type_of t) ≡ OfAttribute t.optional (type_of t) ∷ []
-unfolding type_of choose pairs_of_type
-own_pairs_lem t (inl e) = rw e
-own_pairs_lem t (inr (inl e)) = rw e
-own_pairs_lem t (inr (inr (inl e))) = rw e
-own_pairs_lem t (inr (inr (inr (inl e)))) = rw e
-own_pairs_lem t (inr (inr (inr (inr e)))) = rw e
+-- a kind that is neither a coordinate nor a line has one pair
+pub own_pairs_lem : (o : Bool) (k : Kind) → ((ks : Components) → k ≡ kind.Coordinate ks → ⊥) → ((forms : ℕ) (ks : Components) → k ≡ kind.Line forms ks → ⊥)
+    → pairs_of_type o (of_kind k) ≡ OfAttribute o (of_kind k) ∷ []
+unfolding pairs_of_type
+own_pairs_lem o (kind.Reference table) n m = refl
+own_pairs_lem o (kind.Coordinate ks) n m = absurd (n ks refl)
+own_pairs_lem o (kind.Number k) n m = refl
+own_pairs_lem o (kind.Text longest) n m = refl
+own_pairs_lem o kind.Date n m = refl
+own_pairs_lem o (kind.Enumeration leaves) n m = refl
+own_pairs_lem o (kind.Line forms ks) n m = absurd (m forms ks refl)
 
 module _ (u : ℕ) (text : List ℕ) (c : Content) where
   further_fields : (ks : List meaning.Component) (cs : List ℤ) → component_fields u ks cs ≡ pair_fields u text c (component_pairs ks) cs
@@ -149,14 +112,14 @@ module _ (u : ℕ) (text : List ℕ) (c : Content) where
   unfolding spaced pair_fields
   own_field o type cs e = rw (e, append-nil)
 
-  module _ (t : Attribute) (cs : List ℤ) where
-    pub attribute_coordinate : 2 ≤ t.kind → t.kind ≤ 3 → spaced (component_fields u (components_of t.components) cs) ≡ spaced (pair_fields u text c (pairs_of_type t.optional (type_of t)) cs)
-    attribute_coordinate l h = rw (coordinate_type t l h) (ap spaced (coordinate_fields t.optional (components_of t.components) cs))
+  module _ (o : Bool) (cs : List ℤ) where
+    pub attribute_coordinate : (ks : List meaning.Component) → spaced (component_fields u ks cs) ≡ spaced (pair_fields u text c (pairs_of_type o (Coordinate ks)) cs)
+    attribute_coordinate ks = ap spaced (coordinate_fields o ks cs)
 
-    pub attribute_own : 1 ≤ t.kind → t.kind ≤ 8 → (t.kind ≡ 2 → ⊥) → (t.kind ≡ 3 → ⊥) → (t.kind ≡ 8 → ⊥)
-        → (0x20 ∷ field_bytes u (get_or cs 0 (pos 0)) (type_bytes text c (type_of t) (get_or cs 0 (pos 0)) (get_or cs 1 (pos 0)))) ≡ spaced (pair_fields u text c (pairs_of_type t.optional (type_of t)) cs)
-    attribute_own l h n₂ n₃ n₈ = own_field t.optional (type_of t) cs (own_pairs_lem t (one_of t.kind l h n₂ n₃ n₈))
+    pub attribute_own : (k : Kind) → ((ks : Components) → k ≡ kind.Coordinate ks → ⊥) → ((forms : ℕ) (ks : Components) → k ≡ kind.Line forms ks → ⊥)
+        → (0x20 ∷ field_bytes u (get_or cs 0 (pos 0)) (type_bytes text c (of_kind k) (get_or cs 0 (pos 0)) (get_or cs 1 (pos 0)))) ≡ spaced (pair_fields u text c (pairs_of_type o (of_kind k)) cs)
+    attribute_own k n m = own_field o (of_kind k) cs (own_pairs_lem o k n m)
 
-    pub attribute_line_lem : t.kind ≡ 8 → [] ≡ spaced (pair_fields u text c (pairs_of_type t.optional (type_of t)) cs)
+    pub attribute_line_lem : (forms : ℕ) (ks : List meaning.Component) → [] ≡ spaced (pair_fields u text c (pairs_of_type o (Line forms ks)) cs)
     unfolding spaced pair_fields pairs_of_type
-    attribute_line_lem e = rw (line_type t (inr (omega arith)))
+    attribute_line_lem forms ks = refl

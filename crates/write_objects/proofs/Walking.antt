@@ -1,5 +1,5 @@
 -- A walk over the attribute records of a table, which puts the bytes of each attribute's pairs. Assumes nothing.
-use Prim.Native.Nat.{ℕ, ◌+◌, ◌*◌, ◌≤◌, ◌<◌, min}
+use Prim.Native.Nat.{ℕ, ◌+◌, ◌*◌, ◌≤◌, min}
 use native.Mathlib.Omega.{arith}
 use mathlib.Core.Path.{◌≡◌, refl, sym, ap, ◌∙◌}
 use mathlib.Core.Bool.{Bool, true, false}
@@ -16,8 +16,8 @@ use Rattle.meaning.specs.Reading.{Content, cell_at, line_attributes}
 use Rattle.meaning.specs.Writing.{pair_fields, attribute_lines, spaced, lines_bytes}
 use Rattle.meaning.specs.Width.{cut_lines}
 use Rattle.model_records.specs.Records.{kind_at, payload_at, next_at, pairs_at}
-use Rattle.model_records.specs.AtRecord.{AtRecord, AttributeHere, AttributeNext, AttributesHere}
-use Rattle.model_records.proofs.AtRecord.{here, attribute_here, no_attribute}
+use Rattle.model_records.specs.AtRecord.{AtRecord, AttributeNext, AttributesHere}
+use Rattle.model_records.proofs.AtRecord.{attribute_here, no_attribute}
 use Rattle.model_records.proofs.Types.{parts_room}
 use Rattle.model_records.specs.Counts.{CountsOf}
 use Rattle.model_records.proofs.Counting.{pairs_more, pairs_few}
@@ -110,12 +110,6 @@ walk_start m b meant most whole first cell q p out h few same none = record {
 }
 
 module _ {m : Model} {b : List ℕ} {meant : (cell : ℕ) → List Pair → List ℕ} {most : ℕ} {whole : List ℕ} {p₀ : Put} {out₀ : List ℕ} {at cell : ℕ} {p : Put} {out : List ℕ} (i : Walking m b meant most whole p₀ out₀ at cell p out) where
-  pub walk_room : at + 4 ≤ length b
-  walk_room = (here m b at i.topics i.tables i.standing).room
-
-  pub walk_less : (at < next_at b at) × (next_at b at ≤ length b)
-  walk_less = (omega arith, (here m b at i.topics i.tables i.standing).fits)
-
   -- no attribute record more
   pub walk_end : (q : Put) → (kind_at b at ≡ 5 → ⊥) → meant cell [] ≡ [] → Puts [] q out₀ out₀ p₀ → Puts whole q out₀ out p
   unfolding pairs_of
@@ -125,10 +119,7 @@ module _ {m : Model} {b : List ℕ} {meant : (cell : ℕ) → List Pair → List
     attribute : AttributeNext m b at i.topics i.tables
     attribute = attribute_here m b at i.topics i.tables i.standing e
 
-    pub walk_good : AttributeHere b at
-    walk_good = attribute.good
-
-    pub walk_parts : (at + 6 ≤ next_at b at) × (next_at b at ≤ length b)
+    walk_parts : (at + 6 ≤ next_at b at) × (next_at b at ≤ length b)
     walk_parts = (parts_room b at attribute.good, attribute.good.fits)
 
     split : pairs_at b at ≡ pairs_here b at ++ pairs_at b (next_at b at)

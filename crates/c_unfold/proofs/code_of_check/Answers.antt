@@ -1,32 +1,32 @@
 -- `c_unfold::code_of_check` meets its contract. Assumes nothing.
-use Prim.Native.Nat.{◌≤◌}
+use Prim.Native.Nat.{ℕ, ◌≤◌}
 use native.Mathlib.Omega.{arith}
 use mathlib.Core.Path.{subst}
+use Rattle.std.proofs.Common.{Result, Ok, Err}
 use Rattle.meaning.specs.Answer.{code_for_c}
 use Rattle.model_check.specs.Walk.{checked_meant}
-use Rattle.model_check.specs.declared.check.Checked.{Checked}
-use Rattle.model_check.specs.declared.check.Checked.TheVariants.{Good, Bad}
+use Rattle.model_check.specs.declared.check.BadRecord.{BadRecord}
 use Rattle.c_unfold.proofs.code_of_check.Goals as goal
 
 pub overflow_mul-result : goal.overflow_mul-result
 unfolding code_for_c checked_meant
 overflow_mul-result c =
-    let h : code_for_c (checked_meant (Good c.in-Good.topics)) ≤ 16777218 = subst (λ (x : Checked). code_for_c (checked_meant x) ≤ 16777218) c.in-Good.is c.requires in omega arith
+    let h : code_for_c (checked_meant (Ok c.in-Ok.topics)) ≤ 16777218 = subst (λ (x : Result ℕ BadRecord). code_for_c (checked_meant x) ≤ 16777218) c.in-Ok.is c.requires in omega arith
 
-pub overflow_mul-result-in-Bad : goal.overflow_mul-result-in-Bad
+pub overflow_mul-result-in-Err : goal.overflow_mul-result-in-Err
 unfolding code_for_c checked_meant
-overflow_mul-result-in-Bad c =
-    let h : code_for_c (checked_meant (Bad c.in-Bad.at)) ≤ 16777218 = subst (λ (x : Checked). code_for_c (checked_meant x) ≤ 16777218) c.in-Bad.is c.requires in omega arith
+overflow_mul-result-in-Err c =
+    let h : code_for_c (checked_meant (Err c.in-Err.bad)) ≤ 16777218 = subst (λ (x : Result ℕ BadRecord). code_for_c (checked_meant x) ≤ 16777218) c.in-Err.is c.requires in omega arith
 
 pub overflow_add-result : goal.overflow_add-result
 unfolding code_for_c checked_meant
 overflow_add-result c =
-    let h : code_for_c (checked_meant (Bad c.in-Bad.at)) ≤ 16777218 = subst (λ (x : Checked). code_for_c (checked_meant x) ≤ 16777218) c.in-Bad.is c.requires in omega arith
+    let h : code_for_c (checked_meant (Err c.in-Err.bad)) ≤ 16777218 = subst (λ (x : Result ℕ BadRecord). code_for_c (checked_meant x) ≤ 16777218) c.in-Err.is c.requires in omega arith
 
-pub returns-in-Good : goal.returns-in-Good
+pub returns-in-Ok : goal.returns-in-Ok
 unfolding code_for_c checked_meant
-returns-in-Good c = rw c.in-Good.is
+returns-in-Ok c = rw c.in-Ok.is
 
-pub returns-in-Bad : goal.returns-in-Bad
+pub returns-in-Err : goal.returns-in-Err
 unfolding code_for_c checked_meant
-returns-in-Bad c = rw c.in-Bad.is
+returns-in-Err c = rw c.in-Err.is

@@ -1,14 +1,14 @@
 -- `c_unfold::vendorfinch_unfold` meets its contract. Assumes nothing.
 use Prim.Native.Nat.{ℕ}
-use native.Mathlib.Omega.{arith}
 use mathlib.Core.Path.{sym, ap, ◌∙◌}
 use lib.ListN.{length}
 use Rattle.meaning.specs.Unfold.{unfold_file}
 use Rattle.meaning.specs.Answer.{TextResult, text_unfolded, code_for_c}
 use Rattle.model_check.specs.Walk.{checked_meant}
-use Rattle.model_check.specs.declared.check.Checked.{Checked}
+use Rattle.std.proofs.Common.{Result}
+use Rattle.model_check.specs.declared.check.BadRecord.{BadRecord}
 use Rattle.model_check.proofs.Found.{found_good, found_bad}
-use Rattle.c_unfold.proofs.Codes.{check_small, too_long, under_bad, under_good, within_limit}
+use Rattle.c_unfold.proofs.Codes.{check_small, too_long, under_bad, under_good}
 use Rattle.c_unfold.proofs.vendorfinch_unfold.Goals as goal
 
 pub returns-then-file-gt16777216 : goal.returns-then-file-gt16777216
@@ -18,7 +18,7 @@ returns-then-file-gt16777216 c =
     let e = too_long a.model.now a.file.now (length a.text.now) c.if-file-gt16777216.true in
     record {
       code = rw e;
-      room = c.clear.ensures ∙ sym (ap (λ (r : TextResult). r.text) e);
+      room = c.fill.ensures.after (λ _ h. h) ∙ sym (ap (λ (r : TextResult). r.text) e);
     }
 
 pub code_of_check-requires : goal.code_of_check-requires
@@ -27,29 +27,25 @@ code_of_check-requires c = rw c.check-checked.ensures (check_small c.args.model.
 pub mark_of-requires : goal.mark_of-requires
 unfolding code_for_c checked_meant
 mark_of-requires c =
-    found_good c.args.model.now _ (sym (ap checked_meant c.in-Good.is) ∙ c.check-checked.ensures)
+    found_good c.args.model.now _ (sym (ap checked_meant c.in-Ok.is) ∙ c.check-checked.ensures)
 
-pub code_of_text-requires : goal.code_of_text-requires
-code_of_text-requires c =
-    within_limit (length c.args.file.now) c.unfold_with.result (omega arith) c.unfold_with.ensures.within
-
-pub returns-in-Bad : goal.returns-in-Bad
+pub returns-in-Err : goal.returns-in-Err
 unfolding code_for_c checked_meant
-returns-in-Bad c =
+returns-in-Err c =
     let a = c.args in
-    let t = c.in-Bad.is in
+    let t = c.in-Err.is in
     let b = found_bad a.model.now _ (sym (ap checked_meant t) ∙ c.check-checked.ensures) in
     let e = under_bad a.model.now a.file.now (length a.text.now) c.if-file-gt16777216.false _ b in
     record {
-      code = c.code_of_check.ensures ∙ ap (λ (x : Checked). code_for_c (checked_meant x)) t ∙ sym (ap (λ (r : TextResult). code_for_c r.answer) e);
-      room = c.clear-in-Bad.ensures ∙ sym (ap (λ (r : TextResult). r.text) e);
+      code = c.code_of_check.ensures ∙ ap (λ (x : Result ℕ BadRecord). code_for_c (checked_meant x)) t ∙ sym (ap (λ (r : TextResult). code_for_c r.answer) e);
+      room = c.fill-in-Err.ensures.after (λ _ h. h) ∙ sym (ap (λ (r : TextResult). r.text) e);
     }
 
-pub returns-in-Good : goal.returns-in-Good
+pub returns-in-Ok : goal.returns-in-Ok
 unfolding code_for_c checked_meant
-returns-in-Good c =
+returns-in-Ok c =
     let a = c.args in
-    let b = found_good a.model.now _ (sym (ap checked_meant c.in-Good.is) ∙ c.check-checked.ensures) in
+    let b = found_good a.model.now _ (sym (ap checked_meant c.in-Ok.is) ∙ c.check-checked.ensures) in
     let e = under_good a.model.now a.file.now (length a.text.now) c.if-file-gt16777216.false _ b in
     let m = ap (λ (k : ℕ). text_unfolded (length a.text.now) (unfold_file k a.file.now)) c.mark_of.ensures in
     let u = c.unfold_with in

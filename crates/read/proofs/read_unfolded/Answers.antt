@@ -14,38 +14,24 @@ use Rattle.read.proofs.read_unfolded.Goals as goal
 
 pub returns-then-marks-count : goal.returns-then-marks-count
 returns-then-marks-count c =
-    let p = c.requires.records_placed in
+    let p = c.requires.placed in
     record {
-      read = (λ rooms em er ec ep. few_marks rooms _ _ (omega (arith, c.if-marks-count.true, em, c.clear.auto.room, p.topics, p.tables)));
+      read = (λ rooms em er ec ep. few_marks rooms _ _ (omega (arith, c.if-marks-count.true, em, c.fill.auto.self, p.topics, p.tables)));
       fits = tt;
     }
 
-pub slice_bounds-read_table-end-2 : goal.slice_bounds-read_table-end-2
-slice_bounds-read_table-end-2 c = sym (length-take-le _ c.clear.new.room c.if-marks-count.false)
-
-pub read_table-requires : goal.read_table-requires
-read_table-requires c =
-    let p = c.requires in
-    record {
-      prepared = record { placed = p.records_placed; mark_count = length-take-le _ c.clear.new.room c.if-marks-count.false };
-      text_len_bound = p.text_len_bound;
-    }
-
-pub returns : goal.returns
-returns c =
+pub returns-clause-read : goal.returns-clause-read
+returns-clause-read c =
     let a = c.args in
-    let m = model_at a.model.now in
+    let m = model_at a.model.now.bytes.now in
     let t = a.text.now in
-    let marks = c.clear.new.room in
-    let r = c.read_table in
+    let marks = c.fill.new.self in
+    let r = c.read_exact in
     let e = r.new in
     let n = length m.topics + length m.tables in
-    let k = a.shape.topics + a.shape.tables in
-    let same : k ≡ n = omega (arith, c.requires.records_placed.topics, c.requires.records_placed.tables) in
+    let k = a.model.now.shape.topics + a.model.now.shape.tables in
+    let same : k ≡ n = omega (arith, c.requires.placed.topics, c.requires.placed.tables) in
     let inside : k ≤ length marks = c.if-marks-count.false in
-    record {
-      read = λ rooms em er ec ep.
-          marks_read rooms n (read_run m rooms t (read_lines m rooms t (start_of m) (lines_of t))) k same t e.marks marks e.rows e.cells e.points r.result
-          (c.clear.ensures ∙ ap (λ (j : ℕ). replicate j 0) (sym em)) (omega (arith, em, c.clear.auto.room)) (r.auto.marks ∙ length-take-le k marks inside) (r.ensures.read rooms er ec ep);
-      fits = r.ensures.fits;
-    }
+    λ rooms em er ec ep.
+    marks_read rooms n (read_run m rooms t (read_lines m rooms t (start_of m) (lines_of t))) k same t e.marks marks e.rows e.cells e.points r.result
+    (c.fill.ensures.after (λ _ h. h) ∙ ap (λ (j : ℕ). replicate j 0) (sym em)) (omega (arith, em, c.fill.auto.self)) (r.auto.marks ∙ length-take-le k marks inside) (r.ensures.read rooms er ec ep)

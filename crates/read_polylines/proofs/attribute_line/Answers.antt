@@ -7,15 +7,17 @@ use Rattle.model_records.proofs.AtRecord.{attribute_here}
 use Rattle.read_polylines.proofs.Ways.{code_meant, due_line}
 use Rattle.read_polylines.proofs.attribute_line.Goals as goal
 
-pub attribute_at-a-requires : goal.attribute_at-a-requires
-attribute_at-a-requires c = let l = c.requires.line in (attribute_here _ _ _ _ _ l.attributes.standing l.kind).good
+pub line_at-attribute-requires : goal.line_at-attribute-requires
+line_at-attribute-requires c =
+    let l = c.requires.line in
+    record { attribute = (attribute_here _ _ _ _ _ l.attributes.standing l.kind).good; line = l.line }
 
 pub returns : goal.returns
 returns c =
     let g = c.args in
     let l = g.line.now in
     let h = c.head_of-head in
-    let a = c.attribute_at-a in
+    let a = c.line_at-attribute in
     let n = c.name_code-code in
     let m = rw (to_end l h.result.behind) at c.move_line.ensures in
     λ rooms text start er.

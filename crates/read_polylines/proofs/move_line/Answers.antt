@@ -1,30 +1,14 @@
 -- `read_polylines::move_line` meets its contract. Assumes nothing.
-use native.Mathlib.Omega.{arith}
 use mathlib.Core.Path.{refl, sym, ap, ◌∙◌}
 use Rattle.meaning.specs.Reading as meaning
 use Rattle.model_records.specs.Records.{model_at}
 use Rattle.read_state.specs.Meaning.{line_state_of, move_of}
 use Rattle.read_polylines.specs.Ways.{way_of}
 use Rattle.read_polylines.proofs.Ways.{by_move, unexpected_line, refused_here}
-use Rattle.model_records.proofs.Types.{few_components}
 use Rattle.read_polylines.proofs.move_line.Goals as goal
 
-pub end_line-requires : goal.end_line-requires
-end_line-requires c =
-    let p = c.requires.line_given in
-    record {
-      line_ready = record { line = p.line; cells = omega (arith, p.cells_fit, c.well_formed); points = omega (arith, p.points_fit, c.well_formed) };
-      cells_in_bounds = p.cells_fit;
-    }
-
 pub point_line-requires : goal.point_line-requires
-point_line-requires c =
-    let p = c.requires in
-    let f = few_components _ (p.record_attribute.line (p.record_attribute.kind ∙ p.line_given.line.line)) in
-    record {
-      le_count = (f.0, f.1, p.record_attribute.room);
-      points_in_bounds = p.line_given.points_fit;
-    }
+point_line-requires c = c.requires.line_given.points_fit
 
 pub returns-in-Unexpected : goal.returns-in-Unexpected
 returns-in-Unexpected c =
@@ -33,7 +17,7 @@ returns-in-Unexpected c =
     λ rooms text fs start er dr co.
     by_move g.model.now g.polyline g.state (model_at g.model.now) rooms text (way_of g.model.now g.attribute g.polyline) fs _ _ _ _ meaning.unexpected _ (rw co e)
     _
-    (refused_here g.model.now g.polyline g.state _ _ _ 7 1 (λ x. unexpected_line (model_at g.model.now) rooms text (way_of g.model.now g.attribute g.polyline) fs x))
+    (refused_here g.model.now g.polyline g.state _ _ _ _ (λ x. unexpected_line (model_at g.model.now) rooms text (way_of g.model.now g.attribute g.polyline) fs x))
 
 pub returns-in-UndefinedLine : goal.returns-in-UndefinedLine
 returns-in-UndefinedLine c =
@@ -60,4 +44,4 @@ returns-in-Point c =
     λ rooms text fs start er dr co.
     by_move g.model.now g.polyline g.state (model_at g.model.now) rooms text (way_of g.model.now g.attribute g.polyline) fs _ _ _ _ (meaning.point c.in-Point.kind (line_state_of c.in-Point.next)) _ (rw co e)
     _
-    (c.point_line.ensures g.model.now text rooms fs start _ c.requires.record_attribute c.requires.line_given.line c.requires.line_given.undefined_byte er dr co)
+    (c.point_line.ensures g.model.now text rooms fs start _ c.requires.record_line c.requires.line_given.line c.requires.line_given.undefined_byte er dr co)

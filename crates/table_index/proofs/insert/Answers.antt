@@ -1,24 +1,9 @@
 -- `table_index::insert` meets its contract: an index that can be used gets the object, any other stays. Assumes nothing.
 use Prim.Native.Nat.{ℕ}
 use mathlib.Core.Path.{sym, ap, ◌∙◌}
-use native.Mathlib.Omega.{arith}
-use lib.ListN.{length}
 use Rattle.table_index.specs.Index.{chain_of}
-use Rattle.table_index.proofs.Grown.{usable_lt, insert_used, insert_unused}
+use Rattle.table_index.proofs.Grown.{insert_used, insert_unused}
 use Rattle.table_index.proofs.insert.Goals as goal
-
-pub head_at-head-requires : goal.head_at-head-requires
-head_at-head-requires c = (usable_lt _ _ (sym c.is_usable.ensures ∙ c.if-is_usable.true)).0
-
-pub chain-requires : goal.chain-requires
-chain-requires c =
-    let u = usable_lt c.args.rows (length c.args.index.now) (sym c.is_usable.ensures ∙ c.if-is_usable.true) in
-    record {
-      head_in_bounds = c.head_at-head.ensures.upper_bound;
-      object_in_bounds = omega (arith, u.0, c.requires.object_lt_rows);
-      object_bound = omega (arith, u.1, c.requires.object_lt_rows);
-      hash_bound = c.requires.hash_bound;
-    }
 
 pub returns-then-is_usable : goal.returns-then-is_usable
 returns-then-is_usable c =

@@ -1,4 +1,4 @@
--- `value_write::written::put_date` meets its contract. Assumes nothing.
+-- `value_write::put_date` meets its contract. Assumes nothing.
 use mir.Syntax.{w64}
 use mir.ValLaws.{to_z-of_z}
 use Rattle.meaning.specs.Digits.{date_bytes, pointed}

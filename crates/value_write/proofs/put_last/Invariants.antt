@@ -1,5 +1,5 @@
--- `value_write::written::put_last` meets its contract: the digits still due and those that stand make the whole. Assumes nothing.
-use Prim.Native.Nat.{◌/◌, ◌≤◌, ◌^◌}
+-- `value_write::put_last` meets its contract: the digits still due and those that stand make the whole. Assumes nothing.
+use Prim.Native.Nat.{◌/◌, ◌^◌}
 use mathlib.Core.Path.{◌≡◌}
 use mathlib.Core.List.{◌++◌}
 use lib.ListN.{length, drop}
@@ -7,7 +7,4 @@ use Rattle.meaning.specs.Digits.{last_digits}
 use Rattle.value_write.proofs.put_last.Given as goal
 
 abbrev pub invariant-loop-i : goal.invariant-loop-i
-invariant-loop-i l = (l.i ≤ length l.out) × (length l.out ≡ length l.initial.out) × (last_digits l.i l.rest ++ drop l.i l.out ≡ last_digits (length l.initial.out) l.n) × (l.rest / 10 ^ l.i ≡ l.n / 10 ^ length l.initial.out)
-
-abbrev pub decreases-loop-i : goal.decreases-loop-i
-decreases-loop-i l = l.i
+invariant-loop-i l = (last_digits l.i l.rest ++ drop l.i l.out ≡ last_digits (length l.initial.out) l.n) × (l.rest / 10 ^ l.i ≡ l.n / 10 ^ length l.initial.out)

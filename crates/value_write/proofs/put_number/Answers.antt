@@ -1,4 +1,4 @@
--- `value_write::written::put_number` meets its contract. Assumes nothing.
+-- `value_write::put_number` meets its contract. Assumes nothing.
 use mir.Syntax.{w64}
 use mir.ValLaws.{to_z-of_z}
 use Rattle.meaning.specs.Digits.{number_bytes}

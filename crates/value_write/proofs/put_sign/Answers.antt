@@ -1,4 +1,4 @@
--- `value_write::written::put_sign` meets its contract. Assumes nothing.
+-- `value_write::put_sign` meets its contract. Assumes nothing.
 use mathlib.Core.Path.{refl}
 use mathlib.Core.Bool.{true, false}
 use native.Mathlib.Omega.{arith}

@@ -1,4 +1,4 @@
--- `value_write::written::put_value` meets its contract. Assumes nothing.
+-- `value_write::put_value` meets its contract. Assumes nothing.
 use Prim.Native.Nat.{ℕ, ◌+◌, ◌≤◌}
 use mathlib.Core.Path.{◌≡◌, ◌∙◌, ap}
 use mathlib.Core.List.{List}
@@ -10,14 +10,8 @@ use mir.Syntax.{w64}
 use mir.ValLaws.{to_z-of_z}
 use Rattle.meaning.specs.Digits.{sign_of}
 use Rattle.meaning.proofs.Values.Shortest.{sign_one}
-use Rattle.base.proofs.Signs.{abs_mag}
 use Rattle.value_write.proofs.Stores.{point_most, value_put}
 use Rattle.value_write.proofs.put_value.Goals as goal
-
-pub count_digits-size-requires : goal.count_digits-size-requires
-count_digits-size-requires c =
-    let e : c.magnitude-n.result ≡ nat_abs c.args.v = rw (to_z-of_z w64 c.args.v c.ranges.v) at c.magnitude-n.ensures in
-    (omega (arith, e, abs_mag c.args.v, c.ranges.v.sfits), omega (arith, c.requires), c.requires.1)
 
 pub overflow_add-end : goal.overflow_add-end
 overflow_add-end c =
@@ -41,10 +35,10 @@ returns c =
     let count = c.count_digits-size in
     let point = c.point_size in
     let e = rw (to_z-of_z w64 c.args.v c.ranges.v) at sign.ensures in
-    let n : c.magnitude-n.result ≡ nat_abs c.args.v = rw (to_z-of_z w64 c.args.v c.ranges.v) at c.magnitude-n.ensures in
+    let n : c.unsigned_abs-n.result ≡ nat_abs c.args.v = rw (to_z-of_z w64 c.args.v c.ranges.v) at c.unsigned_abs-n.ensures.value in
     let room : sign.result + count.result + point.result ≤ length c.args.out.now = omega (arith, e.size, sign_one c.args.v, count.ensures, point.ensures, point_most c.args.decimals, c.requires) in
     let few : sign.result + count.result + point.result ≤ 21 = omega (arith, e.size, sign_one c.args.v, count.ensures, point.ensures, point_most c.args.decimals) in
-    let put = value_put c.args.least c.args.decimals count.result c.magnitude-n.result sign.result (sign.result + count.result + point.result) c.args.v c.args.out.now sign.new.out c.put_parts.new.out
+    let put = value_put c.args.least c.args.decimals count.result c.unsigned_abs-n.result sign.result (sign.result + count.result + point.result) c.args.v c.args.out.now sign.new.out c.put_parts.new.out
     count.ensures.2 e.size n (omega (arith, count.ensures, c.requires)) (ap (λ (k : ℕ). sign.result + count.result + k) point.ensures) room e.bytes c.put_parts.ensures in
     record {
       size = put.0;

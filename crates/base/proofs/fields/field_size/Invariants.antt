@@ -1,5 +1,5 @@
 -- `base::fields::field_size` meets its contract: the bytes so far are no separators. Assumes nothing.
-use Prim.Native.Nat.{◌-◌, ◌≤◌, ◌<◌}
+use Prim.Native.Nat.{◌≤◌}
 use mathlib.Core.Path.{◌≡◌}
 use mathlib.Core.Bool.{true}
 use lib.ListN.{length, take}
@@ -8,7 +8,4 @@ use Rattle.meaning.proofs.Reading.Fields.{solid}
 use Rattle.base.proofs.fields.field_size.Given as goal
 
 abbrev pub invariant-loop-i : goal.invariant-loop-i
-invariant-loop-i l = (0 < l.i) × (l.i ≤ length l.rest) × (every solid (take l.i l.rest) ≡ true)
-
-abbrev pub decreases-loop-i : goal.decreases-loop-i
-decreases-loop-i l = length l.rest - l.i
+invariant-loop-i l = (1 ≤ length l.rest) × (every solid (take l.i l.rest) ≡ true)

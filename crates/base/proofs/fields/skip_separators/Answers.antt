@@ -1,39 +1,22 @@
--- `base::fields::skip_separators` meets its contract: the fields are those of the rest behind the separators. Assumes nothing.
-use mathlib.Core.Path.{sym, ◌∙◌}
-use native.Mathlib.Omega.{arith}
-use Rattle.base.proofs.Runs.{skip_none, skip_next, goes_on_lem}
+-- `base::fields::skip_separators` meets its contract: it is the place of the first byte that is no separator, or the end. Assumes nothing.
+use mathlib.Core.Path.{◌∙◌}
+use Rattle.std.proofs.Common.{rules}
+use borrow.Author.Tests.{tests}
+use mathlib.Core.Bool.{not}
+use Rattle.std.proofs.lemmas.Iterator.{YieldsList-from_slice}
+use Rattle.std.proofs.lemmas.Iterator.Search.{position_from_yields_List}
+use Rattle.meaning.specs.Bytes.{separator}
+use Rattle.base.proofs.Runs.{skip_found, skip_same, skip_stops}
 use Rattle.base.proofs.fields.skip_separators.Goals as goal
 
-pub loop-i-init : goal.loop-i-init
-loop-i-init c = (omega arith, skip_none c.args.rest.now)
+pub returns-clause-same : goal.returns-clause-same
+returns-clause-same c =
+    let found = position_from_yields_List (λ b. not (separator b)) _ _ c.position.result c.position.ensures.ran (YieldsList-from_slice c.args.rest.now cc) (λ x b q k. search (rules, tests)) in
+    let is = c.unwrap_or.ensures ∙ skip_found c.args.rest.now c.position.result found in
+    rw is (skip_same c.args.rest.now)
 
-pub bounds-rest-i : goal.bounds-rest-i
-bounds-rest-i c = omega arith
-
-pub overflow_add-i : goal.overflow_add-i
-overflow_add-i c = omega arith
-
-pub loop-i-smaller : goal.loop-i-smaller
-loop-i-smaller c = omega arith
-
-pub returns : goal.returns
-returns c =
-    record {
-      within = omega arith;
-      same = c.loop-i.invariant.1;
-      stops = λ h. absurd (omega arith);
-    }
-
-pub returns-then-not-is_separator : goal.returns-then-not-is_separator
-returns-then-not-is_separator c =
-    let l = c.args.rest.now in
-    record {
-      within = omega arith;
-      same = c.loop-i.invariant.1;
-      stops = λ h. goes_on_lem l c.loop-i.i h (sym c.is_separator.ensures ∙ c.if-not-is_separator.true);
-    }
-
-pub loop-i-preserved : goal.loop-i-preserved
-loop-i-preserved c =
-    let l = c.args.rest.now in
-    (omega arith, skip_next l c.loop-i.i (omega arith) (sym c.is_separator.ensures ∙ c.if-not-is_separator.false) c.loop-i.invariant.1)
+pub returns-clause-stops : goal.returns-clause-stops
+returns-clause-stops c =
+    let found = position_from_yields_List (λ b. not (separator b)) _ _ c.position.result c.position.ensures.ran (YieldsList-from_slice c.args.rest.now cc) (λ x b q k. search (rules, tests)) in
+    let is = c.unwrap_or.ensures ∙ skip_found c.args.rest.now c.position.result found in
+    rw is (skip_stops c.args.rest.now)

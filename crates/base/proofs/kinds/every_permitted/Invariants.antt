@@ -1,13 +1,9 @@
 -- `base::kinds::every_permitted` meets its contract: what is found so far and what the rest says make the answer. Assumes nothing.
-use Prim.Native.Nat.{◌-◌, ◌≤◌}
 use mathlib.Core.Path.{◌≡◌}
 use mathlib.Core.Bool.{◌&&◌}
-use lib.ListN.{length, drop}
+use lib.ListN.{drop}
 use Rattle.meaning.specs.Bytes.{permitted, every}
 use Rattle.base.proofs.kinds.every_permitted.Given as goal
 
-abbrev pub invariant-loop-i : goal.invariant-loop-i
-invariant-loop-i l = (l.i ≤ length l.l) × ((l.all && every permitted (drop l.i l.l)) ≡ every permitted l.l)
-
-abbrev pub decreases-loop-i : goal.decreases-loop-i
-decreases-loop-i l = length l.l - l.i
+abbrev pub invariant-loop-b : goal.invariant-loop-b
+invariant-loop-b l = (l.all && every permitted (drop l.b-index l.l)) ≡ every permitted l.l

@@ -1,26 +1,14 @@
--- `base::kinds::every_text_byte` meets its contract: what is found so far and what the rest says make the answer. Assumes nothing.
-use mathlib.Core.Path.{refl}
-use native.Mathlib.Omega.{arith}
+-- `base::kinds::every_text_byte` meets its contract: the closure is the test. Assumes nothing.
+use mathlib.Core.Path.{◌∙◌}
+use Rattle.std.proofs.Common.{rules}
+use borrow.Author.Tests.{tests}
+use Rattle.std.proofs.lemmas.Iterator.{YieldsList-from_slice}
+use Rattle.std.proofs.lemmas.Iterator.Search.{all_from_yields_List}
 use Rattle.meaning.specs.Bytes.{text_byte}
-use Rattle.base.proofs.Scan.{every_turn, every_end}
+use Rattle.base.proofs.Scan.{every_all}
 use Rattle.base.proofs.kinds.every_text_byte.Goals as goal
-
-pub loop-i-init : goal.loop-i-init
-loop-i-init c = (omega arith, refl)
-
-pub bounds-l-i : goal.bounds-l-i
-bounds-l-i c = omega arith
-
-pub overflow_add-i : goal.overflow_add-i
-overflow_add-i c = omega arith
-
-pub loop-i-smaller : goal.loop-i-smaller
-loop-i-smaller c = omega arith
-
-pub loop-i-preserved : goal.loop-i-preserved
-loop-i-preserved c =
-    (omega arith, rw (c.both-all.ensures, c.is_text_byte.ensures) (every_turn text_byte c.args.l.now c.loop-i.i c.loop-i.all (omega arith) c.loop-i.invariant.1))
 
 pub returns : goal.returns
 returns c =
-    every_end text_byte c.args.l.now c.loop-i.i c.loop-i.all c.loop-i-test.false c.loop-i.invariant.1
+    all_from_yields_List text_byte _ _ _ c.all.ensures.ran (YieldsList-from_slice c.args.l.now cc) (λ x b q k. search (rules, tests))
+    ∙ every_all text_byte c.args.l.now

@@ -7,6 +7,4 @@ use Rattle.base.proofs.kinds.tests_permitted.Goals as goal
 
 pub returns : goal.returns
 unfolding permitted
-returns c =
-    let b = c.args.b in
-    rw (c.either-2.ensures, c.either.ensures, c.both.ensures, le-leb b 255 (omega arith), and-true)
+returns c = rw (le-leb c.args.b 255 (omega arith), and-true)

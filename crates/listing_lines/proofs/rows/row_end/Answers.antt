@@ -1,12 +1,11 @@
 -- `listing_lines::rows::row_end` meets its contract. Assumes nothing.
-use borrow.Author.Tests.{lt-ltb, le-ltb}
 use Rattle.meaning.specs.Bytes.{choose}
 use Rattle.listing_lines.proofs.rows.row_end.Goals as goal
 
-pub returns-then-i-rows : goal.returns-then-i-rows
+pub returns-in-Some : goal.returns-in-Some
 unfolding choose
-returns-then-i-rows c = rw (lt-ltb _ _ c.if-i-rows.true)
+returns-in-Some c = let h = c.in-Some.ensures.lookup in rw (← h.0) (h.3.1 0)
 
-pub returns-else-i-rows : goal.returns-else-i-rows
+pub returns-in-None : goal.returns-in-None
 unfolding choose
-returns-else-i-rows c = rw (le-ltb _ _ c.if-i-rows.false)
+returns-in-None c = rw (← c.in-None.ensures.lookup.0)

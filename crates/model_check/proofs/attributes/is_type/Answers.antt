@@ -5,8 +5,7 @@ use lib.Seq.{get_or-drop}
 use lib.ListN.{drop}
 use lib.Dec.{eqb}
 use Rattle.meaning.specs.Bytes.{byte_at}
-use Rattle.model_records.proofs.Types.{components_fit}
-use Rattle.model_check.proofs.Types.{size_line, dimension_bounds, parameters_fit, type_known, type_line, type_high, type_low}
+use Rattle.model_check.proofs.Types.{size_line, dimension_bounds, type_known, type_line, type_high, type_low}
 use Rattle.model_check.proofs.attributes.is_type.Goals as goal
 
 pub bounds-payload-3 : goal.bounds-payload-3
@@ -14,42 +13,10 @@ bounds-payload-3 c =
     let p = c.args.payload.now in
     omega (arith, c.requires, size_line (byte_at p 1) p c.in-8.is, (dimension_bounds (eqb (byte_at p 3) 3)).0)
 
-pub attribute_of-requires : goal.attribute_of-requires
-attribute_of-requires c =
-    record {
-      in_bounds = omega (arith, c.requires);
-      parameters_fit = parameters_fit c.args.payload.now (omega arith) (omega arith) c.requires;
-    }
-
-pub is_good-requires : goal.is_good-requires
-is_good-requires c =
-    let p = c.args.payload.now in
-    let h = c.attribute_of.ensures in
-    record {
-      count_bound = omega (arith, h.count, (components_fit (drop 2 p) (byte_at p 1) (parameters_fit p (omega arith) (omega arith) c.requires)).1);
-      components_len = h.room;
-    }
-
-pub attribute_of-requires-in-1-to-7 : goal.attribute_of-requires-in-1-to-7
-attribute_of-requires-in-1-to-7 c =
-    record {
-      in_bounds = omega (arith, c.requires);
-      parameters_fit = parameters_fit c.args.payload.now (omega arith) (omega arith) c.requires;
-    }
-
-pub is_good-requires-in-1-to-7 : goal.is_good-requires-in-1-to-7
-is_good-requires-in-1-to-7 c =
-    let p = c.args.payload.now in
-    let h = c.attribute_of-in-1-to-7.ensures in
-    record {
-      count_bound = omega (arith, h.count, (components_fit (drop 2 p) (byte_at p 1) (parameters_fit p (omega arith) (omega arith) c.requires)).1);
-      components_len = h.room;
-    }
-
 pub returns-in-8 : goal.returns-in-8
 returns-in-8 c =
     let p = c.args.payload.now in
-    rw (type_line (byte_at p 1) (drop 2 p) c.in-8.is, get_or-drop 2 p 1 0, c.both.ensures, c.is_good.ensures, c.is_dimension.ensures, ← c.attribute_of.ensures.type)
+    rw (type_line (byte_at p 1) (drop 2 p) c.in-8.is, get_or-drop 2 p 1 0, c.is_good.ensures, c.is_dimension.ensures, ← c.attribute_of.ensures.type)
 
 pub returns-in-1-to-7 : goal.returns-in-1-to-7
 returns-in-1-to-7 c =

@@ -1,8 +1,7 @@
 -- `model_check::attributes::keeps_attribute` meets its contract. Assumes nothing.
 use native.Mathlib.Omega.{arith}
-use mathlib.Core.Path.{sym, ◌∙◌}
-use lib.Seq.{length-take-le}
-use lib.ListN.{take}
+use mathlib.Core.Bool.{and_assoc}
+use mathlib.Core.Path.{sym}
 use Rattle.meaning.specs.Check.{keeps_attribute}
 use Rattle.meaning.specs.Model.{attribute_of}
 use Rattle.meaning.specs.Bytes.{all_of}
@@ -20,6 +19,4 @@ unfolding keeps_attribute attribute_of all_of
 returns c =
     let a = c.args in
     let p = a.payload.now in
-    let n = names_length a.model.now (take a.count a.seen.now) ∙ length-take-le a.count a.seen.now (omega arith) in
-    let e = c.parameters_end-start.ensures in
-    rw (c.both-2.ensures, c.both.ensures, c.is_type.ensures, c.is_flag.ensures, n, ← e, ← to_end p c.parameters_end-start.result, c.is_free-free.ensures)
+    rw (and_assoc, c.is_type.ensures, c.is_flag.ensures, names_length a.model.now a.seen.now, ← c.parameters_end-start.ensures, ← to_end p c.parameters_end-start.result, c.is_free-free.ensures)

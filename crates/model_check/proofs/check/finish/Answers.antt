@@ -7,15 +7,12 @@ pub returns-then-walker-ne-END : goal.returns-then-walker-ne-END
 unfolding checked_meant
 returns-then-walker-ne-END c = no_end c.args.model.now c.args.walker c.args.places.now c.requires c.if-walker-ne-END.true
 
-pub first_outside-requires : goal.first_outside-requires
-first_outside-requires c = c.requires.room
-
-pub returns-in-At : goal.returns-in-At
+pub returns-in-Some : goal.returns-in-Some
 unfolding checked_meant
-returns-in-At c =
-    outside c.args.model.now c.args.walker c.args.places.now c.requires c.if-walker-ne-END.false c.first_outside.result c.first_outside.ensures _ c.in-At.is
+returns-in-Some c =
+    outside c.args.model.now c.args.walker c.args.places.now c.requires c.if-walker-ne-END.false c.first_outside.result c.first_outside.ensures _ c.in-Some.is
 
-pub returns-in-Nowhere : goal.returns-in-Nowhere
+pub returns-in-None : goal.returns-in-None
 unfolding checked_meant
-returns-in-Nowhere c =
-    good_model c.args.model.now c.args.walker c.args.places.now c.requires c.if-walker-ne-END.false c.first_outside.result c.first_outside.ensures c.in-Nowhere.is
+returns-in-None c =
+    good_model c.args.model.now c.args.walker c.args.places.now c.requires c.if-walker-ne-END.false c.first_outside.result c.first_outside.ensures c.in-None.is

@@ -29,4 +29,4 @@ pub returns-in_default : goal.returns-in_default
 unfolding keeps choose
 returns-in_default c =
     let k = c.args.kind in
-    rw (ne_eqb k 1 (omega arith), ne_eqb k 2 (omega arith), ne_eqb k 3 (omega arith), ne_eqb k 4 (omega arith), ne_eqb k 5 (omega arith))
+    rw (ne_eqb k 1 (omega arith), ne_eqb k 2 (omega arith), ne_eqb k 3 (omega arith), ne_eqb k 4 (omega arith), ne_eqb k 5 (omega arith)) c.is_empty.ensures

@@ -13,29 +13,12 @@ pub loop-j-init : goal.loop-j-init
 unfolding judged_from
 loop-j-init c = (omega arith, λ ts rest e. refl)
 
-pub fits_at-requires : goal.fits_at-requires
-fits_at-requires c = tt
-
-pub is_bad-requires : goal.is_bad-requires
-is_bad-requires c =
-    record {
-      tables_in_bounds = c.requires;
-      at_in_bounds = leb-true _ _ (sym c.fits_at.ensures ∙ c.loop-j-test.true);
-    }
-
 pub returns-then-is_bad : goal.returns-then-is_bad
 unfolding outside_meant
 returns-then-is_bad c =
     λ ts rest e. let l = c.loop-j in
     let m = c.args.model.now in
     sym (judged_bad ts rest m l.j (leb-true _ _ (sym c.fits_at.ensures ∙ c.loop-j-test.true)) (sym (c.is_bad.ensures ts e) ∙ c.if-is_bad.true)) ∙ l.invariant.1 ts rest e
-
-pub go_on-j-requires : goal.go_on-j-requires
-go_on-j-requires c =
-    record {
-      at_in_bounds = leb-true _ _ (sym c.fits_at.ensures ∙ c.loop-j-test.true);
-      topics_le_at = c.loop-j.invariant.0;
-    }
 
 pub loop-j-smaller : goal.loop-j-smaller
 loop-j-smaller c =

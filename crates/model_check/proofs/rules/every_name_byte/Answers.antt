@@ -1,26 +1,12 @@
--- `model_check::rules::every_name_byte` meets its contract. Assumes nothing.
+-- `model_check::rules::every_name_byte` meets its contract: what is found so far and what the rest says make the answer. Assumes nothing.
 use native.Mathlib.Omega.{arith}
-use mathlib.Core.Path.{refl}
 use Rattle.meaning.specs.Check.{name_byte}
 use Rattle.base.proofs.Scan.{every_turn, every_end}
 use Rattle.model_check.proofs.rules.every_name_byte.Goals as goal
 
-pub loop-i-init : goal.loop-i-init
-loop-i-init c = (omega arith, refl)
-
-pub bounds-l-i : goal.bounds-l-i
-bounds-l-i c = omega arith
-
-pub overflow_add-i : goal.overflow_add-i
-overflow_add-i c = omega arith
-
-pub loop-i-smaller : goal.loop-i-smaller
-loop-i-smaller c = omega arith
-
-pub loop-i-preserved : goal.loop-i-preserved
-loop-i-preserved c =
-    (omega arith, rw (c.both-all.ensures, c.is_name_byte.ensures) (every_turn name_byte c.args.l.now c.loop-i.i c.loop-i.all (omega arith) c.loop-i.invariant.1))
+pub loop-b-preserved : goal.loop-b-preserved
+loop-b-preserved c =
+    rw c.is_name_byte-all.ensures (every_turn name_byte c.args.l.now c.loop-b.b-index c.loop-b.all (omega arith) c.loop-b.invariant)
 
 pub returns : goal.returns
-returns c =
-    every_end name_byte c.args.l.now c.loop-i.i c.loop-i.all c.loop-i-test.false c.loop-i.invariant.1
+returns c = every_end name_byte c.args.l.now c.loop-b.b-index c.loop-b.all c.loop-b-test.false c.loop-b.invariant

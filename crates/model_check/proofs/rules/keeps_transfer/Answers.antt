@@ -12,4 +12,4 @@ pub returns : goal.returns
 unfolding keeps_transfer
 returns c =
     let p = c.args.payload.now in
-    rw (c.are_special.ensures, c.both-rest.ensures, c.are_different.ensures, c.is_name-name.ensures, to_end p 3) (transfer_tests _ _ _ _ _ _ _)
+    rw (c.is_special.ensures, c.is_special-2.ensures, c.is_special-3.ensures, c.are_different-different.ensures, c.is_name.ensures, to_end p 3) (transfer_tests _ _ _ _ _ _ _)

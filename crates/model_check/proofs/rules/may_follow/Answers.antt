@@ -27,7 +27,7 @@ returns-in-4 c = rw c.in-4.is (simp or-false)
 
 pub returns-in-5 : goal.returns-in-5
 unfolding follows
-returns-in-5 c = rw c.in-5.is c.both.ensures
+returns-in-5 c = rw c.in-5.is
 
 pub returns-in_default : goal.returns-in_default
 unfolding follows

@@ -6,8 +6,8 @@ use Rattle.model_records.specs.AtRecord.{AtRecord}
 use Rattle.model_records.specs.Places.{RecordsNoted}
 use Rattle.model_records.proofs.places.place_records.Given as goal
 
-abbrev pub invariant-loop-here : goal.invariant-loop-here
-invariant-loop-here l = AtRecord (model_at l.model) l.model l.here.at l.here.topics l.here.tables × RecordsNoted (model_at l.model) l.model l.places l.here.topics l.here.tables
+abbrev pub invariant-records : goal.invariant-records
+invariant-records l = AtRecord (model_at l.model) l.model l.here.at l.here.topics l.here.tables × RecordsNoted (model_at l.model) l.model l.places l.here.topics l.here.tables
 
-abbrev pub decreases-loop-here : goal.decreases-loop-here
-decreases-loop-here l = length l.model - l.here.at
+abbrev pub decreases-records : goal.decreases-records
+decreases-records l = length l.model - l.here.at

@@ -1,41 +1,67 @@
 -- `read_fields::filling::put_field` meets its contract. Assumes nothing.
 use Prim.Native.Nat.{◌+◌}
-use mathlib.Core.Path.{refl}
+use mathlib.Core.Path.{◌≡◌, refl, sym}
 use mathlib.Core.Bool.{true, false}
+use native.Mathlib.Omega.{arith}
+use Rattle.std.proofs.Common.{Some, None}
+use Rattle.std.proofs.lemmas.Result.{err_from_is_err_and}
+use Rattle.base.specs.declared.reasons.Reason.TheVariants.{FieldCount}
 use Rattle.read_fields.proofs.Stores.{part_size}
-use Rattle.read_fields.proofs.Due.{taken, missing, twice_needed, twice_covers, undefined_needed, undefined_filled, defined_forbidden, defined_filled}
+use Rattle.read_fields.proofs.Due.{taken, formed, missing, form_wrong, twice_covers, undefined_filled, defined_filled, defined_wrong}
 use Rattle.read_fields.proofs.filling.put_field.Goals as goal
 
-pub returns-then-asked : goal.returns-then-asked
-returns-then-asked c =
-    defined_forbidden c.args.undefined c.args.start c.args.rest.now c.args.asked c.args.cursor c.requires c.in-Defined.from c.in-Defined.len false (let a = c.args in taken a.undefined a.rest.now a.cursor.at c.in-Defined.is c.take_field.ensures) refl c.if-asked.true
+pub returns-in_err-taken : goal.returns-in_err-taken
+returns-in_err-taken c =
+    let a = c.args in
+    let none : c.take_field.result ≡ None = grind arith in
+    let refusal : c.in_err-taken.field-0.0 ≡ record { reason = FieldCount; field = a.cursor.place } = grind arith in
+    let p = err_from_is_err_and c.from_residual.result c.from_residual.ensures.1 in
+    rw (p.1, p.2, refusal) (missing a.undefined a.start a.rest.now a.asked a.cursor c.requires (taken a.undefined a.rest.now a.cursor.at none c.take_field.ensures))
 
-pub returns-then-asked-2 : goal.returns-then-asked-2
-returns-then-asked-2 c =
-    undefined_needed c.args.undefined c.args.start c.args.rest.now c.args.asked c.args.cursor c.requires c.in-Undefined.from c.in-Undefined.len true (let a = c.args in taken a.undefined a.rest.now a.cursor.at c.in-Undefined.is c.take_field.ensures) refl c.if-asked-2.true
+pub returns-then-forbids : goal.returns-then-forbids
+returns-then-forbids c =
+    let a = c.args in
+    let t = c.in_ok-taken.taken in
+    let some : c.take_field.result ≡ Some t = grind arith in
+    form_wrong a.undefined a.start a.rest.now a.asked a.cursor c.requires t.part.start t.part.len t.form (taken a.undefined a.rest.now a.cursor.at some c.take_field.ensures) (sym c.if-forbids.ensures)
 
-pub returns-then-asked-3 : goal.returns-then-asked-3
-returns-then-asked-3 c =
-    twice_needed c.args.undefined c.args.start c.args.rest.now c.args.asked c.args.cursor c.requires c.in-Twice.from c.in-Twice.len c.if-asked-3.true (let a = c.args in taken a.undefined a.rest.now a.cursor.at c.in-Twice.is c.take_field.ensures)
+pub returns-in_err-t-in-Defined : goal.returns-in_err-t-in-Defined
+returns-in_err-t-in-Defined c =
+    let a = c.args in
+    let t = c.in_ok-taken.taken in
+    let some : c.take_field.result ≡ Some t = grind arith in
+    let f = formed a.undefined _ t.part.start t.part.len c.in-Defined.is (taken a.undefined a.rest.now a.cursor.at some c.take_field.ensures) in
+    let free = rw c.in-Defined.is at (sym c.if-forbids.ensures) in
+    let p = rw (part_size (a.cursor.at + t.part.start) t.part.len, c.behind.ensures) at c.in_err-t-in-Defined.ensures in
+    let r = err_from_is_err_and c.from_residual-in_err-t-in-Defined.result c.from_residual-in_err-t-in-Defined.ensures.1 in
+    rw (r.1, r.2) (defined_wrong a.undefined a.start a.rest.now a.asked a.cursor c.requires t.part.start t.part.len false f refl free a.cells.now c.put_defined.new.cells c.in_err-t-in-Defined.field-0.0 p)
 
-pub returns-in-Missing : goal.returns-in-Missing
-returns-in-Missing c =
-    missing c.args.undefined c.args.start c.args.rest.now c.args.asked c.args.cursor c.requires (let a = c.args in taken a.undefined a.rest.now a.cursor.at c.in-Missing.is c.take_field.ensures)
+pub returns-in_ok-t-in-Defined : goal.returns-in_ok-t-in-Defined
+returns-in_ok-t-in-Defined c =
+    let a = c.args in
+    let t = c.in_ok-taken.taken in
+    let some : c.take_field.result ≡ Some t = grind arith in
+    let f = formed a.undefined _ t.part.start t.part.len c.in-Defined.is (taken a.undefined a.rest.now a.cursor.at some c.take_field.ensures) in
+    let free = rw c.in-Defined.is at (sym c.if-forbids.ensures) in
+    let p = rw (part_size (a.cursor.at + t.part.start) t.part.len, c.behind.ensures) at c.in_ok-t-in-Defined.ensures in
+    defined_filled a.undefined a.start a.rest.now a.asked a.cursor c.requires t.part.start t.part.len false f refl free a.cells.now c.put_defined.new.cells c.in_ok-t-in-Defined.t p
 
-pub returns-else-asked-3 : goal.returns-else-asked-3
-returns-else-asked-3 c =
-    rw c.behind-in-Twice.ensures (twice_covers c.args.undefined c.args.start c.args.rest.now c.args.asked c.args.cursor c.requires c.in-Twice.from c.in-Twice.len c.args.cells.now c.if-asked-3.false (let a = c.args in taken a.undefined a.rest.now a.cursor.at c.in-Twice.is c.take_field.ensures))
+pub returns-in-Undefined : goal.returns-in-Undefined
+returns-in-Undefined c =
+    let a = c.args in
+    let t = c.in_ok-taken.taken in
+    let some : c.take_field.result ≡ Some t = grind arith in
+    let f = formed a.undefined _ t.part.start t.part.len c.in-Undefined.is (taken a.undefined a.rest.now a.cursor.at some c.take_field.ensures) in
+    let free = rw c.in-Undefined.is at (sym c.if-forbids.ensures) in
+    let p = rw c.behind-in-Undefined.ensures at c.put_next.ensures.stored in
+    let q = rw c.behind-in-Undefined.ensures at c.put_next.ensures.cursor in
+    rw q (undefined_filled a.undefined a.start a.rest.now a.asked a.cursor c.requires t.part.start t.part.len true f refl free a.cells.now c.put_next.new.cells p)
 
-pub returns-else-asked : goal.returns-else-asked
-returns-else-asked c =
-    let r = c.put_defined.result in
-    let x = c.put_defined.new.cells in
-    let p = rw (part_size (c.args.cursor.at + c.in-Defined.from) c.in-Defined.len, c.behind.ensures) at c.put_defined.ensures in
-    defined_filled c.args.undefined c.args.start c.args.rest.now c.args.asked c.args.cursor c.requires c.in-Defined.from c.in-Defined.len false (let a = c.args in taken a.undefined a.rest.now a.cursor.at c.in-Defined.is c.take_field.ensures) refl c.if-asked.false c.args.cells.now x r p
-
-pub returns-else-asked-2 : goal.returns-else-asked-2
-returns-else-asked-2 c =
-    let x = c.put_undefined.new.cells in
-    let p = rw c.behind-in-Undefined.ensures at c.put_undefined.ensures.stored in
-    let q = rw c.behind-in-Undefined.ensures at c.put_undefined.ensures.answer in
-    rw q (undefined_filled c.args.undefined c.args.start c.args.rest.now c.args.asked c.args.cursor c.requires c.in-Undefined.from c.in-Undefined.len true (let a = c.args in taken a.undefined a.rest.now a.cursor.at c.in-Undefined.is c.take_field.ensures) refl c.if-asked-2.false c.args.cells.now x p)
+pub returns-in-Twice : goal.returns-in-Twice
+returns-in-Twice c =
+    let a = c.args in
+    let t = c.in_ok-taken.taken in
+    let some : c.take_field.result ≡ Some t = grind arith in
+    let f = formed a.undefined _ t.part.start t.part.len c.in-Twice.is (taken a.undefined a.rest.now a.cursor.at some c.take_field.ensures) in
+    let free = rw c.in-Twice.is at (sym c.if-forbids.ensures) in
+    rw c.behind-in-Twice.ensures (twice_covers a.undefined a.start a.rest.now a.asked a.cursor c.requires t.part.start t.part.len a.cells.now free f)

@@ -5,23 +5,11 @@ use mathlib.Core.Path.{◌≡◌, refl}
 use native.Mathlib.Omega.{arith}
 use Rattle.read_frame.proofs.codes.head_of.Goals as goal
 
-pub overflow_add-end : goal.overflow_add-end
-overflow_add-end c =
-    let f = c.in-Field.ensures in
-    omega (arith, f.within)
+pub returns : goal.returns
+returns c =
+    let f = c.in-Some.ensures in
+    let e : (c.in-Some.first.start + c.in-Some.first.len) - c.in-Some.first.start ≡ c.in-Some.first.len = omega arith in
+    head_field _ _ _ f _ (rw e at c.read_code.ensures) refl
 
-pub slice_bounds-read_code-end : goal.slice_bounds-read_code-end
-slice_bounds-read_code-end c =
-    let f = c.in-Field.ensures in
-    f.within
-
-pub returns-in-Field : goal.returns-in-Field
-returns-in-Field c =
-    let f = c.in-Field.ensures in
-    let e : (c.in-Field.start + c.in-Field.len) - c.in-Field.start ≡ c.in-Field.len = omega arith in
-    head_field _ _ _ f _ (rw e at c.read_code-code.ensures) refl
-
-pub returns-in-Nothing : goal.returns-in-Nothing
-returns-in-Nothing c =
-    let f = c.in-Nothing.ensures in
-    head_none _ f _ refl refl
+pub returns-in_default : goal.returns-in_default
+returns-in_default c = head_none _ (rw c.in_default.is at c.next_field.ensures) _ refl refl

@@ -12,4 +12,4 @@ pub returns : goal.returns
 returns c =
     let s = c.args.field.now in
     let f : Four s = record { size = omega arith; bounded = λ i. (c.shared_slice_known-1.given i).fits } in
-    c.number_word.ensures ∙ ap (word_in 1 codes) c.u32_at.ensures ∙ sym (word_code s f)
+    c.code_of_word.ensures ∙ ap (word_in 1 codes) c.u32_at.ensures ∙ sym (word_code s f)

@@ -1,35 +1,39 @@
 -- `read_frame::table_line` meets its contract. Assumes nothing.
+use mathlib.Core.Path.{◌≡◌, ap}
+use Rattle.std.proofs.Common.{Some, rules}
+use Rattle.base.specs.declared.reasons.Reason.TheVariants.{OtherCode}
+use Rattle.read_frame.specs.Codes.{place_or_0}
+use Rattle.read_frame.specs.Moves.{refused}
+use Rattle.read_frame.specs.declared.codes.Code.TheVariants.{Tabl, Etop}
 use Rattle.read_frame.proofs.TableLines.{topic_closed, table_opened, table_other}
-use Rattle.read_state.specs.declared.NextDue.TheVariants.{No}
+use Rattle.read_frame.proofs.Words.{same_code}
 use Rattle.base.proofs.Fill.{to_end}
 use Rattle.read_frame.proofs.tables.table_line.Goals as goal
 
-pub returns-in-14 : goal.returns-in-14
-returns-in-14 c =
+pub returns-in-Some-Etop-clause-meant : goal.returns-in-Some-Etop-clause-meant
+returns-in-Some-Etop-clause-meant c =
     let a = c.args in
     let h = c.head_of-head in
+    let same : h.result.code ≡ Some Etop = search rules in
     let k = rw (to_end a.line.now h.result.behind) at c.end_topic.ensures.meant in
-    record {
-      meant = (λ rooms text s x. topic_closed _ rooms text a.model.now _ _ a.line.now h.result h.ensures c.end_topic.result x s c.in-14.is k);
-      held = c.end_topic.ensures.held;
-    }
+    λ rooms text s x. topic_closed _ rooms text a.model.now.bytes.now _ _ a.line.now h.result h.ensures c.end_topic.result x s (ap place_or_0 same) k
 
-pub returns-in-7 : goal.returns-in-7
-returns-in-7 c =
+pub returns-in-Some-Tabl-clause-meant : goal.returns-in-Some-Tabl-clause-meant
+returns-in-Some-Tabl-clause-meant c =
     let a = c.args in
     let h = c.head_of-head in
+    let same : h.result.code ≡ Some Tabl = search rules in
     let k = rw (to_end a.line.now h.result.behind) at c.begin_table.ensures.meant in
-    record {
-      meant = (λ rooms text s x. table_opened _ rooms text a.model.now _ _ a.line.now h.result h.ensures c.begin_table.result x s c.in-7.is k);
-      held = c.begin_table.ensures.held;
-    }
+    λ rooms text s x. table_opened _ rooms text a.model.now.bytes.now _ _ a.line.now h.result h.ensures c.begin_table.result x s (ap place_or_0 same) k
 
-pub returns-in_default : goal.returns-in_default
-returns-in_default c =
+pub returns-in_default-clause-meant : goal.returns-in_default-clause-meant
+returns-in_default-clause-meant c =
     let a = c.args in
     let h = c.head_of-head in
-    let r = c.in_default.in_default-own.rest in
-    record {
-      meant = (λ rooms text s x. table_other _ rooms text a.model.now _ _ a.line.now h.result h.ensures (No 7 1) x s r.0.1 r.1);
-      held = tt;
-    }
+    λ rooms text s x. table_other _ rooms text a.model.now.bytes.now _ _ a.line.now h.result h.ensures (refused OtherCode 1) x s (λ q. let same = same_code h.result.code Etop q in search rules) (λ q. let same = same_code h.result.code Tabl q in search rules)
+
+pub returns-in_default-2-clause-meant : goal.returns-in_default-2-clause-meant
+returns-in_default-2-clause-meant c =
+    let a = c.args in
+    let h = c.head_of-head in
+    λ rooms text s x. table_other _ rooms text a.model.now.bytes.now _ _ a.line.now h.result h.ensures (refused OtherCode 1) x s (λ q. let same = same_code h.result.code Etop q in search rules) (λ q. let same = same_code h.result.code Tabl q in search rules)

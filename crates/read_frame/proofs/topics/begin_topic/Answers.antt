@@ -1,4 +1,7 @@
 -- `read_frame::begin_topic` meets its contract. Assumes nothing.
+use Rattle.std.proofs.Common.{Some, None}
+use Rattle.std.proofs.lemmas.Result.{err_from_is_err_and}
+use Rattle.base.specs.declared.reasons.Reason.TheVariants.{NameWrong}
 use Rattle.read_frame.proofs.TopicLines.{topic_no_name, topic_missing, topic_begun, topic_holds}
 use Rattle.read_frame.specs.Finds.{topic_found_of}
 use Rattle.base.proofs.Fill.{to_end}
@@ -7,53 +10,32 @@ use mathlib.Core.Path.{◌≡◌, sym, ap, ◌∙◌}
 use native.Mathlib.Omega.{arith}
 use Rattle.read_frame.proofs.topics.begin_topic.Goals as goal
 
-pub overflow_add-end : goal.overflow_add-end
-overflow_add-end c =
-    let f = c.in-Field.ensures in
-    omega (arith, f.within)
+pub returns-in_err-part-clause-meant : goal.returns-in_err-part-clause-meant
+returns-in_err-part-clause-meant c =
+    let p = err_from_is_err_and c.from_residual.result c.from_residual.ensures.1 in
+    let h = c.in_err-part.ensures in
+    rw (p.1, p.2, h.0) (λ s k. topic_no_name _ c.args.model.now.bytes.now _ _ k h.1 s)
 
-pub slice_bounds-find_topic-end : goal.slice_bounds-find_topic-end
-slice_bounds-find_topic-end c =
-    let f = c.in-Field.ensures in
-    f.within
-
-pub slice_bounds-end_line-count : goal.slice_bounds-end_line-count
-slice_bounds-end_line-count c =
-    let f = c.in-Field.ensures in
-    omega (arith, f.within)
-
-pub slice_bounds-end_line-start : goal.slice_bounds-end_line-start
-slice_bounds-end_line-start c =
-    let f = c.in-Field.ensures in
-    omega (arith, f.within)
-
-pub returns-in-Nothing : goal.returns-in-Nothing
-returns-in-Nothing c =
-    let f = c.in-Nothing.ensures in
-    record {
-      meant = (λ s k. topic_no_name _ c.args.model.now _ _ k f s);
-      held = tt;
-    }
-
-pub returns-in-Missing : goal.returns-in-Missing
-returns-in-Missing c =
-    let f = c.in-Field.ensures in
+pub returns-in_err-p-clause-meant : goal.returns-in_err-p-clause-meant
+returns-in_err-p-clause-meant c =
     let a = c.args in
-    let z : c.in-Field.start + c.in-Field.len - c.in-Field.start ≡ c.in-Field.len = omega arith in
-    let e = sym c.find_topic-found.ensures ∙ ap topic_found_of c.in-Missing.is in
-    record {
-      meant = (λ s k. topic_missing _ a.model.now _ a.rest.now k c.in-Field.start c.in-Field.len f (rw z at e) s);
-      held = tt;
-    }
+    let part = c.in_ok-part.part in
+    let z : part.start + part.len - part.start ≡ part.len = omega arith in
+    let none : c.find_topic-found.result ≡ None = grind arith in
+    let refusal : c.in_err-p.field-0.0 ≡ record { reason = NameWrong; field = 2 } = grind arith in
+    let e = rw z at (sym c.find_topic-found.ensures ∙ ap topic_found_of none) in
+    let p = err_from_is_err_and c.from_residual-in_err-p.result c.from_residual-in_err-p.ensures.1 in
+    rw (p.1, p.2, refusal) (λ s k. topic_missing _ a.model.now.bytes.now _ a.rest.now k part.start part.len c.in_ok-part.ensures e s)
 
-pub returns-in-At : goal.returns-in-At
-returns-in-At c =
-    let f = c.in-Field.ensures in
+pub returns : goal.returns
+returns c =
     let a = c.args in
-    let z : c.in-Field.start + c.in-Field.len - c.in-Field.start ≡ c.in-Field.len = omega arith in
-    let e = rw z at (sym c.find_topic-found.ensures ∙ ap topic_found_of c.in-At.is) in
-    let k = rw (to_end a.rest.now (c.in-Field.start + c.in-Field.len)) at c.end_line.ensures in
+    let part = c.in_ok-part.part in
+    let z : part.start + part.len - part.start ≡ part.len = omega arith in
+    let some : c.find_topic-found.result ≡ Some c.in_ok-p.p = grind arith in
+    let e = rw z at (sym c.find_topic-found.ensures ∙ ap topic_found_of some) in
+    let k = rw (to_end a.rest.now (part.start + part.len)) at c.end_line.ensures in
     record {
-      meant = (λ s x. topic_begun _ _ _ a.rest.now x c.in-Field.start c.in-Field.len f _ _ e k s);
+      meant = (λ s x. topic_begun _ _ _ a.rest.now x part.start part.len c.in_ok-part.ensures _ _ e k s);
       held = topic_holds _ _ _ _ _ _ _ e (k 0);
     }

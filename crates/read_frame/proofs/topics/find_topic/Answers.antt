@@ -5,10 +5,10 @@ use native.Mathlib.Omega.{arith}
 use Rattle.read_frame.proofs.topics.find_topic.Goals as goal
 
 pub loop-p-init : goal.loop-p-init
-loop-p-init c = (omega arith, topic_start _ _ _)
+loop-p-init c = topic_start _ _ _
 
 pub topic_at-requires : goal.topic_at-requires
-topic_at-requires c = let q = c.requires in (q.noted.room, omega (arith, c.loop-p-test.true, q.topic_limit))
+topic_at-requires c = let q = c.requires in omega (arith, c.loop-p-test.true, q.topic_limit)
 
 pub is_topic-requires : goal.is_topic-requires
 is_topic-requires c = rw c.topic_at.ensures (c.requires.noted.topic _ c.loop-p-test.true).fits
@@ -16,26 +16,18 @@ is_topic-requires c = rw c.topic_at.ensures (c.requires.noted.topic _ c.loop-p-t
 pub returns-then-is_topic : goal.returns-then-is_topic
 returns-then-is_topic c =
     let q = c.requires in
-    let i = c.loop-p.invariant in
     let l = c.loop-p-test.true in
     let e = rw (c.topic_at.ensures, (q.noted.topic _ l).name) at (sym c.is_topic.ensures ∙ c.if-is_topic.true) in
-    sym (i.1 ∙ topic_hit _ _ _ _ (omega (arith, l, q.topics)) i.0 e)
-
-pub overflow_add-p : goal.overflow_add-p
-overflow_add-p c = omega (arith, c.loop-p-test.true, c.requires.topic_limit)
-
-pub loop-p-smaller : goal.loop-p-smaller
-loop-p-smaller c = omega (arith, c.loop-p-test.true)
+    sym (c.loop-p.invariant ∙ topic_hit _ _ _ _ (omega (arith, l, q.topics)) (omega arith) e)
 
 pub loop-p-preserved : goal.loop-p-preserved
 loop-p-preserved c =
     let q = c.requires in
-    let i = c.loop-p.invariant in
     let l = c.loop-p-test.true in
     let e = rw (c.topic_at.ensures, (q.noted.topic _ l).name) at (sym c.is_topic.ensures ∙ c.if-is_topic.false) in
-    (omega (arith, i.0), i.1 ∙ topic_pass _ _ _ _ (omega (arith, l, q.topics)) i.0 e)
+    c.loop-p.invariant ∙ topic_pass _ _ _ _ (omega (arith, l, q.topics)) (omega arith) e
 
 pub returns : goal.returns
 returns c =
     let q = c.requires in
-    sym (c.loop-p.invariant.1 ∙ topic_none _ _ _ _ (omega (arith, c.loop-p-test.false, q.topics)))
+    sym (c.loop-p.invariant ∙ topic_none _ _ _ _ (omega (arith, c.loop-p-test.false, q.topics)))

@@ -1,32 +1,24 @@
 -- `read_objects::add_object` meets its contract. Assumes nothing.
-use mathlib.Core.Path.{◌∙◌}
+use mathlib.Core.Path.{sym, ◌∙◌}
 use Rattle.meaning.specs.Reading.{stretch}
 use Rattle.table_index.proofs.Parts.{part_is}
-use Rattle.read_objects.proofs.Fields.{used_is_lem, used_before, unused}
+use Rattle.read_objects.proofs.Fields.{used_before, unused}
 use Rattle.read_objects.proofs.reading.add_object.Goals as goal
 
-pub returns-then-is_used : goal.returns-then-is_used
-returns-then-is_used c =
+pub returns-then-is_used-clause-row : goal.returns-then-is_used-clause-row
+returns-then-is_used-clause-row c =
     let a = c.args in
-    let p = c.requires in
-    let held = p.indexed_table in
-    let used = used_is_lem a.text.now a.seed a.state (stretch a.text.now a.start a.size) a.rows.now a.cells.now a.index.now held c.is_used.result (rw (part_is a.text.now a.start a.size) at c.is_used.ensures) in
-    used_before a.model.now a.text.now a.seed a.state (stretch a.text.now a.start a.size) a.rows.now a.cells.now a.index.now held _ _ _ _ (used ∙ c.if-is_used.true)
+    let l = a.line.now.text.now in
+    let t = a.table.now in
+    used_before a.model.now.bytes.now l t.seed a.state (stretch l a.part.start a.part.len) t.rows.now t.cells.now t.index.now c.requires.indexed_table _ _ _ _ (sym c.is_used.ensures ∙ c.if-is_used.true)
 
-pub store_row-requires : goal.store_row-requires
-store_row-requires c =
-    let p = c.requires in
-    record {
-      table_holds = p.table_holds;
-      size_bound = p.size_bound;
-      model_len_bound = (p.model_len_bound, p.indexed_table.cells_in, c.hash-hash.ensures.upper_bound);
-    }
-
-pub returns : goal.returns
-returns c =
+pub returns-clause-row : goal.returns-clause-row
+returns-clause-row c =
     let a = c.args in
-    let p = c.requires in
-    let held = p.indexed_table in
-    let used = used_is_lem a.text.now a.seed a.state (stretch a.text.now a.start a.size) a.rows.now a.cells.now a.index.now held c.is_used.result (rw (part_is a.text.now a.start a.size) at c.is_used.ensures) in
-    let e = used ∙ c.if-is_used.false in
-    unused a.model.now a.text.now a.seed a.state (stretch a.text.now a.start a.size) a.rows.now a.cells.now a.index.now held _ _ _ _ _ e (c.store_row.ensures a.seed (record { held = held; unused = e; hashed = (rw (part_is a.text.now a.start a.size) at c.hash-hash.ensures.value) }))
+    let l = a.line.now.text.now in
+    let t = a.table.now in
+    let held = c.requires.indexed_table in
+    let e = sym c.is_used.ensures ∙ c.if-is_used.false in
+    let hashed = rw (part_is l a.part.start a.part.len) at c.hash-hash.ensures.value in
+    unused a.model.now.bytes.now l t.seed a.state (stretch l a.part.start a.part.len) t.rows.now t.cells.now t.index.now held _ _ _ _ _ e
+    (c.store_row.ensures.row (record { held = held; unused = e; hashed = hashed }))

@@ -1,38 +1,29 @@
 -- `read_objects::object_fields` meets its contract. Assumes nothing.
-use Prim.Native.Nat.{◌+◌, ◌-◌}
-use native.Mathlib.Omega.{arith}
+use Rattle.std.proofs.Common.{◌≡◌, ◌+◌, ◌-◌, Ok, Err, arith, rules}
+use Rattle.std.proofs.lemmas.Result.{err_from_is_err_and}
 use Rattle.meaning.specs.Reading.{stretch}
-use Rattle.read_objects.proofs.Fields.{identified, named_within, unnamed, named}
+use Rattle.read_objects.proofs.Fields.{identified, unnamed, named}
 use Rattle.read_objects.proofs.reading.object_fields.Goals as goal
 
-pub overflow_add-from-in-At : goal.overflow_add-from-in-At
-overflow_add-from-in-At c =
-    let g = c.args in
+pub returns-in_err-part-clause-row : goal.returns-in_err-part-clause-row
+returns-in_err-part-clause-row c =
+    let a = c.args in
     let p = c.requires in
-    let i = identified g.undefined (stretch g.text.now (g.at + g.behind) (g.end - (g.at + g.behind))) c.take_identification.result c.in-At.a c.in-At.size c.in-At.is c.take_identification.ensures in
-    record { fits = omega (arith, named_within g.text.now (g.at + g.behind) g.end g.undefined c.in-At.a c.in-At.size i p.behind_bound.0 p.behind_bound.1, p.behind_bound.2, p.behind_bound.1) }
+    let l = a.line.now in
+    let t = a.table.now in
+    let r = err_from_is_err_and c.from_residual.result c.from_residual.ensures.1 in
+    let refused : c.take_identification-name.result ≡ Err c.in_err-part.field-0.0.reason = grind arith in
+    let second : c.in_err-part.field-0.0.field ≡ 2 = search rules in
+    rw (r.1, r.2) (unnamed a.model.now.bytes.now l.text.now t.seed a.here a.state l.at l.end a.behind a.model.now.shape.undefined t.rows.now _ t.cells.now _ t.index.now _ p.model_len_bound.1 p.fields_behind.0 p.fields_behind.1 c.in_err-part.field-0.0 c.take_identification-name.result refused second c.take_identification-name.ensures)
 
-pub add_object-requires : goal.add_object-requires
-add_object-requires c =
-    let g = c.args in
+pub returns-clause-row : goal.returns-clause-row
+returns-clause-row c =
+    let a = c.args in
     let p = c.requires in
-    let i = identified g.undefined (stretch g.text.now (g.at + g.behind) (g.end - (g.at + g.behind))) c.take_identification.result c.in-At.a c.in-At.size c.in-At.is c.take_identification.ensures in
-    record {
-      table_holds = p.table_holds;
-      size_bound = (named_within g.text.now (g.at + g.behind) g.end g.undefined c.in-At.a c.in-At.size i p.behind_bound.0 p.behind_bound.1, p.behind_bound.1, p.behind_bound.2);
-      model_len_bound = p.model_len_bound.0;
-      indexed_table = p.indexed_table;
-    }
-
-pub returns-in-No : goal.returns-in-No
-returns-in-No c =
-    let g = c.args in
-    let p = c.requires in
-    unnamed g.model.now g.text.now g.seed g.here g.state g.at g.end g.behind g.undefined g.rows.now _ g.cells.now _ g.index.now _ p.model_len_bound.1 p.fields_behind.0 p.fields_behind.1 c.in-No.k c.take_identification.result c.in-No.is c.take_identification.ensures
-
-pub returns-in-At : goal.returns-in-At
-returns-in-At c =
-    let g = c.args in
-    let p = c.requires in
-    let i = identified g.undefined (stretch g.text.now (g.at + g.behind) (g.end - (g.at + g.behind))) c.take_identification.result c.in-At.a c.in-At.size c.in-At.is c.take_identification.ensures in
-    named g.model.now g.text.now g.seed g.here g.state g.at g.end g.behind g.undefined g.rows.now _ g.cells.now _ g.index.now _ p.model_len_bound.1 p.fields_behind.0 p.fields_behind.1 c.in-At.a c.in-At.size i p.behind_bound.0 p.behind_bound.1 p.table_holds _ c.add_object.ensures
+    let l = a.line.now in
+    let t = a.table.now in
+    let u = a.model.now.shape.undefined in
+    let part = c.in_ok-part.part in
+    let taken : c.take_identification-name.result ≡ Ok part = grind arith in
+    let i = identified u (stretch l.text.now (l.at + a.behind) (l.end - (l.at + a.behind))) c.take_identification-name.result part taken c.take_identification-name.ensures in
+    named a.model.now.bytes.now l.text.now t.seed a.here a.state l.at l.end a.behind u t.rows.now _ t.cells.now _ t.index.now _ p.model_len_bound.1 p.fields_behind.0 p.fields_behind.1 part.start part.len i p.behind_bound l.inside.1 p.table_holds _ c.add_object.ensures.row

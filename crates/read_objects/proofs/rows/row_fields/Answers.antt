@@ -1,10 +1,9 @@
 -- `read_objects::row_fields` meets its contract. Assumes nothing.
 use Prim.Native.Nat.{◌*◌}
 use native.Mathlib.Omega.{arith}
-use mathlib.Core.Path.{refl, sym, ◌∙◌, subst}
+use mathlib.Core.Path.{refl, sym, ◌∙◌}
 use lib.ListN.{length}
-use Rattle.read_fields.specs.RowProgress.{Fills, going_over}
-use Rattle.read_objects.specs.Fields.{record_pairs}
+use Rattle.std.proofs.lemmas.Result.{err_from_is_err_and}
 use Rattle.read_fields.proofs.RowFilled.{wider}
 use Rattle.read_objects.proofs.Records.{record_here, good_here, next_from}
 use Rattle.read_objects.proofs.Ends.{row_start, row_end_lem, row_on, row_rest, row_no}
@@ -31,7 +30,7 @@ put_record-requires c =
 pub undefine_rest-requires : goal.undefine_rest-requires
 undefine_rest-requires c =
     let h = record_here c.args.model.now c.loop-next.here c.loop-next.invariant.0 in
-    let f = subst (Fills c.args.undefined c.args.start c.args.rest.now 6 (going_over c.args.undefined c.args.start c.args.rest.now (record_pairs c.args.model.now c.loop-next.here) c.loop-next.s) c.loop-next.s c.loop-next.cells c.put_record.new.cells) c.in-RestUndefined.is c.put_record.ensures in
+    let f = rw c.in-RestUndefined.is at c.in_ok-t.ensures in
     record {
       attributes_here = rw c.next_at-next.ensures (next_from c.args.model.now c.loop-next.here c.loop-next.invariant.0 (sym c.kind_at.ensures ∙ c.loop-next-test.true));
       at_in_bounds = (f.1.within, omega (arith, f.1.placed, f.1.within, c.requires.rest_bound), omega (arith, f.0, c.loop-next.invariant.2.used, c.loop-next.invariant.2.few, c.next_at-next.ensures));
@@ -40,27 +39,20 @@ undefine_rest-requires c =
 pub returns-in-RestUndefined : goal.returns-in-RestUndefined
 returns-in-RestUndefined c =
     let h = record_here c.args.model.now c.loop-next.here c.loop-next.invariant.0 in
-    let f = subst (Fills c.args.undefined c.args.start c.args.rest.now 6 (going_over c.args.undefined c.args.start c.args.rest.now (record_pairs c.args.model.now c.loop-next.here) c.loop-next.s) c.loop-next.s c.loop-next.cells c.put_record.new.cells) c.in-RestUndefined.is c.put_record.ensures in
+    let f = rw c.in-RestUndefined.is at c.in_ok-t.ensures in
     let g = rw c.next_at-next.ensures at (c.undefine_rest.ensures c.args.start) in
     row_rest c.args.undefined c.args.start c.args.rest.now c.args.model.now c.loop-next.here c.loop-next.invariant.0 c.loop-next.invariant.2 (sym c.kind_at.ensures ∙ c.loop-next-test.true) c.put_record.new.cells c.in-RestUndefined.t c.in-RestUndefined.left f (2 * length c.args.model.now) _ c.undefine_rest.result g
 
-pub returns-in-No : goal.returns-in-No
-returns-in-No c =
-    let f = subst (Fills c.args.undefined c.args.start c.args.rest.now 6 (going_over c.args.undefined c.args.start c.args.rest.now (record_pairs c.args.model.now c.loop-next.here) c.loop-next.s) c.loop-next.s c.loop-next.cells c.put_record.new.cells) c.in-No.is c.put_record.ensures in
-    row_no c.args.undefined c.args.start c.args.rest.now c.args.model.now c.loop-next.here c.loop-next.invariant.0 c.loop-next.invariant.2 (sym c.kind_at.ensures ∙ c.loop-next-test.true) c.put_record.new.cells c.in-No.k c.in-No.f f
-
-pub loop-next-smaller : goal.loop-next-smaller
-loop-next-smaller c =
-    let h = record_here c.args.model.now c.loop-next.here c.loop-next.invariant.0 in omega (arith, h.fits, h.room, c.next_at-next.ensures)
+pub returns-in_err-t : goal.returns-in_err-t
+returns-in_err-t c =
+    let p = err_from_is_err_and c.from_residual.result c.from_residual.ensures.1 in
+    rw (p.1, p.2) (row_no c.args.undefined c.args.start c.args.rest.now c.args.model.now c.loop-next.here c.loop-next.invariant.0 c.loop-next.invariant.2 (sym c.kind_at.ensures ∙ c.loop-next-test.true) c.put_record.new.cells c.in_err-t.field-0.0 c.in_err-t.ensures)
 
 pub loop-next-preserved : goal.loop-next-preserved
 loop-next-preserved c =
     let h = record_here c.args.model.now c.loop-next.here c.loop-next.invariant.0 in
-    let f = subst (Fills c.args.undefined c.args.start c.args.rest.now 6 (going_over c.args.undefined c.args.start c.args.rest.now (record_pairs c.args.model.now c.loop-next.here) c.loop-next.s) c.loop-next.s c.loop-next.cells c.put_record.new.cells) c.in-On.is c.put_record.ensures in
+    let f = rw c.in-On.is at c.in_ok-t.ensures in
     rw c.next_at-next.ensures (next_from c.args.model.now c.loop-next.here c.loop-next.invariant.0 (sym c.kind_at.ensures ∙ c.loop-next-test.true), omega (arith, c.loop-next.invariant.1), wider _ (omega (arith, c.loop-next.invariant.1)) (row_on c.args.undefined c.args.start c.args.rest.now c.args.model.now c.loop-next.here c.loop-next.invariant.0 c.loop-next.invariant.2 (sym c.kind_at.ensures ∙ c.loop-next-test.true) c.put_record.new.cells c.in-On.t f))
-
-pub end_row-requires : goal.end_row-requires
-end_row-requires c = c.loop-next.invariant.2.within
 
 pub returns : goal.returns
 returns c =

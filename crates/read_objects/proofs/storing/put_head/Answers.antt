@@ -1,17 +1,10 @@
 -- `read_objects::put_head` meets its contract. Assumes nothing.
-use native.Mathlib.Omega.{arith}
-use lib.ListN.{length-set}
-use mir.Syntax.{w64}
-use mir.ValLaws.{to_z_pos}
-use Rattle.read_objects.proofs.Cells.{three_stored}
+use Rattle.std.proofs.Common.{◌≡◌, [], ◌∷◌, pos, rules, arith}
+use Rattle.table.proofs.Written.{written}
 use Rattle.read_objects.proofs.storing.put_head.Goals as goal
-
-pub bounds-cells-at-2 : goal.bounds-cells-at-2
-bounds-cells-at-2 c = simp length-set (omega arith)
-
-pub bounds-cells-at-3 : goal.bounds-cells-at-3
-bounds-cells-at-3 c = simp length-set (omega arith)
 
 pub returns : goal.returns
 returns c =
-    let a = c.args in rw (to_z_pos w64 a.table (omega arith), to_z_pos w64 a.start (omega arith), to_z_pos w64 a.size (omega arith)) (three_stored a.cells.now a.at _ _ _)
+    let a = c.args in
+    let new : c.copy_from_slice.new.self ≡ pos a.table ∷ pos a.part.start ∷ pos a.part.len ∷ [] = search rules in
+    written a.cells.now a.at _ c.copy_from_slice.new.self _ new (omega arith) (omega arith)

@@ -1,12 +1,8 @@
 -- `read_polylines::behind_line` meets its contract. Assumes nothing.
 use native.Mathlib.Omega.{arith}
 use mathlib.Core.Path.{refl}
-use Rattle.model_records.proofs.AtRecord.{here}
 use Rattle.read_polylines.proofs.Ways.{next_here, next_fits}
 use Rattle.read_polylines.proofs.moves.behind_line.Goals as goal
-
-pub next_at-next-requires : goal.next_at-next-requires
-next_at-next-requires c = (here _ _ _ _ _ c.requires.line.attributes.standing).room
 
 pub due_lines-due-requires : goal.due_lines-due-requires
 due_lines-due-requires c =

@@ -8,10 +8,7 @@ pub returns-then-not-is_bare : goal.returns-then-not-is_bare
 returns-then-not-is_bare c =
     let i = c.is_bare.ensures in
     let g = c.args in
-    λ a rooms text fs start points fits d. refused_here _ _ _ _ _ points 11 2 (λ x. ended_extra _ rooms text (way_of g.model.now a g.polyline) fs x _ start d _ (i start) (c.if-not-is_bare.true))
-
-pub overflow_sub-state : goal.overflow_sub-state
-overflow_sub-state c = omega (arith, c.requires.line_ready.line.first)
+    λ a rooms text fs start points fits d. refused_here _ _ _ _ _ points _ (λ x. ended_extra _ rooms text (way_of g.model.now a g.polyline) fs x _ start d _ (i start) (c.if-not-is_bare.true))
 
 pub put_line-requires : goal.put_line-requires
 put_line-requires c =

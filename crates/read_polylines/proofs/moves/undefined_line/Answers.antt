@@ -7,13 +7,13 @@ use Rattle.read_polylines.proofs.moves.undefined_line.Goals as goal
 pub returns-then-not-optional : goal.returns-then-not-optional
 returns-then-not-optional c =
     let g = c.args in
-    λ a rooms text fs start cells points o d. refused_here _ _ _ _ cells points 12 1 (λ x. mandatory _ rooms text (way_of g.model.now a g.polyline) fs x (o ∙ c.if-not-optional.true))
+    λ a rooms text fs start cells points o d. refused_here _ _ _ _ cells points _ (λ x. mandatory _ rooms text (way_of g.model.now a g.polyline) fs x (o ∙ c.if-not-optional.true))
 
 pub returns-then-not-is_bare : goal.returns-then-not-is_bare
 returns-then-not-is_bare c =
     let i = c.is_bare.ensures in
     let g = c.args in
-    λ a rooms text fs start cells points o d. refused_here _ _ _ _ cells points 11 2 (λ x. undefined_extra _ rooms text (way_of g.model.now a g.polyline) fs x _ start d _ (i start) (o ∙ c.if-not-optional.false) (c.if-not-is_bare.true))
+    λ a rooms text fs start cells points o d. refused_here _ _ _ _ cells points _ (λ x. undefined_extra _ rooms text (way_of g.model.now a g.polyline) fs x _ start d _ (i start) (o ∙ c.if-not-optional.false) (c.if-not-is_bare.true))
 
 pub returns : goal.returns
 returns c =

@@ -1,49 +1,72 @@
 -- `read_step::object_line` meets its contract. Assumes nothing.
-use Prim.Native.Nat.{◌-◌}
-use mathlib.Core.Path.{◌∙◌}
+use Prim.Native.Nat.{ℕ, ◌-◌}
+use mathlib.Core.List.{List}
+use mathlib.Core.Path.{◌≡◌, refl, ap, ◌∙◌}
+use Rattle.std.proofs.Common.{Some, rules}
+use Rattle.read_frame.specs.Codes.{place_or_0}
+use Rattle.read_frame.specs.declared.codes.Code.TheVariants.{Obje}
+use Rattle.read_frame.proofs.Words.{same_code}
 use native.Mathlib.Omega.{arith}
 use Rattle.meaning.specs.Reading.{stretch}
 use Rattle.model_records.specs.Records.{model_at}
 use Rattle.read_state.specs.Meaning.{content_of}
-use Rattle.read_step.proofs.Stepping.{model_short, behind_within, adds_as, table_open, object_here, object_none}
+use Rattle.read_step.proofs.Stepping.{behind_within, adds_as, model_short, table_open, object_here, object_none}
+use Rattle.read_state.proofs.Same.{kept}
 use Rattle.read_step.proofs.line.object_line.Goals as goal
 
-pub returns-then-head-ne-OBJE : goal.returns-then-head-ne-OBJE
-returns-then-head-ne-OBJE c =
+pub returns-then-ne : goal.returns-then-ne
+returns-then-ne c =
     let a = c.args in
-    let b = a.model.now in
-    let l = stretch a.text.now a.at (a.end - a.at) in
-    let m = c.behind_objects in
+    let b : List ℕ = a.model.now.bytes.now in
+    let n = a.line.now in
+    let u = a.buffers.now in
+    let l : List ℕ = stretch n.text.now n.at (n.end - n.at) in
+    let m = c.behind_objects.ensures.meant in
+    let h = rw c.bytes.ensures at c.head_of-head.ensures in
     record {
-      step = λ k rooms marks points er ec fits.
-          let x = content_of k a.state marks a.rows.now a.cells.now points in
-          c.plain_step.ensures.step b k marks a.rows.now a.cells.now points
-          ∙ m.ensures.meant rooms a.text.now a.at x
-          ∙ object_none (model_at b) rooms a.text.now l c.head_of-head.result c.head_of-head.ensures a.table a.at x c.if-head-ne-OBJE.true;
-      holds = λ marks points g. c.plain_step.ensures.holds b a.text.now a.seed marks a.rows.now a.cells.now points a.index.now m.ensures.held g;
+      row = record {
+        step = λ k rooms marks points er ec fits.
+            let x = content_of k a.state marks u.rows.now u.cells.now points in
+            c.plain_step.ensures.step b k marks u.rows.now u.cells.now points
+            ∙ rw c.bytes-then-ne.ensures at (m rooms n.text.now n.at x)
+            ∙ object_none (model_at b) rooms n.text.now l c.head_of-head.result h a.table n.at x (λ q. let same = rw (same_code c.head_of-head.result.code Obje q) at c.ne.ensures in search rules);
+        holds = λ marks points g. c.plain_step.ensures.holds b n.text.now u.seed marks u.rows.now u.cells.now points u.index.now c.behind_objects.ensures.held g;
+      };
+      same = kept u;
+      others = (refl, refl);
     }
 
 pub object_fields-requires : goal.object_fields-requires
 object_fields-requires c =
     let a = c.args in
-    let b = a.model.now in
+    let b : List ℕ = a.model.now.bytes.now in
+    let n = a.line.now in
     let p = c.requires in
-    let h = c.head_of-head in
-    let t = p.at_le_end in
+    let h = rw c.bytes.ensures at c.head_of-head.ensures in
+    let code = c.head_of-head.result.code in
+    let same : code ≡ Some Obje = search rules in
     record {
-      table_holds = table_open b a.shape a.places.now a.table _ p.records_placed p.table_lt_tables c.attributes_at-first.ensures;
-      behind_bound = (behind_within a.text.now a.at a.end h.result.behind t.0 t.1 h.ensures.within, t.1, t.2);
-      model_len_bound = (model_short b p.records_placed.good, p.records_placed.undefined);
-      fields_behind = (h.ensures.some (omega (arith, c.if-head-ne-OBJE.false)) a.at, h.ensures.others a.at);
+      model_len_bound = (model_short b p.placed.good, p.placed.undefined);
+      table_holds = table_open b a.model.now.shape a.model.now.places a.table _ p.placed p.table_lt_tables c.attributes_at.ensures;
+      behind_bound = behind_within n.text.now n.at n.end c.head_of-head.result.behind n.inside.0 n.inside.1 h.within;
+      fields_behind = (h.some (rw same (omega arith)) n.at, h.others n.at);
       indexed_table = p.indexed_table;
     }
 
 pub returns : goal.returns
 returns c =
     let a = c.args in
-    let b = a.model.now in
-    let l = stretch a.text.now a.at (a.end - a.at) in
-    let h = c.head_of-head in
-    adds_as b a.text.now a.seed a.state _ _ a.rows.now _ a.cells.now _ a.index.now _ _
-    (λ rooms x. object_here (model_at b) rooms a.text.now l h.result h.ensures a.table a.at x c.if-head-ne-OBJE.false)
-    c.object_fields.ensures
+    let b : List ℕ = a.model.now.bytes.now in
+    let n = a.line.now in
+    let u = a.buffers.now in
+    let l : List ℕ = stretch n.text.now n.at (n.end - n.at) in
+    let h = rw c.bytes.ensures at c.head_of-head.ensures in
+    let code = c.head_of-head.result.code in
+    let same : code ≡ Some Obje = search rules in
+    let f = c.object_fields.ensures in
+    record {
+      row = adds_as b n.text.now u.seed a.state _ _ u.rows.now _ u.cells.now _ u.index.now _ _
+          (λ rooms x. object_here (model_at b) rooms n.text.now l c.head_of-head.result h a.table n.at x (ap place_or_0 same)) f.row;
+      same = f.same;
+      others = f.others;
+    }

@@ -7,21 +7,9 @@ use Rattle.read_text.specs.Text.{line_end}
 use Rattle.read_text.proofs.TextLines.{here, more, none}
 use Rattle.read_text.proofs.ends.end_of_line.Goals as goal
 
-pub loop-i-init : goal.loop-i-init
-loop-i-init c = omega arith
-
-pub bounds-text-i : goal.bounds-text-i
-bounds-text-i c = omega arith
-
 pub returns-then-text-i-eq10 : goal.returns-then-text-i-eq10
 returns-then-text-i-eq10 c =
-    let i = c.loop-i.i in let s = c.args.text.now in omega (arith, here s i (omega arith) c.if-text-i-eq10.true)
-
-pub overflow_add-i : goal.overflow_add-i
-overflow_add-i c = omega arith
-
-pub loop-i-smaller : goal.loop-i-smaller
-loop-i-smaller c = omega arith
+    let i = c.loop-i.i in let s = c.args.text.now in record { end = omega (arith, here s i (omega arith) c.if-text-i-eq10.true); within = omega arith }
 
 pub loop-i-preserved : goal.loop-i-preserved
 loop-i-preserved c =
@@ -29,4 +17,4 @@ loop-i-preserved c =
 
 pub returns : goal.returns
 returns c =
-    let s = c.args.text.now in let e : c.loop-i.i ≡ length s = omega arith in omega (arith, ap (λ (k : ℕ). line_end (drop k s)) e ∙ none s)
+    let s = c.args.text.now in let e : c.loop-i.i ≡ length s = omega arith in record { end = omega (arith, ap (λ (k : ℕ). line_end (drop k s)) e ∙ none s); within = omega arith }

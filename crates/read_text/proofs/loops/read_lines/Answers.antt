@@ -1,52 +1,42 @@
 -- `read_text::loops::read_lines` meets its contract: the loop keeps `Going`. Assumes nothing.
 use native.Mathlib.Omega.{arith}
+use mathlib.Core.Path.{◌≡◌}
+use Rattle.std.proofs.Common.{rules}
+use Rattle.std.proofs.lemmas.Result.{err_from_is_err_and}
+use Rattle.base.proofs.Results.{mapped_ok, mapped_err}
+use Rattle.read_state.proofs.Same.{kept, joined}
 use Rattle.read_text.proofs.Going.{begin, again, stops, ends}
 use Rattle.read_text.proofs.loops.read_lines.Goals as goal
 
 pub loop-at-init : goal.loop-at-init
 loop-at-init c =
     let p = c.requires in
-    (omega arith, begin _ _ _ _ _ _ _ _ _ _ p.prepared p.marks_value.0 p.marks_value.1)
+    (omega arith, kept c.args.buffers.now, begin _ _ _ _ _ _ _ _ p.prepared p.marks_value.0 p.marks_value.1)
 
-pub end_of_line-end-requires : goal.end_of_line-end-requires
-end_of_line-end-requires c = omega arith
-
-pub step_line-step-requires : goal.step_line-step-requires
-step_line-step-requires c =
+pub returns-in_err-s : goal.returns-in_err-s
+returns-in_err-s c =
     let e = c.end_of_line-end.ensures in
-    record {
-      prepared = c.loop-at.invariant.1.prepared;
-      at_le_end = (omega (arith, e.end), e.within, c.requires.text_len_bound);
-      holds = c.loop-at.invariant.1.holds;
-    }
-
-pub returns-in-No : goal.returns-in-No
-returns-in-No c =
-    let e = c.end_of_line-end.ensures in
-    let t = c.in-No.ensures in
-    λ rooms ro ce po. stops _ _ _ _ _ c.loop-at.invariant.1 _ (omega arith) e.end e.within _ _ t rooms (record { row_room = ro; cell_room = ce; point_room = po })
-
-pub overflow_add-line : goal.overflow_add-line
-overflow_add-line c = omega (arith, c.loop-at.invariant.1.numbered, c.requires.text_len_bound)
-
-pub overflow_add-at : goal.overflow_add-at
-overflow_add-at c = omega (arith, c.end_of_line-end.ensures.within, c.requires.text_len_bound)
-
-pub loop-at-smaller : goal.loop-at-smaller
-loop-at-smaller c =
-    let e = c.end_of_line-end.ensures in
-    omega (arith, e.end, e.within)
-
-pub at_end-requires : goal.at_end-requires
-at_end-requires c = tt
+    let p = err_from_is_err_and c.from_residual.result c.from_residual.ensures.1 in
+    let m = mapped_err _ c.step_line-step.result c.map_err.result c.map_err.ensures.cases c.in_err-s.field-0.0 c.in_err-s.was in
+    let answer = m.2 in
+    let refused : c.in_err-s.field-0.0 ≡ record { reason = m.0.reason; first = c.loop-at.number; second = m.0.field } = search rules in
+    let t = rw (m.1, c.loop-at.invariant.1.seed) at c.step_line-step.ensures.steps in
+    rw (p.1, p.2, refused) (record {
+      ran = λ rooms ro ce po. stops _ _ _ c.loop-at.invariant.2 _ (omega arith) e.end e.within m.0 t rooms (record { row_room = ro; cell_room = ce; point_room = po });
+      same = joined c.loop-at.invariant.1 c.step_line-step.ensures.same;
+    })
 
 pub returns : goal.returns
 returns c =
-    λ rooms ro ce po. ends _ _ _ _ _ c.loop-at.invariant.1 (omega arith) c.at_end.result c.at_end.ensures rooms (record { row_room = ro; cell_room = ce; point_room = po })
+    record {
+      ran = λ rooms ro ce po. ends _ _ _ c.loop-at.invariant.2 (omega arith) c.at_end.result c.at_end.ensures rooms (record { row_room = ro; cell_room = ce; point_room = po });
+      same = c.loop-at.invariant.1;
+    }
 
 pub loop-at-preserved : goal.loop-at-preserved
 loop-at-preserved c =
     let e = c.end_of_line-end.ensures in
-    let k = c.step_line-step.auto in
-    let t = c.in-Go.ensures in
-    (omega (arith, e.within), again _ _ _ _ _ c.loop-at.invariant.1 _ (omega arith) e.end e.within _ k.marks k.rows k.cells k.points k.index t)
+    let k = c.step_line-step.ensures.same in
+    let m = mapped_ok _ c.step_line-step.result c.map_err.result c.map_err.ensures.cases _ c.in_ok-s.was in
+    let t = rw (m, c.loop-at.invariant.1.seed) at c.step_line-step.ensures.steps in
+    (omega (arith, e.within), joined c.loop-at.invariant.1 k, again _ _ _ c.loop-at.invariant.2 _ (omega arith) e.end e.within _ k.marks.size k.rows.size k.cells.size k.points.size k.index.size t)

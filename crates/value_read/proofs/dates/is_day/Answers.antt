@@ -4,12 +4,17 @@ use borrow.Author.Tests.{le-leb, lt-leb}
 use Rattle.meaning.specs.Value.{is_day}
 use Rattle.value_read.proofs.dates.is_day.Goals as goal
 
-pub returns-in-1-to-12 : goal.returns-in-1-to-12
+pub returns-then-day-ge1 : goal.returns-then-day-ge1
 unfolding is_day
-returns-in-1-to-12 c =
+returns-then-day-ge1 c =
     let month = c.args.month in
-    let tested = c.both.ensures in
-    rw (le-leb 1 month (omega arith), le-leb month 12 (omega arith), tested, c.days_of_month.ensures)
+    rw (le-leb 1 month (omega arith), le-leb month 12 (omega arith), le-leb 1 c.args.day (omega arith), c.days_of_month.ensures)
+
+pub returns-else-day-ge1 : goal.returns-else-day-ge1
+unfolding is_day
+returns-else-day-ge1 c =
+    let month = c.args.month in
+    rw (le-leb 1 month (omega arith), le-leb month 12 (omega arith), lt-leb 1 c.args.day (omega arith))
 
 pub returns-in_default : goal.returns-in_default
 unfolding is_day

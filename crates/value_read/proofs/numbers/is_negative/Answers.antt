@@ -1,11 +1,7 @@
 -- `value_read::numbers::is_negative` meets its contract. Assumes nothing.
-use native.Mathlib.Omega.{arith}
-use mathlib.Core.Path.{sym}
-use Rattle.base.proofs.Signs.{begins_none, begins_first}
+use mathlib.Core.Path.{◌∙◌}
+use Rattle.value_read.proofs.Shapes.{first_begins}
 use Rattle.value_read.proofs.numbers.is_negative.Goals as goal
 
-pub returns-then-field-eq0 : goal.returns-then-field-eq0
-returns-then-field-eq0 c = sym (begins_none 0x2d _ (omega arith))
-
-pub returns-else-field-eq0 : goal.returns-else-field-eq0
-returns-else-field-eq0 c = sym (begins_first 0x2d _ (omega arith))
+pub returns : goal.returns
+returns c = c.starts_with.ensures.value ∙ first_begins 0x2d c.args.field.now

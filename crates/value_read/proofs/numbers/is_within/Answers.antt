@@ -1,26 +1,25 @@
 -- `value_read::numbers::is_within` meets its contract. Assumes nothing.
-use mathlib.Core.Bool.{true, false}
-use Rattle.meaning.specs.Value.{within}
-use Rattle.base.proofs.Signs.{plain}
+use mir.Syntax.{w64}
+use mir.Val.{SFits}
+use mir.ValLaws.{to_z-of_z}
+use Rattle.std.proofs.Common.{rules}
+use Rattle.model_records.specs.Components.{component_of}
+use Rattle.value_read.proofs.Shapes.{within_is}
 use Rattle.value_read.proofs.numbers.is_within.Goals as goal
 
-pub returns-then-v-component : goal.returns-then-v-component
-unfolding within
-returns-then-v-component c =
-    rw (plain c.args.v c.args.component.least true c.ranges.v (record { sfits = c.struct_told-1.given.1.0.1 }) c.if-v-component.true)
-
 pub returns-then-component-v : goal.returns-then-component-v
-unfolding within
 returns-then-component-v c =
-    rw (
-      plain c.args.v c.args.component.least false c.ranges.v (record { sfits = c.struct_told-else-v-component-1.given.1.0.1 }) c.if-v-component.false,
-      plain c.args.component.greatest c.args.v true (record { sfits = c.struct_told-else-v-component-1.given.1.1.0.1 }) c.ranges.v c.if-component-v.true,
-    )
+    let v = c.args.v in
+    let b = component_of c.args.component in
+    let l : SFits w64 b.least = search rules in
+    let g : SFits w64 b.greatest = search rules in
+    let t = rw (to_z-of_z w64 b.least l, to_z-of_z w64 v c.ranges.v) at c.if-component-v.true in
+    rw (to_z-of_z w64 v c.ranges.v, to_z-of_z w64 b.greatest g, within_is b v, t)
 
 pub returns-else-component-v : goal.returns-else-component-v
-unfolding within
 returns-else-component-v c =
-    rw (
-      plain c.args.v c.args.component.least false c.ranges.v (record { sfits = c.struct_told-else-v-component-1.given.1.0.1 }) c.if-v-component.false,
-      plain c.args.component.greatest c.args.v false (record { sfits = c.struct_told-else-v-component-1.given.1.1.0.1 }) c.ranges.v c.if-component-v.false,
-    )
+    let v = c.args.v in
+    let b = component_of c.args.component in
+    let l : SFits w64 b.least = search rules in
+    let t = rw (to_z-of_z w64 b.least l, to_z-of_z w64 v c.ranges.v) at c.if-component-v.false in
+    rw (to_z-of_z w64 b.least l, to_z-of_z w64 v c.ranges.v, within_is b v, t)

@@ -3,11 +3,8 @@ use native.Mathlib.Omega.{arith}
 use mir.Syntax.{w64}
 use mir.ValLaws.{to_z_pos}
 use Rattle.meaning.specs.Bytes.{choose}
-use Rattle.base.proofs.Signs.{minus_fits, minus_is}
+use Rattle.base.proofs.Signs.{minus_is}
 use Rattle.value_read.proofs.numbers.with_sign.Goals as goal
-
-pub overflow_sub-result : goal.overflow_sub-result
-overflow_sub-result c = minus_fits c.args.n c.requires
 
 pub returns-then-negative : goal.returns-then-negative
 unfolding choose

@@ -17,4 +17,4 @@ returns-then-longest-field c =
 pub returns : goal.returns
 unfolding text_of refuse
 returns c =
-    rw (sym c.every_text_byte.ensures ∙ c.if-not-every_text_byte.false, le-ltb _ _ c.if-longest-field.false) c.pair_stretch.ensures
+    rw (sym c.every_text_byte.ensures ∙ c.if-not-every_text_byte.false, le-ltb _ _ c.if-longest-field.false) c.stretch.ensures

@@ -7,7 +7,6 @@ use mathlib.Core.List.{List}
 use native.Mathlib.Omega.{arith}
 use lib.Dec.{eqb}
 use lib.ListN.{length, take, get_or}
-use lib.Seq.{take_all}
 use borrow.Author.Tests.{eq-eqb, ne_eqb}
 use Rattle.meaning.specs.Bytes.{same}
 use Rattle.meaning.specs.Value.{same_identification}
@@ -15,6 +14,7 @@ use Rattle.base.proofs.Scan.{and_false, same_length, same_last}
 use Rattle.value_read.proofs.stretches.same_identification.Goals as goal
 
 -- where the bytes at j are equal, the first i = j + 1 bytes compare as the first j do
+
 both_left : (a b : List ℕ) (i j : ℕ) → i ≡ suc j → j < length a → j < length b
     → eqb (get_or a j 0) (get_or b j 0) ≡ true → same (take i a) (take i b) ≡ same a b
     → same (take j a) (take j b) ≡ same a b
@@ -24,24 +24,6 @@ both_left a b i j e h g equal inv =
 pub returns-then-a-b : goal.returns-then-a-b
 unfolding same_identification
 returns-then-a-b c = sym (same_length c.args.a.now c.args.b.now (λ e. omega arith))
-
-pub loop-i-init : goal.loop-i-init
-loop-i-init c =
-    let a = c.args.a.now in
-    let b = c.args.b.now in
-    (omega arith, rw (take_all (length a) a (omega arith), take_all (length a) b (omega arith)))
-
-pub overflow_sub-i : goal.overflow_sub-i
-overflow_sub-i c = omega arith
-
-pub bounds-a-i : goal.bounds-a-i
-bounds-a-i c = omega arith
-
-pub overflow_sub-i-in-loop-i : goal.overflow_sub-i-in-loop-i
-overflow_sub-i-in-loop-i c = omega arith
-
-pub bounds-b-i : goal.bounds-b-i
-bounds-b-i c = omega arith
 
 pub returns-then-a-i : goal.returns-then-a-i
 unfolding same_identification
@@ -53,15 +35,6 @@ returns-then-a-i c =
     ∙ sym (same_last a b i (i - 1) (omega arith) (omega arith) (omega arith))
     ∙ c.loop-i.invariant.1
 
-pub overflow_sub-i-in-loop-i-2 : goal.overflow_sub-i-in-loop-i-2
-overflow_sub-i-in-loop-i-2 c = omega arith
-
-pub bounds-a-i-in-loop-i : goal.bounds-a-i-in-loop-i
-bounds-a-i-in-loop-i c = omega arith
-
-pub bounds-b-i-in-loop-i : goal.bounds-b-i-in-loop-i
-bounds-b-i-in-loop-i c = omega arith
-
 pub returns-then-a-i-2 : goal.returns-then-a-i-2
 unfolding same_identification
 returns-then-a-i-2 c =
@@ -72,9 +45,6 @@ returns-then-a-i-2 c =
     sym (and_false (same (take (i - 2) a) (take (i - 2) b)) (ne_eqb _ _ c.if-a-i-2.true))
     ∙ sym (same_last a b (i - 1) (i - 2) (omega arith) (omega arith) (omega arith))
     ∙ both_left a b i (i - 1) (omega arith) (omega arith) (omega arith) equal c.loop-i.invariant.1
-
-pub loop-i-smaller : goal.loop-i-smaller
-loop-i-smaller c = omega arith
 
 pub loop-i-preserved : goal.loop-i-preserved
 loop-i-preserved c =
@@ -92,12 +62,6 @@ unfolding same_identification same
 returns-then-i-eq0 c =
     let none : c.loop-i.i ≡ 0 = omega arith in
     rw none at c.loop-i.invariant.1
-
-pub bounds-a-0 : goal.bounds-a-0
-bounds-a-0 c = omega arith
-
-pub bounds-b-0 : goal.bounds-b-0
-bounds-b-0 c = omega arith
 
 pub returns : goal.returns
 unfolding same_identification same

@@ -9,4 +9,4 @@ returns c =
     let a = c.args in
     let p = c.put_bytes-line in
     let q = c.end_line in
-    renamed _ _ a.put a.out.now _ q.result (alone_line a.style.mark a.style.width a.code.now) (q.ensures.ends a.code.now a.put a.out.now refl c.requires.0 p.ensures)
+    renamed _ _ a.put a.out.now _ q.result (alone_line a.style.mark a.style.width a.code.now) (q.ensures.ends a.code.now a.put a.out.now refl c.requires p.ensures)

@@ -6,4 +6,4 @@ use Rattle.write_judge.proofs.cells.judge_bytes.Goals as goal
 pub returns : goal.returns
 unfolding is_identification is_undefined is_undefined_twice
 returns c =
-    rw (c.both-2.ensures, c.both.ensures, c.is_identification.ensures, c.is_undefined-once.ensures 0, c.is_undefined_twice-twice.ensures 0) (all_three _ _ _)
+    rw (c.is_identification.ensures, c.is_undefined.ensures 0, c.is_undefined_twice.ensures 0) (all_three _ _ _)

@@ -1,27 +1,15 @@
--- `write_judge::are_marks` meets its contract: what is found so far and what the rest says make the answer. Assumes nothing.
-use mathlib.Core.Path.{refl}
-use native.Mathlib.Omega.{arith}
+-- `write_judge::marks::are_marks` meets its contract. Assumes nothing.
+use mathlib.Core.Path.{◌∙◌}
+use Rattle.std.proofs.Common.{rules}
+use borrow.Author.Tests.{tests}
+use Rattle.std.proofs.lemmas.Iterator.{YieldsList-from_slice}
+use Rattle.std.proofs.lemmas.Iterator.Search.{all_from_yields_List}
 use Rattle.meaning.specs.Judge.{is_mark}
-use Rattle.base.proofs.Scan.{every_turn, every_end}
+use Rattle.base.proofs.Scan.{every_all}
 use Rattle.write_judge.proofs.marks.are_marks.Goals as goal
 
-pub loop-i-init : goal.loop-i-init
-loop-i-init c = (omega arith, refl)
-
-pub bounds-marks-i : goal.bounds-marks-i
-bounds-marks-i c = omega arith
-
-pub overflow_add-i : goal.overflow_add-i
-overflow_add-i c = omega arith
-
-pub loop-i-smaller : goal.loop-i-smaller
-loop-i-smaller c = omega arith
-
-pub loop-i-preserved : goal.loop-i-preserved
-unfolding is_mark
-loop-i-preserved c =
-    (omega arith, rw c.both-all.ensures (every_turn is_mark c.args.marks.now c.loop-i.i c.loop-i.all (omega arith) c.loop-i.invariant.1))
-
 pub returns : goal.returns
+unfolding is_mark
 returns c =
-    every_end is_mark c.args.marks.now c.loop-i.i c.loop-i.all c.loop-i-test.false c.loop-i.invariant.1
+    all_from_yields_List is_mark _ _ _ c.all.ensures.ran (YieldsList-from_slice c.args.marks.now cc) (λ x b q k. search (rules, tests))
+    ∙ every_all is_mark c.args.marks.now

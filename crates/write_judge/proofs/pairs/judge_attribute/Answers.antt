@@ -1,67 +1,62 @@
 -- `write_judge::pairs::judge_attribute` meets its contract. Assumes nothing.
-use Prim.Native.Nat.{◌+◌}
 use native.Mathlib.Omega.{arith}
 use mathlib.Core.Path.{ap, ◌∙◌}
 use mathlib.Core.Bool.{Bool}
 use lib.IntN.{pos}
-use lib.ListN.{get_or}
+use lib.ListN.{length, get_or}
+use Prim.Native.Nat.{◌+◌}
 use mir.Syntax.{w64}
 use mir.ValLaws.{to_z-of_z}
-use Rattle.meaning.specs.Row.{OfAttribute, OfLine}
+use Rattle.meaning.specs.Row.{OfAttribute, OfLine, pairs_of_type}
 use Rattle.meaning.specs.Judge.{fine_if, judge_pair}
-use Rattle.model_records.specs.Components.{components_of}
-use Rattle.model_records.specs.Attributes.{type_of}
-use Rattle.table.specs.Contents.{content_in}
-use Rattle.write_judge.proofs.Values.{type_coordinate}
-use Rattle.write_judge.proofs.Walk.{coordinate_counted, line_pair, own_pair, size_one, pair_alone}
+use Rattle.table.specs.Contents.{content}
+use Rattle.write_judge.proofs.Walk.{coordinate_size, own_pair, pair_alone, fine_told}
 use Rattle.write_judge.proofs.pairs.judge_attribute.Goals as goal
 
 pub bounds-cells-cell : goal.bounds-cells-cell
-bounds-cells-cell c =
-    omega (arith, c.requires.attribute_in_bounds, size_one c.args.attribute c.requires.components_of_kind (λ e. omega (arith, e, c.in-8.is)) (λ e. omega (arith, e, c.in-8.is)))
+unfolding pairs_of_type
+bounds-cells-cell c = omega (arith, rw c.in-Line.is at c.requires.attribute_in_bounds)
 
-pub bounds-cells-cell-in-8 : goal.bounds-cells-cell-in-8
-bounds-cells-cell-in-8 c =
-    omega (arith, c.requires.attribute_in_bounds, size_one c.args.attribute c.requires.components_of_kind (λ e. omega (arith, e, c.in-8.is)) (λ e. omega (arith, e, c.in-8.is)))
-
-pub judge_line-requires : goal.judge_line-requires
-judge_line-requires c =
-    let l = c.requires.components_of_kind.line c.in-8.is in
-    record {
-      le_count = (l.0, l.1, c.requires.components_of_kind.room);
-      first_in_bounds = c.requires.first_in_bounds;
-    }
+pub bounds-cells-cell-in-Line : goal.bounds-cells-cell-in-Line
+unfolding pairs_of_type
+bounds-cells-cell-in-Line c = omega (arith, rw c.in-Line.is at c.requires.attribute_in_bounds)
 
 pub judge_coordinate-requires : goal.judge_coordinate-requires
 judge_coordinate-requires c =
-    let l = coordinate_counted c.args.attribute c.requires.components_of_kind (omega arith) (omega arith) in
-    record {
-      le_count = (l.0, l.1, c.requires.components_of_kind.room);
-      count_in_bounds = omega (arith, c.requires.attribute_in_bounds, l.2);
-    }
+    let a = c.args.attribute in
+    omega (arith, rw c.in-Coordinate.is at c.requires.attribute_in_bounds, coordinate_size a.optional c.in-Coordinate.components (search arith))
 
 pub bounds-cells-cell-in_default : goal.bounds-cells-cell-in_default
 bounds-cells-cell-in_default c =
-    omega (arith, c.requires.attribute_in_bounds, size_one c.args.attribute c.requires.components_of_kind (grind arith) (grind arith))
+    let a = c.args.attribute in
+    omega (arith, c.requires.attribute_in_bounds, ap length (own_pair a.optional a.kind c.in_default.not-Coordinate c.in_default.not-Line))
 
 pub bounds-cells-cell-in_default-2 : goal.bounds-cells-cell-in_default-2
 bounds-cells-cell-in_default-2 c =
-    omega (arith, c.requires.attribute_in_bounds, size_one c.args.attribute c.requires.components_of_kind (grind arith) (grind arith))
+    let a = c.args.attribute in
+    omega (arith, c.requires.attribute_in_bounds, ap length (own_pair a.optional a.kind c.in_default.not-Coordinate c.in_default.not-Line))
 
-pub returns-in-8 : goal.returns-in-8
-returns-in-8 c =
-    λ marks. rw (line_pair c.args.attribute c.requires.components_of_kind c.in-8.is)
-    (rw (to_z-of_z w64 (get_or c.args.cells.now c.args.cell (pos 0)) (record { sfits = c.judge_line-arg-1.given }), to_z-of_z w64 (get_or c.args.cells.now (c.args.cell + 1) (pos 0)) (record { sfits = c.judge_line-arg-in-8-1.given })) at (c.judge_line.ensures c.args.undefined c.args.text.now marks c.args.rows.now c.args.cells.now)
-    ∙ pair_alone c.args.undefined c.args.text.now (content_in marks c.args.rows.now c.args.cells.now c.args.points.now) _ _ (OfLine _ _ (components_of c.args.attribute.components)) c.args.cell c.args.cells.now)
+pub returns-in-Line : goal.returns-in-Line
+unfolding pairs_of_type
+returns-in-Line c =
+    let a = c.args in
+    let x = to_z-of_z w64 (get_or a.table.now.cells.now a.cell (pos 0)) (record { sfits = omega arith }) in
+    let y = to_z-of_z w64 (get_or a.table.now.cells.now (a.cell + 1) (pos 0)) (record { sfits = omega arith }) in
+    rw c.in-Line.is (rw (x, y) at (c.judge_line.ensures a.undefined)
+    ∙ pair_alone a.undefined a.table.now.text.now (content a.table.now) _ _ (OfLine _ _ _) a.cell a.table.now.cells.now)
 
-pub returns-in-2 : goal.returns-in-2
-returns-in-2 c =
-    λ marks. rw (type_coordinate c.args.attribute (omega arith) (omega arith), c.fine_if.ensures)
-    (c.judge_coordinate.ensures c.args.undefined c.args.first c.args.text.now (content_in marks c.args.rows.now c.args.cells.now c.args.points.now))
+pub returns-in-Coordinate : goal.returns-in-Coordinate
+returns-in-Coordinate c =
+    let a = c.args in
+    rw (c.in-Coordinate.is, fine_told _ _ _ c.then_some.ensures)
+    (c.judge_coordinate.ensures a.undefined a.first a.table.now.text.now (content a.table.now))
 
 pub returns-in_default : goal.returns-in_default
 unfolding judge_pair
 returns-in_default c =
-    λ marks. rw (own_pair c.args.attribute c.requires.components_of_kind (grind arith) (grind arith) (grind arith), c.fine_if-in_default.ensures)
-    (ap (λ (x : Bool). fine_if x c.args.first) (rw (to_z-of_z w64 (get_or c.args.cells.now c.args.cell (pos 0)) (record { sfits = c.judge_own-arg-1.given }), to_z-of_z w64 (get_or c.args.cells.now (c.args.cell + 1) (pos 0)) (record { sfits = c.judge_own-arg-in_default-1.given })) at (c.judge_own.ensures marks c.args.points.now))
-    ∙ pair_alone c.args.undefined c.args.text.now (content_in marks c.args.rows.now c.args.cells.now c.args.points.now) _ c.args.first (OfAttribute _ (type_of c.args.attribute)) c.args.cell c.args.cells.now)
+    let a = c.args in
+    let x = to_z-of_z w64 (get_or a.table.now.cells.now a.cell (pos 0)) (record { sfits = omega arith }) in
+    let y = to_z-of_z w64 (get_or a.table.now.cells.now (a.cell + 1) (pos 0)) (record { sfits = omega arith }) in
+    rw (own_pair a.attribute.optional a.attribute.kind c.in_default.not-Coordinate c.in_default.not-Line, fine_told _ _ _ c.then_some-in_default.ensures)
+    (ap (λ (z : Bool). fine_if z a.first) (rw (x, y) at c.judge_own.ensures)
+    ∙ pair_alone a.undefined a.table.now.text.now (content a.table.now) _ a.first (OfAttribute _ _) a.cell a.table.now.cells.now)

@@ -1,5 +1,6 @@
 -- `write_judge::pairs::judge_further` meets its contract. Assumes nothing.
 use Prim.Native.Nat.{◌+◌}
+use native.Mathlib.Omega.{arith}
 use lib.IntN.{pos}
 use lib.ListN.{get_or}
 use mir.Syntax.{w64}
@@ -9,7 +10,6 @@ use Rattle.write_judge.proofs.pairs.judge_further.Goals as goal
 
 pub returns : goal.returns
 returns c =
-    λ undefined k text table. rw c.both.ensures
-    (further_is undefined text table k c.args.cell c.args.cells.now _ c.args.components.items c.args.components.count c.requires.le_count.2 _ _ _ c.requires.le_count.0
-    (rw (to_z-of_z w64 (get_or c.args.cells.now c.args.cell (pos 0)) (record { sfits = c.judge_component-arg-2-1.given }), to_z-of_z w64 (get_or c.args.cells.now (c.args.cell + 1) (pos 0)) (record { sfits = c.judge_component-arg-3-1.given })) at c.judge_component-second.ensures)
-    (c.judge_third-third.ensures undefined k text table))
+    λ undefined k text table. further_is undefined text table k c.args.cell c.args.cells.now _ c.args.components.items c.args.components.count (omega arith) _ _ _ c.args.components.counted.0
+    (rw (to_z-of_z w64 (get_or c.args.cells.now c.args.cell (pos 0)) (record { sfits = omega arith }), to_z-of_z w64 (get_or c.args.cells.now (c.args.cell + 1) (pos 0)) (record { sfits = search arith })) at c.judge_component-second.ensures)
+    (c.judge_third-third.ensures undefined k text table)

@@ -8,4 +8,4 @@ use Rattle.write_judge.proofs.pairs.judge_leaf.Goals as goal
 pub returns : goal.returns
 unfolding judge_leaf
 returns c =
-    rw (c.both-2.ensures, c.both.ensures, c.is_below.ensures, c.is_below-small.ensures, c.is_below-negative.ensures, to_z-of_z w64 c.args.b c.ranges.b) (all_three _ _ _)
+    rw (c.is_below.ensures, c.is_below-small.ensures, c.is_below-negative.ensures, to_z-of_z w64 c.args.b c.ranges.b) (all_three _ _ _)

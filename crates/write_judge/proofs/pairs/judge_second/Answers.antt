@@ -2,33 +2,29 @@
 use mir.Syntax.{w64}
 use mir.ValLaws.{to_z-of_z}
 use Rattle.write_judge.specs.Meant.{judge_second}
-use Rattle.write_judge.proofs.Values.{type_reference, type_number, type_date, type_enumeration, second_none}
+use Rattle.write_judge.proofs.Values.{second_none}
 use Rattle.write_judge.proofs.pairs.judge_second.Goals as goal
 
-pub returns-in-1 : goal.returns-in-1
+pub returns-in-Reference : goal.returns-in-Reference
 unfolding judge_second
-returns-in-1 c =
-    λ marks points. let t = to_z-of_z w64 c.args.b c.ranges.b in
-    rw (type_reference c.args.attribute c.in-1.is) (rw t at (c.judge_reference.ensures marks points))
+returns-in-Reference c =
+    let t = to_z-of_z w64 c.args.b c.ranges.b in rw c.in-Reference.is (rw t at c.judge_reference.ensures)
 
-pub returns-in-4 : goal.returns-in-4
+pub returns-in-Number : goal.returns-in-Number
 unfolding judge_second
-returns-in-4 c =
-    λ marks points. let t = to_z-of_z w64 c.args.b c.ranges.b in
-    rw (type_number c.args.attribute c.in-4.is) (rw t at c.is_within.ensures)
+returns-in-Number c =
+    let t = to_z-of_z w64 c.args.b c.ranges.b in rw c.in-Number.is (rw t at c.is_within.ensures)
 
-pub returns-in-6 : goal.returns-in-6
+pub returns-in-Date : goal.returns-in-Date
 unfolding judge_second
-returns-in-6 c =
-    λ marks points. let t = to_z-of_z w64 c.args.b c.ranges.b in
-    rw (type_date c.args.attribute c.in-6.is) (rw t at c.judge_date.ensures)
+returns-in-Date c =
+    let t = to_z-of_z w64 c.args.b c.ranges.b in rw c.in-Date.is (rw t at c.judge_date.ensures)
 
-pub returns-in-7 : goal.returns-in-7
+pub returns-in-Enumeration : goal.returns-in-Enumeration
 unfolding judge_second
-returns-in-7 c =
-    λ marks points. let t = to_z-of_z w64 c.args.b c.ranges.b in
-    rw (type_enumeration c.args.attribute c.in-7.is) (rw t at c.judge_leaf.ensures)
+returns-in-Enumeration c =
+    let t = to_z-of_z w64 c.args.b c.ranges.b in rw c.in-Enumeration.is (rw t at c.judge_leaf.ensures)
 
 pub returns-in_default : goal.returns-in_default
 returns-in_default c =
-    λ marks points. let r = c.in_default.in_default-own.rest in second_none c.args.attribute _ c.args.b r.0.0.0.1 r.0.0.1 r.0.1 r.1
+    let d = c.in_default in second_none _ c.args.b c.args.kind d.not-Reference d.not-Number d.not-Date d.not-Enumeration

@@ -4,26 +4,20 @@ use native.Mathlib.Omega.{arith}
 use mathlib.Core.Path.{sym, ap, ◌∙◌}
 use mir.Syntax.{w64}
 use mir.ValLaws.{to_z-of_z}
-use Rattle.write_judge.proofs.Signs.{size_low}
 use Rattle.write_judge.proofs.Values.{text_none, text_long, text_is_lem}
 use Rattle.write_judge.proofs.pairs.judge_text.Goals as goal
 
 pub returns-then-is_below : goal.returns-then-is_below
 returns-then-is_below c =
-    λ table. let t = to_z-of_z w64 c.args.a c.ranges.a in
-    text_none _ _ table _ c.args.a _ (sym (rw t at c.is_below.ensures) ∙ c.if-is_below.true)
-
-pub overflow_sub-size : goal.overflow_sub-size
-overflow_sub-size c =
     let t = to_z-of_z w64 c.args.a c.ranges.a in
-    omega (arith, size_low c.args.a 2 (sym (rw t at c.is_below.ensures) ∙ c.if-is_below.false), rw t at c.size_of-size.ensures)
+    text_none _ _ _ _ c.args.a _ (sym (rw t at c.is_below.ensures) ∙ c.if-is_below.true)
 
 pub returns-then-longest-size : goal.returns-then-longest-size
 returns-then-longest-size c =
-    λ table. let t = to_z-of_z w64 c.args.a c.ranges.a in
-    text_long _ _ table _ c.args.a _ (sym (rw t at c.is_below.ensures) ∙ c.if-is_below.false) (omega (arith, rw t at c.size_of-size.ensures))
+    let t = to_z-of_z w64 c.args.a c.ranges.a in
+    text_long _ _ _ _ c.args.a _ (sym (rw t at c.is_below.ensures) ∙ c.if-is_below.false) (omega (arith, rw t at c.size_of-size.ensures))
 
 pub returns : goal.returns
 returns c =
-    λ table. let t = to_z-of_z w64 c.args.a c.ranges.a in
-    rw (to_z-of_z w64 c.args.b c.ranges.b) at c.judge_stretch.ensures ∙ text_is_lem _ _ table _ c.args.a c.args.b (sym (rw t at c.is_below.ensures) ∙ c.if-is_below.false) _ (ap (λ (x : ℕ). x - 1) (rw t at c.size_of-size.ensures)) (omega arith)
+    let t = to_z-of_z w64 c.args.a c.ranges.a in
+    rw (to_z-of_z w64 c.args.b c.ranges.b) at c.judge_stretch.ensures ∙ text_is_lem _ _ _ _ c.args.a c.args.b (sym (rw t at c.is_below.ensures) ∙ c.if-is_below.false) _ (ap (λ (x : ℕ). x - 1) (rw t at c.size_of-size.ensures)) (omega arith)

@@ -10,9 +10,9 @@ use Rattle.write_judge.proofs.pairs.judge_third.Goals as goal
 
 pub returns-then-components-eq3 : goal.returns-then-components-eq3
 returns-then-components-eq3 c =
-    λ undefined k text table. third_is undefined text table k c.args.cell c.args.cells.now _ c.args.components.items c.args.components.count c.requires.le_count.2 _ _ c.if-components-eq3.true
-    (rw (to_z-of_z w64 (get_or c.args.cells.now c.args.cell (pos 0)) (record { sfits = c.judge_component-arg-then-components-eq3-1.given }), to_z-of_z w64 (get_or c.args.cells.now (c.args.cell + 1) (pos 0)) (record { sfits = c.judge_component-arg-then-components-eq3-2-1.given })) at c.judge_component.ensures)
+    λ undefined k text table. third_is undefined text table k c.args.cell c.args.cells.now _ c.args.components.items c.args.components.count (omega arith) _ _ c.if-components-eq3.true
+    (rw (to_z-of_z w64 (get_or c.args.cells.now c.args.cell (pos 0)) (record { sfits = omega arith }), to_z-of_z w64 (get_or c.args.cells.now (c.args.cell + 1) (pos 0)) (record { sfits = omega arith })) at c.judge_component.ensures)
 
 pub returns-else-components-eq3 : goal.returns-else-components-eq3
 returns-else-components-eq3 c =
-    λ undefined k text table. third_none undefined text table k c.args.cell c.args.cells.now c.args.components.items c.args.components.count c.requires.le_count.2 _ (omega (arith, c.requires.le_count, c.if-components-eq3.false))
+    λ undefined k text table. third_none undefined text table k c.args.cell c.args.cells.now c.args.components.items c.args.components.count (omega arith) _ (omega (arith, c.args.components.counted, c.if-components-eq3.false))

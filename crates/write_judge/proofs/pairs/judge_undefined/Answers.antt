@@ -6,4 +6,4 @@ use Rattle.write_judge.proofs.pairs.judge_undefined.Goals as goal
 
 pub returns : goal.returns
 unfolding judge_undefined
-returns c = rw (c.both.ensures, c.is_number.ensures, to_z-of_z w64 c.args.b c.ranges.b)
+returns c = rw (c.is_number.ensures, to_z-of_z w64 c.args.b c.ranges.b)

@@ -4,13 +4,17 @@ use mir.Syntax.{w64}
 use mir.ValLaws.{to_z-of_z}
 use Rattle.write_judge.proofs.Drawn.{three_within, two_within}
 use Rattle.write_judge.proofs.points.are_within.Goals as goal
+use Rattle.write_judge.proofs.points.are_within.Goals.{then-components-eq3, else-components-eq3}
 
-pub returns-then-components-eq3 : goal.returns-then-components-eq3
-returns-then-components-eq3 c =
-    rw (c.both-then-components-eq3.ensures, c.both.ensures, c.is_within-third.ensures, c.is_within-second.ensures, c.is_within-first.ensures, to_z-of_z w64 c.args.east c.ranges.east, to_z-of_z w64 c.args.north c.ranges.north, to_z-of_z w64 c.args.height c.ranges.height)
-    (three_within _ c.args.east c.args.north c.args.height c.args.components.items c.args.components.count c.requires.2 c.if-components-eq3.true)
-
-pub returns-else-components-eq3 : goal.returns-else-components-eq3
-returns-else-components-eq3 c =
-    rw (c.both-else-components-eq3-2.ensures, c.both-else-components-eq3.ensures, c.is_number-none.ensures, c.is_within-second.ensures, c.is_within-first.ensures, to_z-of_z w64 c.args.east c.ranges.east, to_z-of_z w64 c.args.north c.ranges.north, to_z-of_z w64 c.args.height c.ranges.height)
-    (two_within _ c.args.east c.args.north c.args.height c.args.components.items c.args.components.count c.requires.2 (omega (arith, c.requires, c.if-components-eq3.false)))
+pub returns : goal.returns
+returns c =
+    let a = c.args in
+    let x = to_z-of_z w64 a.east c.ranges.east in
+    let y = to_z-of_z w64 a.north c.ranges.north in
+    let z = to_z-of_z w64 a.height c.ranges.height in
+    elim c.if-components-eq3.branch [
+      | then-components-eq3 w ↦
+          rw (w.third-is, w.is_within-third.ensures, c.is_within-second.ensures, c.is_within-first.ensures, x, y, z) (three_within _ a.east a.north a.height a.components.items a.components.count (omega arith) w.if-components-eq3.true)
+      | else-components-eq3 w ↦
+          rw (w.third-is, w.is_number-third.ensures, c.is_within-second.ensures, c.is_within-first.ensures, x, y, z) (two_within _ a.east a.north a.height a.components.items a.components.count (omega arith) (omega (arith, a.components.counted, w.if-components-eq3.false)))
+    ]

@@ -1,4 +1,5 @@
 -- `write_judge::points::pass_point` meets its contract. Assumes nothing.
+use mathlib.Core.Logic.{inl, inr}
 use mathlib.Core.Path.{sym, ◌∙◌}
 use mir.Syntax.{w64}
 use mir.ValLaws.{to_z-of_z}
@@ -21,19 +22,13 @@ pub returns-in-Unexpected : goal.returns-in-Unexpected
 returns-in-Unexpected c =
     λ next. let t = to_z-of_z w64 c.args.kind c.ranges.kind in
     let e = rw t at c.code_of-code.ensures in
-    point_unexpected _ _ _ c.args.kind _ _ _ next (rw (e, c.in-Unexpected.is) at c.step.ensures)
-
-pub returns-in-UndefinedLine : goal.returns-in-UndefinedLine
-returns-in-UndefinedLine c =
-    λ next. let t = to_z-of_z w64 c.args.kind c.ranges.kind in
-    let e = rw t at c.code_of-code.ensures in
-    point_undefined _ _ _ c.args.kind _ _ _ next (rw (e, c.in-UndefinedLine.is) at c.step.ensures)
-
-pub returns-in-Ended : goal.returns-in-Ended
-returns-in-Ended c =
-    λ next. let t = to_z-of_z w64 c.args.kind c.ranges.kind in
-    let e = rw t at c.code_of-code.ensures in
-    point_ended _ _ _ c.args.kind _ _ _ next (rw (e, c.in-Ended.is) at c.step.ensures)
+    elim c.in-Unexpected.is [
+      | inl h ↦ point_unexpected _ _ _ c.args.kind _ _ _ next (rw (e, h) at c.step.ensures)
+      | inr g ↦ elim g [
+        | inl h ↦ point_undefined _ _ _ c.args.kind _ _ _ next (rw (e, h) at c.step.ensures)
+        | inr h ↦ point_ended _ _ _ c.args.kind _ _ _ next (rw (e, h) at c.step.ensures)
+      ]
+    ]
 
 pub returns-in-Point : goal.returns-in-Point
 returns-in-Point c =

@@ -1,5 +1,6 @@
--- `write_judge::judge_name` meets its contract. Assumes nothing.
+-- `write_judge::rows::judge_name` meets its contract. Assumes nothing.
 use Prim.Native.Nat.{ℕ, ◌+◌}
+use native.Mathlib.Omega.{arith}
 use mathlib.Core.Path.{sym, ap, ◌∙◌}
 use mir.Syntax.{w64}
 use mir.ValLaws.{to_z-of_z}
@@ -11,12 +12,14 @@ use Rattle.write_judge.proofs.rows.judge_name.Goals as goal
 
 pub returns-then-is_below_at : goal.returns-then-is_below_at
 returns-then-is_below_at c =
-    let a = c.args in name_short a.text.now a.cells.now a.undefined a.at (sym c.is_below_at.ensures ∙ c.if-is_below_at.true)
+    let a = c.args in name_short a.table.now a.undefined a.at (sym c.is_below_at.ensures ∙ c.if-is_below_at.true)
 
 pub returns : goal.returns
 returns c =
     let a = c.args in
+    let t = a.table.now in
+    let start = get_or t.cells.now (a.at + 1) (pos 0) in
     c.judge_stretch.ensures
-    ∙ ap (λ (x : ℤ). judge_stretch a.undefined a.text.now x c.size_at-size.result) (to_z-of_z w64 (get_or a.cells.now (a.at + 1) (pos 0)) (record { sfits = c.judge_stretch-arg-1.given }))
-    ∙ ap (λ (x : ℕ). judge_stretch a.undefined a.text.now (get_or a.cells.now (a.at + 1) (pos 0)) x) c.size_at-size.ensures
-    ∙ name_is a.text.now a.cells.now a.undefined a.at (sym c.is_below_at.ensures ∙ c.if-is_below_at.false)
+    ∙ ap (λ (x : ℤ). judge_stretch a.undefined t.text.now x c.size_at-size.result) (to_z-of_z w64 start (record { sfits = omega arith }))
+    ∙ ap (λ (x : ℕ). judge_stretch a.undefined t.text.now start x) c.size_at-size.ensures
+    ∙ name_is t a.undefined a.at (sym c.is_below_at.ensures ∙ c.if-is_below_at.false)

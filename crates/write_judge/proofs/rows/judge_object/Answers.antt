@@ -1,6 +1,6 @@
 -- `write_judge::rows::judge_object` meets its contract. Assumes nothing.
 use native.Mathlib.Omega.{arith}
-use mathlib.Core.Path.{ap}
+use mathlib.Core.Path.{ap, sym, ◌∙◌}
 use mathlib.Core.List.{List}
 use lib.ListN.{length}
 use Rattle.meaning.specs.Row.{Pair}
@@ -9,71 +9,56 @@ use Rattle.write_judge.proofs.Heads.{row_attributes, row_pairs}
 use Rattle.write_judge.proofs.Turns.{fine_row, rows_moved, rows_bad, rows_unpaired, rows_on, pairs_told, told_at, told_none}
 use Rattle.write_judge.proofs.rows.judge_object.Goals as goal
 
-pub returns-then-rows-object : goal.returns-then-rows-object
-returns-then-rows-object c =
+pub returns-then-table-object : goal.returns-then-table-object
+returns-then-table-object c =
     let a = c.args in
-    rows_moved (model_at a.model.now) a.text.now a.marks.now a.rows.now a.cells.now a.points.now a.object a.place c.requires.object_in_bounds c.if-rows-object.true
+    rows_moved (model_at a.model.now.bytes.now) a.table.now a.object a.place c.requires.object_in_bounds c.if-table-object.true
 
-pub judge_row-end-requires : goal.judge_row-end-requires
-judge_row-end-requires c =
-    let p = c.requires in
+pub returns-in_err-end : goal.returns-in_err-end
+returns-in_err-end c =
+    let a = c.args in
+    rw c.from_residual.ensures (rows_bad (model_at a.model.now.bytes.now) a.table.now a.object a.place c.requires.object_in_bounds (sym c.in_err-end.was ∙ c.judge_row.ensures.end))
+
+pub attributes_at-first-requires : goal.attributes_at-first-requires
+attributes_at-first-requires c =
+    let a = c.args in
+    let f = fine_row (model_at a.model.now.bytes.now) a.table.now a.object a.place c.requires.object_in_bounds _ (sym c.in_ok-end.was ∙ c.judge_row.ensures.end) in
     record {
-      judging = p.judging;
-      objects_known = p.at_row.known;
-      object_in_bounds = (p.object_in_bounds, c.if-rows-object.false, p.at_row.cells_fit);
+      placed = c.requires.judging.placed;
+      table_lt_tables = omega (arith, c.size_at-number.ensures, f.0, c.requires.judging.placed.tables);
     }
-
-pub returns-then-end-eq0 : goal.returns-then-end-eq0
-returns-then-end-eq0 c =
-    let a = c.args in
-    rows_bad (model_at a.model.now) a.text.now a.marks.now a.rows.now a.cells.now a.points.now a.object a.place c.requires.object_in_bounds c.judge_row-end.result c.judge_row-end.ensures.end c.if-end-eq0.true
-
-pub attributes_at-requires : goal.attributes_at-requires
-attributes_at-requires c =
-    let a = c.args in
-    let f = fine_row (model_at a.model.now) a.text.now a.marks.now a.rows.now a.cells.now a.points.now a.object a.place c.requires.object_in_bounds c.judge_row-end.result c.judge_row-end.ensures.end c.if-end-eq0.false in
-    record {
-      records_placed = c.requires.judging.placed;
-      table_lt_tables = omega (arith, c.size_at-table.ensures, f.0, c.requires.judging.placed.tables);
-    }
-
-pub overflow_add-at : goal.overflow_add-at
-overflow_add-at c =
-    let a = c.args in
-    let f = fine_row (model_at a.model.now) a.text.now a.marks.now a.rows.now a.cells.now a.points.now a.object a.place c.requires.object_in_bounds c.judge_row-end.result c.judge_row-end.ensures.end c.if-end-eq0.false in
-    omega (arith, f.1)
 
 pub judge_pairs-requires : goal.judge_pairs-requires
 judge_pairs-requires c =
     let a = c.args in
-    let f = fine_row (model_at a.model.now) a.text.now a.marks.now a.rows.now a.cells.now a.points.now a.object a.place c.requires.object_in_bounds c.judge_row-end.result c.judge_row-end.ensures.end c.if-end-eq0.false in
-    let z = c.size_at-table.ensures in
+    let f = fine_row (model_at a.model.now.bytes.now) a.table.now a.object a.place c.requires.object_in_bounds _ (sym c.in_ok-end.was ∙ c.judge_row.ensures.end) in
+    let z = c.size_at-number.ensures in
     let p = c.requires.judging.placed in
-    let q = ap (λ (ps : List Pair). length ps) (row_pairs _ _ _ p a.cells.now a.place.at _ z (omega (arith, z, f.0, p.tables)) _ c.attributes_at.ensures) in
+    let q = ap (λ (ps : List Pair). length ps) (row_pairs a.model.now p a.table.now.cells.now a.place.at _ z (omega (arith, z, f.0, p.tables)) _ c.attributes_at-first.ensures) in
     record {
-      attributes_here = row_attributes _ _ _ p a.cells.now a.place.at _ z (omega (arith, z, f.0, p.tables)) _ c.attributes_at.ensures;
+      attributes_here = row_attributes a.model.now p a.table.now.cells.now a.place.at _ z (omega (arith, z, f.0, p.tables)) _ c.attributes_at-first.ensures;
       first_in_bounds = omega (arith, f.1, q);
       k_in_bounds = c.requires.at_row.points_fit;
     }
 
-pub returns-in-At : goal.returns-in-At
-returns-in-At c =
+pub returns : goal.returns
+returns c =
     let a = c.args in
-    let f = fine_row (model_at a.model.now) a.text.now a.marks.now a.rows.now a.cells.now a.points.now a.object a.place c.requires.object_in_bounds c.judge_row-end.result c.judge_row-end.ensures.end c.if-end-eq0.false in
-    let z = c.size_at-table.ensures in
+    let f = fine_row (model_at a.model.now.bytes.now) a.table.now a.object a.place c.requires.object_in_bounds _ (sym c.in_ok-end.was ∙ c.judge_row.ensures.end) in
+    let z = c.size_at-number.ensures in
     let p = c.requires.judging.placed in
-    let q = row_pairs _ _ _ p a.cells.now a.place.at _ z (omega (arith, z, f.0, p.tables)) _ c.attributes_at.ensures in
-    let j = pairs_told (model_at a.model.now) a.text.now a.marks.now a.rows.now a.cells.now a.points.now a.shape.undefined _ _ a.place p.undefined q (c.judge_pairs.ensures.judged a.marks.now) in (
-      rows_on (model_at a.model.now) a.text.now a.marks.now a.rows.now a.cells.now a.points.now a.object a.place c.requires.object_in_bounds c.if-rows-object.false c.judge_row-end.result c.judge_row-end.ensures.end c.if-end-eq0.false _ (told_at _ _ j _ c.in-At.is) _ z,
-      record { known = c.judge_row-end.ensures.known (omega (arith, f.2)); cells_fit = omega (arith, f.1, f.2); points_fit = c.judge_pairs.ensures.within _ c.in-At.is },
+    let q = row_pairs a.model.now p a.table.now.cells.now a.place.at _ z (omega (arith, z, f.0, p.tables)) _ c.attributes_at-first.ensures in
+    let j = pairs_told (model_at a.model.now.bytes.now) a.table.now a.model.now.shape.undefined _ _ a.place p.undefined q c.judge_pairs.ensures.judged in (
+      rows_on (model_at a.model.now.bytes.now) a.table.now a.object a.place c.requires.object_in_bounds c.if-table-object.false _ (sym c.in_ok-end.was ∙ c.judge_row.ensures.end) _ (told_at _ _ j _ c.in_ok-points.was) _ z,
+      record { known = rw c.in_ok-end.was at c.judge_row.ensures.known; cells_fit = omega (arith, f.1, f.2); points_fit = c.judge_pairs.ensures.within _ c.in_ok-points.was },
     )
 
-pub returns-in-No : goal.returns-in-No
-returns-in-No c =
+pub returns-in_err-points : goal.returns-in_err-points
+returns-in_err-points c =
     let a = c.args in
-    let f = fine_row (model_at a.model.now) a.text.now a.marks.now a.rows.now a.cells.now a.points.now a.object a.place c.requires.object_in_bounds c.judge_row-end.result c.judge_row-end.ensures.end c.if-end-eq0.false in
-    let z = c.size_at-table.ensures in
+    let f = fine_row (model_at a.model.now.bytes.now) a.table.now a.object a.place c.requires.object_in_bounds _ (sym c.in_ok-end.was ∙ c.judge_row.ensures.end) in
+    let z = c.size_at-number.ensures in
     let p = c.requires.judging.placed in
-    let q = row_pairs _ _ _ p a.cells.now a.place.at _ z (omega (arith, z, f.0, p.tables)) _ c.attributes_at.ensures in
-    let j = pairs_told (model_at a.model.now) a.text.now a.marks.now a.rows.now a.cells.now a.points.now a.shape.undefined _ _ a.place p.undefined q (c.judge_pairs.ensures.judged a.marks.now) in
-    rows_unpaired (model_at a.model.now) a.text.now a.marks.now a.rows.now a.cells.now a.points.now a.object a.place c.requires.object_in_bounds (told_none _ _ j c.in-No.is)
+    let q = row_pairs a.model.now p a.table.now.cells.now a.place.at _ z (omega (arith, z, f.0, p.tables)) _ c.attributes_at-first.ensures in
+    let j = pairs_told (model_at a.model.now.bytes.now) a.table.now a.model.now.shape.undefined _ _ a.place p.undefined q c.judge_pairs.ensures.judged in
+    rw c.from_residual-in_err-points.ensures (rows_unpaired (model_at a.model.now.bytes.now) a.table.now a.object a.place c.requires.object_in_bounds (told_none _ _ j c.in_err-points.was))

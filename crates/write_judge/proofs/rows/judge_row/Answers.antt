@@ -1,35 +1,27 @@
 -- `write_judge::rows::judge_row` meets its contract. Assumes nothing.
-use native.Mathlib.Omega.{arith}
 use mathlib.Core.Path.{sym, ◌∙◌}
 use Rattle.write_judge.proofs.Heads.{row_first, row_second, row_third, row_all, row_row, row_cells_lem}
 use Rattle.write_judge.proofs.rows.judge_row.Goals as goal
 
-pub end_of_row-end-requires : goal.end_of_row-end-requires
-end_of_row-end-requires c =
-    record {
-      judging = c.requires.judging;
-      at_in_bounds = c.requires.object_in_bounds.2;
-    }
-
-pub returns-then-end-eq0 : goal.returns-then-end-eq0
-returns-then-end-eq0 c =
+pub returns-in_err-end : goal.returns-in_err-end
+returns-in_err-end c =
     let p = c.requires in
-    record {
-      end = row_first _ _ _ _ p.judging.placed _ _ _ _ _ _ p.object_in_bounds.1 p.objects_known.listed _ c.end_of_row-end.ensures c.if-end-eq0.true;
-      known = λ q. absurd (omega arith);
-    }
+    rw c.from_residual.ensures (record {
+      end = row_first c.args.model.now c.args.table.now p.judging.placed _ _ _ p.object_in_bounds.1 p.known.listed (rw c.in_err-end.was at c.end_of_row.ensures);
+      known = tt;
+    })
 
 pub judge_name-requires : goal.judge_name-requires
 judge_name-requires c =
     let p = c.requires in
-    row_cells_lem _ _ _ _ p.judging.placed _ _ _ _ _ _ p.object_in_bounds.1 p.objects_known.listed _ c.end_of_row-end.ensures c.if-end-eq0.false
+    row_cells_lem c.args.model.now c.args.table.now p.judging.placed _ _ _ p.object_in_bounds.1 p.known.listed _ (rw c.in_ok-end.was at c.end_of_row.ensures)
 
 pub returns-then-not-judge_name : goal.returns-then-not-judge_name
 returns-then-not-judge_name c =
     let p = c.requires in
     record {
-      end = row_second _ _ _ _ p.judging.placed _ _ _ _ _ _ p.object_in_bounds.1 p.objects_known.listed (sym c.judge_name.ensures ∙ c.if-not-judge_name.true);
-      known = λ q. absurd (omega arith);
+      end = row_second c.args.model.now c.args.table.now p.judging.placed _ _ _ p.object_in_bounds.1 p.known.listed (sym c.judge_name.ensures ∙ c.if-not-judge_name.true);
+      known = tt;
     }
 
 pub add_name-requires : goal.add_name-requires
@@ -37,8 +29,8 @@ add_name-requires c =
     let p = c.requires in
     let y = sym c.judge_name.ensures ∙ c.if-not-judge_name.false in
     record {
-      objects_known = p.objects_known;
-      object_in_bounds = (p.object_in_bounds.0, row_row _ _ _ _ p.judging.placed _ _ _ _ _ _ p.object_in_bounds.1 p.objects_known.listed _ c.end_of_row-end.ensures c.if-end-eq0.false y);
+      known = p.known;
+      object_in_bounds = (p.object_in_bounds.0, row_row c.args.model.now c.args.table.now p.judging.placed _ _ _ p.object_in_bounds.1 p.known.listed _ (rw c.in_ok-end.was at c.end_of_row.ensures) y);
     }
 
 pub returns-then-not-add_name : goal.returns-then-not-add_name
@@ -47,8 +39,8 @@ returns-then-not-add_name c =
     let y = sym c.judge_name.ensures ∙ c.if-not-judge_name.false in
     let z = sym c.add_name.ensures.unused ∙ c.if-not-add_name.true in
     record {
-      end = row_third _ _ _ _ p.judging.placed _ _ _ _ _ _ p.object_in_bounds.1 p.objects_known.listed y z;
-      known = λ q. absurd (omega arith);
+      end = row_third c.args.model.now c.args.table.now p.judging.placed _ _ _ p.object_in_bounds.1 p.known.listed y z;
+      known = tt;
     }
 
 pub returns : goal.returns
@@ -58,6 +50,6 @@ returns c =
     let f = c.if-not-add_name.false in
     let z = sym c.add_name.ensures.unused ∙ f in
     record {
-      end = row_all _ _ _ _ p.judging.placed _ _ _ _ _ _ p.object_in_bounds.1 p.objects_known.listed _ c.end_of_row-end.ensures y z;
-      known = λ q. c.add_name.ensures.known f;
+      end = row_all c.args.model.now c.args.table.now p.judging.placed _ _ _ p.object_in_bounds.1 p.known.listed _ (rw c.in_ok-end.was at c.end_of_row.ensures) y z;
+      known = c.add_name.ensures.known f;
     }

@@ -5,31 +5,13 @@ use native.Mathlib.Omega.{arith}
 use Rattle.write_lines.proofs.Cutting.{count_first, count_turn, count_end, placed_next, room_by, room_most}
 use Rattle.write_lines.proofs.cuts.count_cuts.Goals as goal
 
-pub overflow_sub-width : goal.overflow_sub-width
-overflow_sub-width c = omega arith
-
-pub overflow_sub-last : goal.overflow_sub-last
-overflow_sub-last c = omega arith
-
 pub loop-last-init : goal.loop-last-init
 loop-last-init c =
     let a = c.args in
-    (omega arith, λ mark l h k. count_first mark a.width l (omega arith), omega arith, omega arith, omega arith)
+    (omega arith, λ mark l h k. count_first mark a.style.width l (omega arith), omega arith, omega arith, omega arith)
 
 pub overflow_add-last : goal.overflow_add-last
-overflow_add-last c = let a = c.args in omega (arith, c.last_room-room.ensures, room_most a.ended (a.width - 5))
-
-pub overflow_add-count : goal.overflow_add-count
-overflow_add-count c = omega arith
-
-pub overflow_sub-last-in-loop-last : goal.overflow_sub-last-in-loop-last
-overflow_sub-last-in-loop-last c = omega arith
-
-pub overflow_add-last-in-loop-last : goal.overflow_add-last-in-loop-last
-overflow_add-last-in-loop-last c = omega arith
-
-pub loop-last-smaller : goal.loop-last-smaller
-loop-last-smaller c = omega arith
+overflow_add-last c = let a = c.args in omega (arith, c.last_room-room.ensures, room_most a.ended (a.style.width - 5))
 
 pub loop-last-preserved : goal.loop-last-preserved
 loop-last-preserved c =
@@ -39,8 +21,8 @@ loop-last-preserved c =
       omega arith,
       λ mark l h k.
           i.1 mark l h k
-          ∙ count_turn mark a.width l (omega arith) c.loop-last.count c.loop-last.last i.0 (omega (arith, e, room_by mark (a.width - 5) l a.ended k)),
-      rw i.2 (placed_next c.loop-last.count (a.width - 6)),
+          ∙ count_turn mark a.style.width l (omega arith) c.loop-last.count c.loop-last.last i.0 (omega (arith, e, room_by mark (a.style.width - 5) l a.ended k)),
+      rw i.2 (placed_next c.loop-last.count (a.style.width - 6)),
       omega arith,
       omega arith,
     )
@@ -53,7 +35,7 @@ returns c =
     record {
       cut = λ mark l h k.
           i.1 mark l h k
-          ∙ count_end mark a.width l (omega arith) c.loop-last.count c.loop-last.last i.0 (omega (arith, e, room_by mark (a.width - 5) l a.ended k));
+          ∙ count_end mark a.style.width l (omega arith) c.loop-last.count c.loop-last.last i.0 (omega (arith, e, room_by mark (a.style.width - 5) l a.ended k));
       placed = i.2;
       few = i.3;
       near = i.4;

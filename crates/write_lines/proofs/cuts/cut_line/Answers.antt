@@ -5,21 +5,13 @@ use lib.ListN.{length-set}
 use Rattle.write_lines.proofs.Ending.{cut_none, cut_stands}
 use Rattle.write_lines.proofs.cuts.cut_line.Goals as goal
 
-pub put_cuts-requires : goal.put_cuts-requires
-put_cuts-requires c =
-    let k = c.count_cuts-cuts.ensures in
-    record {
-      start_le_end = (c.requires.0, rw length-set (omega arith), c.requires.2, c.requires.3);
-      last_value = (k.placed, omega (arith, k.near, c.requires));
-    }
-
 pub returns-then-n-more : goal.returns-then-n-more
 returns-then-n-more c line before e at some p =
     let k = c.count_cuts-cuts in
     let a = c.args in
     cut_stands
-    a.mark
-    a.width
+    a.style.mark
+    a.style.width
     line
     before
     a.put
@@ -46,8 +38,8 @@ returns-else-n-more c line before e at some p =
     let k = c.count_cuts-cuts in
     let a = c.args in
     cut_none
-    a.mark
-    a.width
+    a.style.mark
+    a.style.width
     line
     before
     a.put

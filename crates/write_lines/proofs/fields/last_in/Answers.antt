@@ -1,10 +1,9 @@
 -- `write_lines::fields::last_in` meets its contract. Assumes nothing.
-use native.Mathlib.Omega.{arith}
-use Rattle.write_lines.proofs.Puts.{last_none, last_some}
+use Rattle.std.proofs.lemmas.Option.{unwrap_or-slice_get}
+use Rattle.write_lines.proofs.Puts.{last_got}
 use Rattle.write_lines.proofs.fields.last_in.Goals as goal
 
-pub returns-then-part-eq0 : goal.returns-then-part-eq0
-returns-then-part-eq0 c = last_none c.args.before c.args.part.now (omega arith)
-
 pub returns : goal.returns
-returns c = let a = c.args in last_some a.before a.part.now (omega arith)
+returns c =
+    let a = c.args in
+    rw (c.unwrap_or.ensures, c.copied.ensures, c.last.ensures.value, unwrap_or-slice_get) (last_got a.before a.part.now)

@@ -1,16 +1,10 @@
 -- `write_lines::values::put_number` meets its contract. Assumes nothing.
-use mathlib.Core.Path.{sym}
 use native.Mathlib.Omega.{arith}
-use lib.Seq.{length-take-le}
 use mir.Syntax.{w64}
 use mir.ValLaws.{to_z-of_z}
 use Rattle.meaning.specs.Digits.{number_bytes}
 use Rattle.write_lines.proofs.Puts.{at_front}
 use Rattle.write_lines.proofs.values.put_number.Goals as goal
-
-pub slice_bounds-put_bytes-end : goal.slice_bounds-put_bytes-end
-slice_bounds-put_bytes-end c =
-    sym (length-take-le _ c.put_number-size.new.out (omega (arith, c.put_number-size.ensures.few)))
 
 pub returns : goal.returns
 returns c =

@@ -6,11 +6,8 @@ use Rattle.meaning.specs.Digits.{number_bytes}
 use Rattle.write_lines.proofs.Puts.{then}
 use Rattle.write_lines.proofs.values.put_number_field.Goals as goal
 
-pub returns-then-out-put-ge22 : goal.returns-then-out-put-ge22
-returns-then-out-put-ge22 c = rw (to_z-of_z w64 c.args.v c.ranges.v) at c.put_number_field_there.ensures
-
-pub returns : goal.returns
-returns c =
+pub returns-else-saturating_sub-ge22 : goal.returns-else-saturating_sub-ge22
+returns-else-saturating_sub-ge22 c =
     let a = c.args in
     let q = c.put_number in
     let p = c.put_byte-gap in

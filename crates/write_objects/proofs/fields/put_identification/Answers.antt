@@ -16,4 +16,4 @@ returns c =
     let k = c.size_behind-size in
     let p = c.put_stretch in
     let q = rw (to_z-of_z w64 d.result (record { sfits = d.type_inv })) at p.ensures in
-    renamed _ _ a.put a.out.now _ p.result (ap₂ (λ (x : ℤ) (y : ℕ). stretch_bytes a.text.now x y) d.ensures k.ensures ∙ identified a.text.now a.cells.now a.row) q
+    renamed _ _ a.put a.out.now _ p.result (ap₂ (λ (x : ℤ) (y : ℕ). stretch_bytes a.table.now.text.now x y) d.ensures k.ensures ∙ identified a.table.now.text.now a.table.now.cells.now a.row) q

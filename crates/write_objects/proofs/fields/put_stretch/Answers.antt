@@ -18,7 +18,7 @@ returns-then-start-lt0 c =
 pub returns : goal.returns
 returns c =
     let a = c.args in
-    let m = rw (to_z-of_z w64 a.start c.ranges.start) at c.magnitude.ensures in
+    let m = rw (to_z-of_z w64 a.start c.ranges.start) at c.size_of.ensures in
     let k = c.cut_stretch-part in
     let p = c.put_bytes in
     let h = plain a.start (pos 0) false c.ranges.start (record { sfits = omega arith }) c.if-start-lt0.false in

@@ -3,8 +3,8 @@ use mathlib.Core.List.{[], ◌∷◌}
 use mir.Syntax.{w64}
 use mir.ValLaws.{to_z-of_z}
 use Rattle.meaning.specs.Writing.{type_bytes}
-use Rattle.model_records.specs.Attributes.{type_of}
-use Rattle.table.specs.Contents.{unmarked_in}
+use Rattle.model_records.specs.Attributes.{of_kind}
+use Rattle.table.specs.Contents.{content}
 use Rattle.write_lines.proofs.Puts.{then}
 use Rattle.write_objects.proofs.fields.put_value_field.Goals as goal
 
@@ -13,4 +13,4 @@ returns c =
     let a = c.args in
     let q = c.put_value in
     let p = c.put_byte-gap in
-    then (0x20 ∷ []) (type_bytes a.text.now (unmarked_in a.rows.now a.cells.now []) (type_of a.attribute) a.a a.b) a.put _ _ a.out.now _ _ p.ensures (rw (to_z-of_z w64 a.a c.ranges.a, to_z-of_z w64 a.b c.ranges.b) at q.ensures)
+    then (0x20 ∷ []) (type_bytes a.table.now.text.now (content a.table.now) (of_kind a.kind) a.a a.b) a.put _ _ a.out.now _ _ p.ensures (rw (to_z-of_z w64 a.a c.ranges.a, to_z-of_z w64 a.b c.ranges.b) at q.ensures)

@@ -1,78 +1,60 @@
 -- `write_objects::objects::put_attribute_lines` meets its contract. Assumes nothing.
 use Prim.Native.Nat.{ℕ, ◌+◌}
-use mathlib.Core.Path.{sym, ap, ◌∙◌}
-use mathlib.Core.List.{List, []}
+use mathlib.Core.Path.{ap}
+use mathlib.Core.List.{List}
 use native.Mathlib.Omega.{arith}
 use lib.ListN.{length}
 use Rattle.meaning.specs.Writing.{lines_bytes}
 use Rattle.meaning.specs.Width.{cut_lines}
 use Rattle.model_records.specs.Records.{model_at, pairs_at}
-use Rattle.table.specs.Contents.{unmarked_in}
-use Rattle.write_objects.proofs.Walking.{walk_start, walk_room, walk_less, walk_end, walk_good, walk_parts, walk_count, walk_on}
+use Rattle.table.specs.Contents.{content}
+use Rattle.model_records.proofs.Walking.{given_model, given_here, given_next, given_kind, given_room, given_inside, none_kind}
+use Rattle.write_objects.proofs.Walking.{walk_start, walk_end, walk_count, walk_on}
 use Rattle.write_objects.proofs.Walking.{lines_meant, lines_meant_lem, no_lines, row_lines_lem}
 use Rattle.write_objects.proofs.objects.put_attribute_lines.Goals as goal
 
-pub overflow_add-cell : goal.overflow_add-cell
-overflow_add-cell c = omega (arith, c.least_of-cell.ensures, c.well_formed.1.1.1.1.0)
-
-pub loop-all-init : goal.loop-all-init
-loop-all-init c =
+pub loop-at-init : goal.loop-at-init
+loop-at-init c =
     let a = c.args in
-    let m = c.least_of-cell.ensures in
+    let m = c.min-cell.ensures in
     let n = c.put_nothing-all in
-    walk_start (model_at a.model.now) a.model.now (lines_meant a.mark a.width (unmarked_in [] a.cells.now a.points.now)) (length a.cells.now + 3) _ a.first _ a.put n.result a.out.now c.requires.attributes_here (omega (arith, m)) (ap (λ (l : List (List (List ℕ))). cut_lines a.mark a.width (lines_bytes l)) (row_lines_lem (unmarked_in [] a.cells.now a.points.now) (pairs_at a.model.now a.first) a.row _ m)) (n.ensures a.out.now)
+    let k = c.attribute_records-at-items.ensures in
+    rw c.into_iter-at-iterator.ensures.into_iter_gives (k.model, rw k.first (walk_start (model_at a.model.now) a.model.now (lines_meant a.style.mark a.style.width (content a.table.now)) (length a.table.now.cells.now + 3) _ a.first _ a.put n.result a.out.now c.requires (omega (arith, m)) (ap (λ (l : List (List (List ℕ))). cut_lines a.style.mark a.style.width (lines_bytes l)) (row_lines_lem (content a.table.now) (pairs_at a.model.now a.first) a.row _ m)) (n.ensures a.out.now)))
 
-pub kind_at-kind-requires : goal.kind_at-kind-requires
-kind_at-kind-requires c = walk_room c.loop-all.invariant
-
-pub returns-then-kind-ne-ATTRIBUTE : goal.returns-then-kind-ne-ATTRIBUTE
-returns-then-kind-ne-ATTRIBUTE c =
+pub returns : goal.returns
+returns c =
     let a = c.args in
-    walk_end c.loop-all.invariant a.put (λ e. c.if-kind-ne-ATTRIBUTE.true (c.kind_at-kind.ensures ∙ e)) (no_lines a.mark a.width (unmarked_in [] a.cells.now a.points.now) c.loop-all.cell) (c.put_nothing-all.ensures a.out.now)
+    walk_end c.loop-at.invariant.1 a.put (none_kind _ c.loop-at.at-iterator c.loop-at.invariant.0 c.in-None.ensures.steps) (no_lines a.style.mark a.style.width (content a.table.now) c.loop-at.cell) (c.put_nothing-all.ensures a.out.now)
 
 pub put_line_at-all-requires : goal.put_line_at-all-requires
-put_line_at-all-requires c =
-    let i = c.loop-all.invariant in
-    let e = sym c.kind_at-kind.ensures ∙ c.if-kind-ne-ATTRIBUTE.false in
-    record {
-      attribute_here = walk_good i e;
-      le_width = c.requires.le_width;
-    }
-
-pub overflow_add-at : goal.overflow_add-at
-overflow_add-at c =
-    let i = c.loop-all.invariant in
-    let e = sym c.kind_at-kind.ensures ∙ c.if-kind-ne-ATTRIBUTE.false in
-    omega (arith, walk_parts i e, c.well_formed.0)
+put_line_at-all-requires c = (given_here _ _ _ _ c.loop-at.invariant.0 c.in-Some.ensures.steps).good
 
 pub bounds-model-at : goal.bounds-model-at
 bounds-model-at c =
-    let i = c.loop-all.invariant in
-    let e = sym c.kind_at-kind.ensures ∙ c.if-kind-ne-ATTRIBUTE.false in
-    omega (arith, walk_parts i e)
+    let g = c.in-Some.ensures.steps in
+    let h = c.loop-at.invariant.0 in
+    omega (arith, given_room _ _ _ _ h g, given_inside _ _ _ _ h g)
 
 pub overflow_mul-cell : goal.overflow_mul-cell
 overflow_mul-cell c =
-    let i = c.loop-all.invariant in
-    let e = sym c.kind_at-kind.ensures ∙ c.if-kind-ne-ATTRIBUTE.false in
-    omega (arith, walk_count i e _ _ c.count_of.ensures)
+    let g = c.in-Some.ensures.steps in
+    let e = given_kind _ _ _ _ c.loop-at.invariant.0 g in
+    omega (arith, walk_count c.loop-at.invariant.1 e _ _ (rw g.at at c.count_of.ensures))
 
-pub overflow_add-cell-in-loop-all : goal.overflow_add-cell-in-loop-all
-overflow_add-cell-in-loop-all c =
-    let i = c.loop-all.invariant in
-    let e = sym c.kind_at-kind.ensures ∙ c.if-kind-ne-ATTRIBUTE.false in
-    omega (arith, walk_count i e _ _ c.count_of.ensures, walk_parts i e, i.few, c.well_formed.1.1.1.1.0, c.well_formed.0)
+pub overflow_add-cell-in-loop-at : goal.overflow_add-cell-in-loop-at
+overflow_add-cell-in-loop-at c =
+    let g = c.in-Some.ensures.steps in
+    let h = c.loop-at.invariant.0 in
+    let i = c.loop-at.invariant.1 in
+    let e = given_kind _ _ _ _ h g in
+    omega (arith, walk_count i e _ _ (rw g.at at c.count_of.ensures), given_room _ _ _ _ h g, given_inside _ _ _ _ h g, g.at, i.few, c.well_formed.1.1.1.1.0, c.well_formed.0)
 
-pub next_at-at-requires : goal.next_at-at-requires
-next_at-at-requires c = walk_room c.loop-all.invariant
-
-pub loop-all-smaller : goal.loop-all-smaller
-loop-all-smaller c = omega (arith, walk_less c.loop-all.invariant, c.next_at-at.ensures)
-
-pub loop-all-preserved : goal.loop-all-preserved
-loop-all-preserved c =
-    let i = c.loop-all.invariant in
-    let e = sym c.kind_at-kind.ensures ∙ c.if-kind-ne-ATTRIBUTE.false in
+pub loop-at-preserved : goal.loop-at-preserved
+loop-at-preserved c =
+    let g = c.in-Some.ensures.steps in
+    let h = c.loop-at.invariant.0 in
+    let i = c.loop-at.invariant.1 in
+    let e = given_kind _ _ _ _ h g in
     let a = c.args in
     let p = c.put_line_at-all in
-    rw c.next_at-at.ensures (walk_on i e _ _ c.count_of.ensures (lines_meant_lem a.mark a.width (unmarked_in [] a.cells.now a.points.now)) _ p.result p.ensures)
+    (given_model _ _ _ _ h g, rw (given_next _ _ _ _ h g, g.at) (walk_on i e _ _ (rw g.at at c.count_of.ensures) (lines_meant_lem a.style.mark a.style.width (content a.table.now)) _ p.result (rw g.at at p.ensures)))

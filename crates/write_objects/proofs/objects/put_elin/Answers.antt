@@ -11,4 +11,4 @@ returns c =
     let q = c.end_line in
     let p = c.put_bytes-line in
     let a = c.args in
-    renamed _ _ a.put a.out.now _ q.result (elin_line a.mark a.width) (q.ensures.ends ELIN a.put a.out.now refl (omega arith) p.ensures)
+    renamed _ _ a.put a.out.now _ q.result (elin_line a.style.mark a.style.width) (q.ensures.ends ELIN a.put a.out.now refl (omega arith) p.ensures)

@@ -23,10 +23,10 @@ returns c =
     let p = c.put_points-drawn in
     let r = c.put_elin in
     let ks = components_of a.components in
-    let points = a.points.now in
-    let count = min (cell_at a.cells.now a.cell - 1) (length points / 4) in
-    let first = cell_at a.cells.now (a.cell + 1) in
-    let e : d.result ≡ first = d.ensures ∙ ap nat_abs (get_or-drop a.cell a.cells.now 1 (pos 0)) in
-    let q = renamed _ (points_meant a.mark a.width ks points count (4 * first)) a.put a.out.now _ p.result (ap₂ (λ (x y : ℕ). points_meant a.mark a.width ks points x (4 * y)) k.ensures e) p.ensures in
-    rw (cut_lines_append a.mark a.width (point_lines ks count (drop (4 * first) points)) ((ELIN ∷ []) ∷ []))
-    (then _ (cut_lines a.mark a.width (lines_bytes ((ELIN ∷ []) ∷ []))) a.put p.result r.result a.out.now _ _ q r.ensures)
+    let points = a.table.now.points.now in
+    let count = min (cell_at a.table.now.cells.now a.cell - 1) (length points / 4) in
+    let first = cell_at a.table.now.cells.now (a.cell + 1) in
+    let e : d.result ≡ first = d.ensures ∙ ap nat_abs (get_or-drop a.cell a.table.now.cells.now 1 (pos 0)) in
+    let q = renamed _ (points_meant a.style.mark a.style.width ks points count (4 * first)) a.put a.out.now _ p.result (ap₂ (λ (x y : ℕ). points_meant a.style.mark a.style.width ks points x (4 * y)) k.ensures e) p.ensures in
+    rw (cut_lines_append a.style.mark a.style.width (point_lines ks count (drop (4 * first) points)) ((ELIN ∷ []) ∷ []))
+    (then _ (cut_lines a.style.mark a.style.width (lines_bytes ((ELIN ∷ []) ∷ []))) a.put p.result r.result a.out.now _ _ q r.ensures)

@@ -12,30 +12,12 @@ pub loop-i-init : goal.loop-i-init
 loop-i-init c =
     let a = c.args in
     let n = c.put_nothing-all in
-    (omega arith, c.requires.room, left_start _ _ a.put n.result a.out.now refl (n.ensures a.out.now))
-
-pub offset_bounds-items-i : goal.offset_bounds-items-i
-offset_bounds-items-i c = omega (arith, c.requires.count)
-
-pub bounds-items-i : goal.bounds-items-i
-bounds-items-i c = omega (arith, c.requires.count)
-
-pub overflow_add-i : goal.overflow_add-i
-overflow_add-i c = omega (arith, c.requires.count)
-
-pub cell_behind-v-requires : goal.cell_behind-v-requires
-cell_behind-v-requires c = omega (arith, c.requires.count, c.loop-i-test.true)
+    left_start _ _ a.put n.result a.out.now refl (n.ensures a.out.now)
 
 pub put_number_field-all-requires : goal.put_number_field-all-requires
 put_number_field-all-requires c =
     let l = c.loop-i in
-    listed_good c.args.components.items l.i c.args.components.count _ c.loop-i-test.true (omega (arith, c.requires.count, c.requires.room)) c.requires.good
-
-pub overflow_add-i-in-loop-i : goal.overflow_add-i-in-loop-i
-overflow_add-i-in-loop-i c = omega (arith, c.requires.count)
-
-pub loop-i-smaller : goal.loop-i-smaller
-loop-i-smaller c = omega (arith, c.loop-i-test.true)
+    listed_good c.args.components.items l.i c.args.components.count _ c.loop-i-test.true (omega (arith, c.args.components.counted)) c.requires
 
 pub loop-i-preserved : goal.loop-i-preserved
 loop-i-preserved c =
@@ -43,13 +25,13 @@ loop-i-preserved c =
     let a = c.args in
     let p = c.put_number_field-all in
     let d = c.cell_behind-v in
-    let turn = values_turn a.components.count a.components.items a.at a.points.now l.i _ c.loop-i-test.true (omega (arith, c.requires.count, c.requires.room)) in
+    let turn = values_turn a.components.count a.components.items a.at a.points.now l.i _ c.loop-i-test.true (omega (arith, a.components.counted)) in
     let q = rw (to_z-of_z w64 d.result (record { sfits = d.type_inv }), d.ensures) at p.ensures in
-    (omega (arith, c.loop-i-test.true), l.invariant.1, left_on l.invariant.2 _ _ turn _ p.result q)
+    left_on l.invariant _ _ turn _ p.result q
 
 pub returns : goal.returns
 returns c =
     let l = c.loop-i in
     let n = c.put_nothing-all in
     let a = c.args in
-    left_end l.invariant.2 a.put (values_end a.components.count a.components.items a.at a.points.now l.i c.loop-i-test.false) (n.ensures a.out.now)
+    left_end l.invariant a.put (values_end a.components.count a.components.items a.at a.points.now l.i c.loop-i-test.false) (n.ensures a.out.now)

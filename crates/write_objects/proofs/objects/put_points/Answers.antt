@@ -1,47 +1,35 @@
 -- `write_objects::objects::put_points` meets its contract. Assumes nothing.
+use Prim.Native.Nat.{◌+◌, ◌-◌, ◌*◌}
+use mathlib.Core.Path.{◌≡◌}
 use native.Mathlib.Omega.{arith}
 use Rattle.model_records.specs.Components.{components_of}
 use Rattle.write_lines.proofs.Left.{left_start, left_on, left_end}
 use Rattle.write_objects.proofs.Drawn.{points_turn, points_end, points_start}
 use Rattle.write_objects.proofs.objects.put_points.Goals as goal
 
-pub overflow_mul-at : goal.overflow_mul-at
-overflow_mul-at c = omega (arith, c.least_of-at.ensures, c.well_formed.0)
-
-pub loop-left-init : goal.loop-left-init
-loop-left-init c =
+pub loop-i-init : goal.loop-i-init
+loop-i-init c =
     let a = c.args in
-    let m = c.least_of-at.ensures in
+    let m = c.min-start in
     let n = c.put_nothing-all in
-    (omega (arith, m, c.requires), left_start _ _ a.put n.result a.out.now (points_start a.mark a.width (components_of a.components) a.points.now a.count a.first _ m) (n.ensures a.out.now))
+    let all : a.count - 0 ≡ a.count = omega arith in
+    let front : 4 * m.result + 0 ≡ 4 * m.result = omega arith in
+    left_start _ _ a.put n.result a.out.now (rw (all, front) (points_start a.style.mark a.style.width (components_of a.components) a.points.now a.count a.first _ m.ensures)) (n.ensures a.out.now)
 
-pub put_point-all-requires : goal.put_point-all-requires
-put_point-all-requires c =
-    record {
-      good_components = c.requires.good_components;
-      le_width = c.requires.le_width;
-    }
-
-pub overflow_add-at : goal.overflow_add-at
-overflow_add-at c = omega (arith, c.loop-left.invariant.0, c.loop-left-test.true, c.well_formed.0)
-
-pub overflow_sub-left : goal.overflow_sub-left
-overflow_sub-left c = omega (arith, c.loop-left-test.true)
-
-pub loop-left-smaller : goal.loop-left-smaller
-loop-left-smaller c = omega (arith, c.loop-left-test.true)
-
-pub loop-left-preserved : goal.loop-left-preserved
-loop-left-preserved c =
-    let l = c.loop-left in
+pub loop-i-preserved : goal.loop-i-preserved
+loop-i-preserved c =
+    let l = c.loop-i in
     let a = c.args in
     let p = c.put_point-all in
-    let turn = points_turn a.mark a.width (components_of a.components) a.points.now l.left l.at c.loop-left-test.true in
-    (omega (arith, l.invariant.0, c.loop-left-test.true), left_on l.invariant.1 _ _ turn _ p.result p.ensures)
+    let at = 4 * c.min-start.result + 4 * l.i in
+    let less : a.count - l.i - 1 ≡ a.count - (l.i + 1) = omega arith in
+    let next : at + 4 ≡ 4 * c.min-start.result + 4 * (l.i + 1) = omega arith in
+    let turn = rw (less, next) at (points_turn a.style.mark a.style.width (components_of a.components) a.points.now (a.count - l.i) at (omega arith)) in
+    left_on l.invariant _ _ turn _ p.result p.ensures
 
 pub returns : goal.returns
 returns c =
-    let l = c.loop-left in
+    let l = c.loop-i in
     let n = c.put_nothing-all in
     let a = c.args in
-    left_end l.invariant.1 a.put (points_end a.mark a.width (components_of a.components) a.points.now l.left l.at c.loop-left-test.false) (n.ensures a.out.now)
+    left_end l.invariant a.put (points_end a.style.mark a.style.width (components_of a.components) a.points.now (a.count - l.i) _ (omega arith)) (n.ensures a.out.now)
