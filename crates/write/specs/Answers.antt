@@ -23,7 +23,9 @@ unfoldable pub unplaced : Result ℕ Reason → Result ℕ Refused
 unplaced (Ok bytes) = Ok bytes
 unplaced (Err reason) = Err (record { reason = reason; first = 0; second = 0 })
 
--- an answer, and the room of so many bytes as it is then: "All result buffers are zeroed by every refusal"
+-- an answer, and what the call leaves in the room of so many bytes: behind a success what stands there; behind a
+-- refusal zeros, whatever stands there before `write::write` clears it.
+-- "All result buffers are zeroed by every refusal"
 unfoldable pub came_to : (room : ℕ) → Result ℕ Refused → (out : List ℕ) → Written
 came_to room (Ok bytes) out = record { answer = answer_of (Ok bytes); output = out }
 came_to room (Err r) out = record { answer = answer_of (Err r); output = replicate room 0 }
