@@ -1,11 +1,11 @@
 -- The components that a loop reads into a small array are those of the payload, and the list of them. Assumes nothing.
-use Prim.Native.Nat.{ℕ, zero, suc, ◌+◌, ◌≤◌, ◌<◌}
+use Prim.Native.Nat.{ℕ, zero, suc, ◌+◌, ◌*◌, ◌≤◌, ◌<◌}
 use native.Mathlib.Nat.{suc-add}
 use native.Mathlib.Omega.{arith}
 use mathlib.Core.Path.{◌≡◌, refl, ◌∙◌}
 use mathlib.Core.List.{List, [], ◌∷◌}
-use lib.IntN.{ℤ}
-use lib.ListN.{length, take, drop, get_or}
+use lib.IntN.{ℤ, pos}
+use lib.ListN.{length, take, drop, set, length-set, get_or}
 use lib.Seq.{drop-drop}
 use mir.Syntax.{w64}
 use mir.Val.{SFits, to_z, of_z}
@@ -16,17 +16,26 @@ use Rattle.model_records.specs.Components.{component_of, list_of}
 use Rattle.model_records.specs.declared.attributes.Component.{Component}
 use Rattle.model_records.specs.Components.{declared_of}
 
--- two components, and three, as they are read
-module _ (q : List ℕ) (count : ℕ) (first second third : Component)
-    (a : first ≡ declared_of (meaning.component_of q)) (b : second ≡ declared_of (meaning.component_of (drop 17 q))) where
-  pub two_read : count ≡ 2 → list_of (take count (first ∷ second ∷ third ∷ [])) ≡ meaning.components_of count q
-  unfolding list_of meaning.components_of
-  two_read e = rw (e, a, b)
+abbrev none : Component
+none = record { decimals = 0; least = pos 0; greatest = pos 0 }
 
-  pub three_read : count ≡ 3 → third ≡ declared_of (meaning.component_of (drop 34 q))
-      → list_of (take count (first ∷ second ∷ third ∷ [])) ≡ meaning.components_of count q
-  unfolding list_of meaning.components_of
-  three_read e c = rw (e, a, b, c, drop-drop 17 17 q)
+-- the first n of three, the others zero
+unfoldable pub items_of : List ℕ → ℕ → List Component
+items_of p zero = none ∷ none ∷ none ∷ []
+items_of p (suc n) = set (items_of p n) n (declared_of (meaning.component_of (drop (17 * n) p)))
+
+pub items : (p : List ℕ) (n : ℕ) → n ≤ 3 → list_of (take n (items_of p n)) ≡ meaning.components_of n p
+unfolding items_of list_of meaning.components_of
+items p zero h = refl
+items p (suc zero) h = refl
+items p (suc (suc zero)) h = refl
+items p (suc (suc (suc zero))) h = rw (drop-drop 17 17 p)
+items p (suc (suc (suc (suc n)))) h = absurd (omega arith)
+
+pub items_length : (p : List ℕ) (n : ℕ) → length (items_of p n) ≡ 3
+unfolding items_of
+items_length p zero = refl
+items_length p (suc n) = length-set (items_of p n) n _ ∙ items_length p n
 
 -- a component from its byte and its two numbers, each held in 64 bits
 pub component_read : (p : List ℕ) (least greatest : ℤ) → SFits w64 least → SFits w64 greatest → least ≡ i64_at p 1 → greatest ≡ i64_at p 9

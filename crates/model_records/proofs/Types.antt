@@ -133,7 +133,7 @@ module _ (q : List ℕ) where
 -- the attribute of a record, from that of its payload
 pub decoded : (b : List ℕ) (at : ℕ) (a : Attribute) → AttributeHere b at → PayloadAttribute (payload_at b at) a → RecordAttribute b at a
 unfolding meaning.attribute_of is_type
-decoded b at a h r = record { type = r.type; optional = r.optional; good = rw r.type (holds _ 3 h.type) }
+decoded b at a h r = record { type = r.type; optional = r.optional; good = rw r.type (holds _ 3 h.type); counted = r.counted }
 
 -- a line has two or three components
 pub few_components : (n : ℕ) → is_dimension n ≡ true → (2 ≤ n) × (n ≤ 3)

@@ -24,6 +24,16 @@ of_kind (kind.Line forms components) = Line forms (components_of components)
 abbrev pub type_of : Attribute → AttributeType
 type_of a = of_kind a.kind
 
+-- a coordinate and a line have two or three components
+abbrev pub Counted : Kind → Type 0
+Counted (kind.Reference table) = Unit {0}
+Counted (kind.Coordinate components) = (2 ≤ components.count) × (components.count ≤ 3)
+Counted (kind.Number component) = Unit {0}
+Counted (kind.Text longest) = Unit {0}
+Counted kind.Date = Unit {0}
+Counted (kind.Enumeration leaves) = Unit {0}
+Counted (kind.Line forms components) = (2 ≤ components.count) × (components.count ≤ 3)
+
 -- ## The parameters q of a type of number t
 
 -- the type is one of 1 to 8, and its parameters are all there
@@ -38,14 +48,17 @@ pub record ParametersFit (t : ℕ) (q : List ℕ) : Type 0 where
 pub record PayloadAttribute (p : List ℕ) (a : Attribute) : Type 0 where
   pub type : type_of a ≡ meaning.type_of (byte_at p 1) (drop 2 p)
   pub optional : a.optional ≡ flag_of p
+  pub counted : Counted a.kind
 
 -- a is the attribute of the record at a byte, which is good
 pub record RecordAttribute (b : List ℕ) (at : ℕ) (a : Attribute) : Type 0 where
   pub type : type_of a ≡ (attribute_of at (payload_at b at)).type
   pub optional : a.optional ≡ (attribute_of at (payload_at b at)).optional
   pub good : good_type (type_of a) ≡ true
+  pub counted : Counted a.kind
 
 -- a is the line attribute of the record at a byte
 pub record RecordLine (b : List ℕ) (at : ℕ) (a : LineAttribute) : Type 0 where
   pub type : (attribute_of at (payload_at b at)).type ≡ Line a.forms (components_of a.components)
   pub optional : a.optional ≡ (attribute_of at (payload_at b at)).optional
+  pub counted : (2 ≤ a.components.count) × (a.components.count ≤ 3)

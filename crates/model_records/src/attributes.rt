@@ -1,7 +1,7 @@
 // Attributes and their types, by value.
 ghost use Rattle.std.specs.Prelude.{◌≤◌};
 
-// A component, and the two or three components of a coordinate or a line: by value, in fixed memory.
+// A component, and at most three of them, as a coordinate or a line has: by value, in fixed memory.
 #[derive(Clone, Copy)]
 pub struct Component {
     pub decimals: u8,
@@ -13,7 +13,7 @@ pub struct Component {
 pub struct Components {
     pub count: usize,
     pub items: [Component; 3],
-    ghost counted: { (2 ≤ count) × (count ≤ 3) },
+    ghost counted: { count ≤ 3 },
 }
 
 // "Types", each with what its parameters say: a reference's table, the components, a text's longest length, an

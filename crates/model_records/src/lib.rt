@@ -1,14 +1,14 @@
 //! A good model's records: kinds, names, attributes with their type and components by value.
 #![tactic(auto)]
 
-ghost use Rattle.std.specs.Prelude.{◌≡◌, ◌+◌, ◌*◌, ◌≤◌, length, drop, eqb, leb};
+ghost use Rattle.std.specs.Prelude.{◌≡◌, ◌+◌, ◌≤◌, length, drop, eqb, leb};
 ghost use Rattle.meaning.specs.Bytes.{choose, byte_at};
 ghost use Rattle.meaning.specs.Model.{flag_of};
 ghost use Rattle.meaning.specs.Check.{good, check_model};
 ghost use Rattle.model_records.specs.Records.{kind_at, payload_at, next_at, model_at};
 ghost use Rattle.meaning.specs.Model as meaning;
-ghost use Rattle.model_records.specs.Components.{components_of};
-ghost use Rattle.model_records.specs.Attributes.{of_kind, ParametersFit, PayloadAttribute, RecordAttribute, RecordLine};
+ghost use Rattle.model_records.specs.Attributes.{of_kind, Counted, ParametersFit};
+ghost use Rattle.model_records.specs.Attributes.{PayloadAttribute, RecordAttribute, RecordLine};
 ghost use Rattle.model_records.specs.AtRecord.{AttributeHere};
 
 pub mod attributes;
@@ -111,44 +111,22 @@ pub fn read_dimension(b: u8) -> usize
     if b == 3 { 3 } else { 2 }
 }
 
-// The components among the parameters: so many, from the first byte on.
-fn read_components(parameters: &[u8], count: usize) -> Components
-    requires count_bound { (2 ≤ count) × (count ≤ 3) }
-    requires in_bounds { 17 * count ≤ length parameters.now }
-    ensures { components_of result ≡ meaning.components_of count parameters.now }
-{
-    let first = numbers::read_component(parameters);
-    let second = numbers::read_component(&parameters[17..]);
-    let third = if count == 3 {
-        numbers::read_component(&parameters[34..])
-    } else {
-        Component {
-            decimals: 0,
-            least: 0,
-            greatest: 0,
-        }
-    };
-    Components {
-        count,
-        items: [first, second, third],
-    }
-}
-
 // The type of this number, 1 to 8, with its parameters.
 fn read_kind(number: u8, parameters: &[u8]) -> Kind
     requires { ParametersFit number parameters.now }
-    ensures { of_kind result ≡ meaning.type_of number parameters.now }
+    ensures meant { of_kind result ≡ meaning.type_of number parameters.now }
+    ensures counted { Counted result }
 {
     match number {
         1 => Kind::Reference(numbers::u16_at(parameters, 0) as usize),
-        2..=3 => Kind::Coordinate(read_components(parameters, number as usize)),
+        2..=3 => Kind::Coordinate(numbers::read_components(parameters, number as usize)),
         4 => Kind::Number(numbers::read_component(parameters)),
         5 => Kind::Text(numbers::u16_at(parameters, 0) as usize),
         6 => Kind::Date,
         7 => Kind::Enumeration(numbers::u16_at(parameters, 0) as usize),
         _ => Kind::Line(
             parameters[0] as usize,
-            read_components(&parameters[2..], read_dimension(parameters[1])),
+            numbers::read_components(&parameters[2..], read_dimension(parameters[1])),
         ),
     }
 }

@@ -1,10 +1,11 @@
 // Little-endian numbers in a slice of bytes, and components.
-ghost use Rattle.std.specs.Prelude.{◌≡◌, ◌+◌, ◌≤◌, length};
+ghost use Rattle.std.specs.Prelude.{◌≡◌, ◌+◌, ◌*◌, ◌≤◌, length};
 ghost use Rattle.meaning.specs.Bytes.{byte_at, u16_at, u32_at, u64_at, i64_at, twos};
 ghost use Rattle.meaning.specs.Model.{component_of};
-ghost use Rattle.model_records.specs.Components.{declared_of};
+ghost use Rattle.meaning.specs.Model as meaning;
+ghost use Rattle.model_records.specs.Components.{components_of, declared_of};
 
-use crate::attributes::Component;
+use crate::attributes::{Component, Components};
 
 // The byte at an index, 0 behind the end.
 pub fn byte_at(s: &[u8], at: usize) -> u8
@@ -60,4 +61,23 @@ pub(crate) fn read_component(parameters: &[u8]) -> Component
         least: i64_at(parameters, 1),
         greatest: i64_at(parameters, 9),
     }
+}
+
+// The first n components among the parameters, by value.
+pub fn read_components(parameters: &[u8], n: usize) -> Components
+    requires n_bound { n ≤ 3 }
+    requires n_in_bounds { 17 * n ≤ length parameters.now }
+    ensures count { result.count ≡ n }
+    ensures meant { components_of result ≡ meaning.components_of n parameters.now }
+{
+    let none = Component {
+        decimals: 0,
+        least: 0,
+        greatest: 0,
+    };
+    let mut items = [none; 3];
+    for i in 0..n {
+        items[i] = read_component(&parameters[17 * i..]);
+    }
+    Components { count: n, items }
 }

@@ -56,7 +56,8 @@ fn read_point(
     polyline: OpenLine,
     state: State,
 ) -> Result<State, Refusal>
-    requires { 4 * state.points ≤ length points.old }
+    requires counted { (2 ≤ components.count) × (components.count ≤ 3) }
+    requires points_in_bounds { 4 * state.points ≤ length points.old }
     ensures { (start : ℕ) → Joins kind polyline state points.old points.new result
         (component_values undefined 2 (components_of components) (fields_of start rest.now)) }
 {
@@ -76,7 +77,8 @@ pub(crate) fn point_line(
     polyline: OpenLine,
     state: State,
 ) -> Result<State, Refusal>
-    requires { 4 * state.points ≤ length points.old }
+    requires counted { (2 ≤ attribute.components.count) × (attribute.components.count ≤ 3) }
+    requires points_in_bounds { 4 * state.points ≤ length points.old }
     ensures { (b text : List ℕ) (rooms : Rooms) (fs : List Field) (start : ℕ) (cells : List ℤ)
         → RecordLine b polyline.at attribute
         → LineHolds (model_at b) b [] 0 state.cells state.points polyline

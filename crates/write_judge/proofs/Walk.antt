@@ -175,15 +175,15 @@ pub coordinate_size : (o : Bool) (cs : Components) → length cs.items ≡ 3 →
 unfolding pairs_of_type component_pairs list_of
 coordinate_size o cs l = counted_pairs cs.items cs.count l cs.counted
   where
-    counted_pairs : (items : List Component) (n : ℕ) → length items ≡ 3 → (2 ≤ n) × (n ≤ 3) → length (pairs_of_type o (Coordinate (list_of (take n items)))) ≡ n
+    counted_pairs : (items : List Component) (n : ℕ) → length items ≡ 3 → n ≤ 3 → length (pairs_of_type o (Coordinate (list_of (take n items)))) ≡ n
     counted_pairs [] n l e = absurd (omega arith)
     counted_pairs (x ∷ []) n l e = absurd (omega arith)
     counted_pairs (x ∷ (y ∷ [])) n l e = absurd (omega arith)
-    counted_pairs (x ∷ (y ∷ (z ∷ items))) zero l e = absurd (omega (arith, e))
-    counted_pairs (x ∷ (y ∷ (z ∷ items))) (suc zero) l e = absurd (omega (arith, e))
+    counted_pairs (x ∷ (y ∷ (z ∷ items))) zero l e = refl
+    counted_pairs (x ∷ (y ∷ (z ∷ items))) (suc zero) l e = refl
     counted_pairs (x ∷ (y ∷ (z ∷ items))) (suc (suc zero)) l e = refl
     counted_pairs (x ∷ (y ∷ (z ∷ items))) (suc (suc (suc zero))) l e = refl
-    counted_pairs (x ∷ (y ∷ (z ∷ items))) (suc (suc (suc (suc n)))) l e = absurd (omega (arith, e))
+    counted_pairs (x ∷ (y ∷ (z ∷ items))) (suc (suc (suc (suc n)))) l e = absurd (omega arith)
 
 -- a type that is neither a coordinate nor a line has one pair
 pub own_pair : (o : Bool) (k : Kind) → ((cs : Components) → k ≡ kind.Coordinate cs → ⊥) → ((forms : ℕ) (cs : Components) → k ≡ kind.Line forms cs → ⊥)

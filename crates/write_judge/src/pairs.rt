@@ -8,7 +8,7 @@ ghost use Rattle.meaning.specs.Judge.{cell_is, judge_undefined, judge_date, judg
 ghost use Rattle.meaning.specs.Judge.{judge_component, judge_line, fine_if, judge_pair, judge_pairs};
 ghost use Rattle.model_records.specs.Components.{component_of, components_of};
 ghost use Rattle.model_records.specs.Records.{model_at, pairs_at};
-ghost use Rattle.model_records.specs.Attributes.{of_kind, type_of};
+ghost use Rattle.model_records.specs.Attributes.{of_kind, type_of, Counted};
 ghost use Rattle.write_judge.specs.Meant.{fine_of, judge_second};
 ghost use Rattle.table.specs.Contents.{content};
 ghost use Rattle.model_records.specs.AtRecord.{AttributesHere};
@@ -143,7 +143,8 @@ fn judge_first(optional: bool, component: Component, a: i64, b: i64) -> bool
 
 // The pair at a cell of a coordinate's third component, where it has one.
 fn judge_third(components: Components, defined: bool, cells: &[i64], cell: usize) -> bool
-    requires { cell + 2 * (components.count - 2) ≤ length cells.now }
+    requires counted { (2 ≤ components.count) × (components.count ≤ 3) }
+    requires count_in_bounds { cell + 2 * (components.count - 2) ≤ length cells.now }
     ensures { (undefined k : ℕ) (text : List ℕ) (c : Content) →
         fine_if result k ≡ judge_pairs undefined text c defined k (component_pairs (drop 2 (components_of components)))
         (drop cell cells.now) }
@@ -158,7 +159,8 @@ fn judge_third(components: Components, defined: bool, cells: &[i64], cell: usize
 
 // The pairs from a cell on of the components behind a coordinate's first one.
 fn judge_further(components: Components, defined: bool, cells: &[i64], cell: usize) -> bool
-    requires { cell + 2 * (components.count - 1) ≤ length cells.now }
+    requires counted { (2 ≤ components.count) × (components.count ≤ 3) }
+    requires count_in_bounds { cell + 2 * (components.count - 1) ≤ length cells.now }
     ensures { (undefined k : ℕ) (text : List ℕ) (c : Content) →
         fine_if result k ≡ judge_pairs undefined text c defined k (component_pairs (drop 1 (components_of components)))
         (drop cell cells.now) }
@@ -171,7 +173,8 @@ fn judge_further(components: Components, defined: bool, cells: &[i64], cell: usi
 
 // The pairs of a coordinate from a cell on.
 fn judge_coordinate(optional: bool, components: Components, cells: &[i64], cell: usize) -> bool
-    requires { cell + 2 * components.count ≤ length cells.now }
+    requires counted { (2 ≤ components.count) × (components.count ≤ 3) }
+    requires count_in_bounds { cell + 2 * components.count ≤ length cells.now }
     ensures { (undefined k : ℕ) (text : List ℕ) (c : Content) →
         fine_if result k
         ≡ judge_pairs undefined text c true k (pairs_of_type optional (Coordinate (components_of components)))
@@ -192,7 +195,8 @@ fn judge_drawn(
     a: i64,
     b: i64,
 ) -> Option<usize>
-    requires { 4 * first ≤ length table.now.points.now }
+    requires counted { (2 ≤ line.components.count) × (line.components.count ≤ 3) }
+    requires first_in_bounds { 4 * first ≤ length table.now.points.now }
     ensures { fine_of result
         ≡ fine_if (judge_line (content table.now) first line.forms (components_of line.components) a b)
         (first + (nat_abs a - 1)) }
@@ -213,7 +217,8 @@ fn judge_drawn(
 
 // The pair of a line attribute.
 fn judge_line(line: LineAttribute, table: &Table<'_>, first: usize, a: i64, b: i64) -> Option<usize>
-    requires { 4 * first ≤ length table.now.points.now }
+    requires counted { (2 ≤ line.components.count) × (line.components.count ≤ 3) }
+    requires first_in_bounds { 4 * first ≤ length table.now.points.now }
     ensures { (undefined : ℕ) →
         fine_of result ≡ judge_pair undefined table.now.text.now (content table.now) true first
         (OfLine line.optional line.forms (components_of line.components)) a b }
@@ -233,6 +238,7 @@ fn judge_attribute(
     cell: usize,
     first: usize,
 ) -> Option<usize>
+    requires counted { Counted attribute.kind }
     requires attribute_in_bounds { cell + 2 * length (pairs_of_type attribute.optional (type_of attribute))
         ≤ length table.now.cells.now }
     requires first_in_bounds { 4 * first ≤ length table.now.points.now }

@@ -30,6 +30,7 @@ fn code_of(kind: i64) -> LineCode
 
 // "east; north; height or 0": the values of a point of two or three components.
 fn are_within(components: Components, east: i64, north: i64, height: i64) -> bool
+    requires { (2 ≤ components.count) × (components.count ≤ 3) }
     ensures { result ≡ are_within (components_of components) (east ∷ north ∷ height ∷ []) }
 {
     let items = components.items;
@@ -60,6 +61,7 @@ fn pass_point(
     north: i64,
     height: i64,
 ) -> Option<LineState>
+    requires { (2 ≤ components.count) × (components.count ≤ 3) }
     ensures { (next : meaning.LineState → Bool) → passed_then result next ≡
         point_then forms (components_of components) (line_state_of state) kind east north height next }
 {
@@ -84,7 +86,8 @@ fn judge_point(
     points: &[i64],
     at: usize,
 ) -> Option<LineState>
-    requires { at + 4 ≤ length points.now }
+    requires counted { (2 ≤ components.count) × (components.count ≤ 3) }
+    requires at_in_bounds { at + 4 ≤ length points.now }
     ensures { (next : meaning.LineState → Bool) → let p = points.now in
         passed_then result next ≡ point_then forms (components_of components) (line_state_of state)
         (get_or p at (pos 0)) (get_or p (at + 1) (pos 0)) (get_or p (at + 2) (pos 0)) (get_or p (at + 3) (pos 0)) next }
@@ -102,7 +105,8 @@ fn judge_point(
 
 // "STPT, then one or more of LIPT or ARCP LIPT, then ELIN": so many points that end a line.
 pub(crate) fn judge_points(forms: usize, components: Components, points: &[i64], n: usize) -> bool
-    requires { 4 * n ≤ length points.now }
+    requires counted { (2 ≤ components.count) × (components.count ≤ 3) }
+    requires n_in_bounds { 4 * n ≤ length points.now }
     ensures { result ≡ judge_points forms (components_of components) unstarted n points.now }
 {
     let mut state = LineState::Unstarted;

@@ -9,4 +9,5 @@ read_kind-requires c = rw (to_end c.args.payload.now 2) c.requires.parameters_fi
 
 pub returns : goal.returns
 unfolding flag_of
-returns c = record { type = rw (to_end c.args.payload.now 2) at c.read_kind.ensures; optional = refl }
+returns c =
+    record { type = rw (to_end c.args.payload.now 2) at c.read_kind.ensures.meant; optional = refl; counted = c.read_kind.ensures.counted }

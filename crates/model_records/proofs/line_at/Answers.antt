@@ -12,4 +12,4 @@ unreachable-requires c =
 pub returns : goal.returns
 returns c =
     let a = c.attribute_at-attribute in
-    record { type = sym a.ensures.type ∙ ap of_kind c.in-Line.is; optional = a.ensures.optional }
+    record { type = sym a.ensures.type ∙ ap of_kind c.in-Line.is; optional = a.ensures.optional; counted = rw c.in-Line.is at a.ensures.counted }

@@ -23,33 +23,33 @@ u16_at-requires-in-5 c = word_size c.args.parameters.now c.args.number (inr (inl
 pub u16_at-requires-in-7 : goal.u16_at-requires-in-7
 u16_at-requires-in-7 c = word_size c.args.parameters.now c.args.number (inr (inr c.in-7.is)) c.requires
 
-pub read_components-requires-clause-in_bounds : goal.read_components-requires-clause-in_bounds
-read_components-requires-clause-in_bounds c =
+pub read_components-requires-clause-n_in_bounds : goal.read_components-requires-clause-n_in_bounds
+read_components-requires-clause-n_in_bounds c =
     coordinate_size c.args.parameters.now c.args.number (omega arith, omega arith) c.requires
 
-pub returns-in-1 : goal.returns-in-1
+pub returns-in-1-clause-meant : goal.returns-in-1-clause-meant
 unfolding meaning.type_of choose
-returns-in-1 c = rw (c.in-1.is, c.u16_at.ensures)
+returns-in-1-clause-meant c = rw (c.in-1.is, c.u16_at.ensures)
 
-pub returns-in-4 : goal.returns-in-4
+pub returns-in-4-clause-meant : goal.returns-in-4-clause-meant
 unfolding meaning.type_of choose
-returns-in-4 c = rw (c.in-4.is, c.read_component.ensures)
+returns-in-4-clause-meant c = rw (c.in-4.is, c.read_component.ensures)
 
-pub returns-in-5 : goal.returns-in-5
+pub returns-in-5-clause-meant : goal.returns-in-5-clause-meant
 unfolding meaning.type_of choose
-returns-in-5 c = rw (c.in-5.is, c.u16_at-in-5.ensures)
+returns-in-5-clause-meant c = rw (c.in-5.is, c.u16_at-in-5.ensures)
 
-pub returns-in-6 : goal.returns-in-6
+pub returns-in-6-clause-meant : goal.returns-in-6-clause-meant
 unfolding meaning.type_of choose
-returns-in-6 c = rw c.in-6.is
+returns-in-6-clause-meant c = rw c.in-6.is
 
-pub returns-in-7 : goal.returns-in-7
+pub returns-in-7-clause-meant : goal.returns-in-7-clause-meant
 unfolding meaning.type_of choose
-returns-in-7 c = rw (c.in-7.is, c.u16_at-in-7.ensures)
+returns-in-7-clause-meant c = rw (c.in-7.is, c.u16_at-in-7.ensures)
 
-pub returns-in-2-to-3 : goal.returns-in-2-to-3
-returns-in-2-to-3 c =
-    ap meaning.Coordinate c.read_components.ensures ∙ coordinate_is c.args.parameters.now c.args.number (omega arith, omega arith)
+pub returns-in-2-to-3-clause-meant : goal.returns-in-2-to-3-clause-meant
+returns-in-2-to-3-clause-meant c =
+    ap meaning.Coordinate c.read_components.ensures.meant ∙ coordinate_is c.args.parameters.now c.args.number (omega arith, omega arith)
 
 pub bounds-parameters-0 : goal.bounds-parameters-0
 bounds-parameters-0 c =
@@ -71,17 +71,22 @@ bounds-parameters-1 c =
     let e : c.args.number ≡ 8 = omega arith in
     omega (arith, line_size c.args.parameters.now c.args.number e c.requires)
 
-pub read_components-requires-in_default-clause-count_bound : goal.read_components-requires-in_default-clause-count_bound
-read_components-requires-in_default-clause-count_bound c = rw c.read_dimension.ensures (dimension_fits c.args.parameters.now)
+pub read_components-requires-in_default-clause-n_bound : goal.read_components-requires-in_default-clause-n_bound
+read_components-requires-in_default-clause-n_bound c = rw c.read_dimension.ensures (dimension_fits c.args.parameters.now).1
 
-pub read_components-requires-in_default-clause-in_bounds : goal.read_components-requires-in_default-clause-in_bounds
-read_components-requires-in_default-clause-in_bounds c =
+pub read_components-requires-in_default-clause-n_in_bounds : goal.read_components-requires-in_default-clause-n_in_bounds
+read_components-requires-in_default-clause-n_in_bounds c =
     let q : List ℕ = c.args.parameters.now in
     let e : c.args.number ≡ 8 = omega arith in
     rw (to_end q 2, length-drop) (omega (arith, dimension_is q, c.read_dimension.ensures, line_size q c.args.number e c.requires))
 
-pub returns-in_default : goal.returns-in_default
-returns-in_default c =
+pub returns-in_default-clause-meant : goal.returns-in_default-clause-meant
+returns-in_default-clause-meant c =
     let q : List ℕ = c.args.parameters.now in
     let e : c.args.number ≡ 8 = omega arith in
-    rw e (line_is q _ _ (c.read_dimension.ensures) (rw (to_end q 2) at c.read_components-in_default.ensures))
+    rw e (line_is q _ _ (c.read_dimension.ensures) (rw (to_end q 2) at c.read_components-in_default.ensures.meant))
+
+pub returns-in_default-clause-counted : goal.returns-in_default-clause-counted
+returns-in_default-clause-counted c =
+    let e = c.read_components-in_default.ensures.count ∙ c.read_dimension.ensures in
+    rw e (dimension_fits c.args.parameters.now)

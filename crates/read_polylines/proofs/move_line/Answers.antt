@@ -7,8 +7,8 @@ use Rattle.read_polylines.specs.Ways.{way_of}
 use Rattle.read_polylines.proofs.Ways.{by_move, unexpected_line, refused_here}
 use Rattle.read_polylines.proofs.move_line.Goals as goal
 
-pub point_line-requires : goal.point_line-requires
-point_line-requires c = c.requires.line_given.points_fit
+pub point_line-requires-clause-points_in_bounds : goal.point_line-requires-clause-points_in_bounds
+point_line-requires-clause-points_in_bounds c = c.requires.line_given.points_fit
 
 pub returns-in-Unexpected : goal.returns-in-Unexpected
 returns-in-Unexpected c =

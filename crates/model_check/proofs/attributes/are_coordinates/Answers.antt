@@ -7,4 +7,4 @@ use Rattle.model_check.proofs.attributes.are_coordinates.Goals as goal
 pub returns : goal.returns
 unfolding all_of
 returns c =
-    rw (and-true, held_length c.args.components c.args.components.counted.1 cc, c.are_components.ensures, c.is_dimension.ensures)
+    rw (and-true, held_length c.args.components c.args.components.counted cc, c.are_components.ensures, c.is_dimension.ensures)

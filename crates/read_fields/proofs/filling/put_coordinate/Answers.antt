@@ -7,15 +7,15 @@ use Rattle.read_fields.proofs.filling.put_coordinate.Goals as goal
 pub returns-in-On : goal.returns-in-On
 returns-in-On c =
     let f = rw (c.in-On.is, c.ask_own-asked.ensures) at c.in_ok-t.ensures in
-    coordinate_on c.args.undefined c.args.start c.args.rest.now c.args.optional c.args.components.count c.args.components.items _ (omega (arith, c.args.components.counted)) (omega (arith, c.args.components.counted)) c.args.cursor c.args.cells.now c.put_field.new.cells c.in-On.t f c.put_further.new.cells c.put_further.result c.put_further.ensures
+    coordinate_on c.args.undefined c.args.start c.args.rest.now c.args.optional c.args.components.count c.args.components.items _ c.requires.least_one (omega (arith, c.args.components.counted)) c.args.cursor c.args.cells.now c.put_field.new.cells c.in-On.t f c.put_further.new.cells c.put_further.result c.put_further.ensures
 
 pub returns-in-RestUndefined : goal.returns-in-RestUndefined
 returns-in-RestUndefined c =
     let f = rw (c.in-RestUndefined.is, c.ask_own-asked.ensures) at c.in_ok-t.ensures in
-    coordinate_rest c.args.undefined c.args.start c.args.rest.now c.args.optional c.args.components.count c.args.components.items _ (omega (arith, c.args.components.counted)) (omega (arith, c.args.components.counted)) c.args.cursor c.args.cells.now c.put_field.new.cells c.in-RestUndefined.t c.in-RestUndefined.left c.args.components.counted.1 f
+    coordinate_rest c.args.undefined c.args.start c.args.rest.now c.args.optional c.args.components.count c.args.components.items _ c.requires.least_one (omega (arith, c.args.components.counted)) c.args.cursor c.args.cells.now c.put_field.new.cells c.in-RestUndefined.t c.in-RestUndefined.left c.args.components.counted f
 
 pub returns-in_err-t : goal.returns-in_err-t
 returns-in_err-t c =
     let f = rw c.ask_own-asked.ensures at c.in_err-t.ensures in
     let p = err_from_is_err_and c.from_residual.result c.from_residual.ensures.1 in
-    rw (p.1, p.2) (coordinate_no c.args.undefined c.args.start c.args.rest.now c.args.optional c.args.components.count c.args.components.items _ (omega (arith, c.args.components.counted)) (omega (arith, c.args.components.counted)) c.args.cursor c.args.cells.now c.put_field.new.cells c.in_err-t.field-0.0 f)
+    rw (p.1, p.2) (coordinate_no c.args.undefined c.args.start c.args.rest.now c.args.optional c.args.components.count c.args.components.items _ c.requires.least_one (omega (arith, c.args.components.counted)) c.args.cursor c.args.cells.now c.put_field.new.cells c.in_err-t.field-0.0 f)

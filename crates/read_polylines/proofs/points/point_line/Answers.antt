@@ -25,5 +25,5 @@ returns c =
     λ b text rooms fs start cells d l un er dr co.
     does_same b g.polyline g.state _ _ cells _ cells _ _
     (λ x. permitted_point (model_at b) rooms text (way_of b g.attribute g.polyline) fs x g.kind (line_state_of g.next) (rw co e))
-    (joined b g.polyline g.state g.next g.attribute d l rooms text g.kind cells g.points.now er c.requires (component_values (model_at b).undefined 2 (components_of g.attribute.components) (drop 1 fs)) _ _
+    (joined b g.polyline g.state g.next g.attribute d l rooms text g.kind cells g.points.now er c.requires.points_in_bounds (component_values (model_at b).undefined 2 (components_of g.attribute.components) (drop 1 fs)) _ _
     (rw (un, dr) (c.read_point.ensures start)))

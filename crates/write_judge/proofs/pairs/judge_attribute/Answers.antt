@@ -21,8 +21,8 @@ pub bounds-cells-cell-in-Line : goal.bounds-cells-cell-in-Line
 unfolding pairs_of_type
 bounds-cells-cell-in-Line c = omega (arith, rw c.in-Line.is at c.requires.attribute_in_bounds)
 
-pub judge_coordinate-requires : goal.judge_coordinate-requires
-judge_coordinate-requires c =
+pub judge_coordinate-requires-clause-count_in_bounds : goal.judge_coordinate-requires-clause-count_in_bounds
+judge_coordinate-requires-clause-count_in_bounds c =
     let a = c.args.attribute in
     omega (arith, rw c.in-Coordinate.is at c.requires.attribute_in_bounds, coordinate_size a.optional c.in-Coordinate.components (search arith))
 

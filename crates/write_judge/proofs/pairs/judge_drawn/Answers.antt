@@ -21,7 +21,7 @@ returns-then-not-is_number c =
 pub returns-then-table-first : goal.returns-then-table-first
 returns-then-table-first c =
     let t = to_z-of_z w64 c.args.a c.ranges.a in
-    line_outside _ _ _ _ c.args.a c.args.b _ (sym (rw t at c.is_below.ensures) ∙ c.if-is_below.false) (sym (rw (to_z-of_z w64 c.args.b c.ranges.b) at c.is_number.ensures) ∙ c.if-not-is_number.false) (omega (arith, c.requires, rw t at c.size_of-n.ensures))
+    line_outside _ _ _ _ c.args.a c.args.b _ (sym (rw t at c.is_below.ensures) ∙ c.if-is_below.false) (sym (rw (to_z-of_z w64 c.args.b c.ranges.b) at c.is_number.ensures) ∙ c.if-not-is_number.false) (omega (arith, c.requires.first_in_bounds, rw t at c.size_of-n.ensures))
 
 pub returns : goal.returns
 returns c =
@@ -29,4 +29,4 @@ returns c =
     let z = rw t at c.size_of-n.ensures in
     rw (fine_told _ _ _ c.then_some.ensures, c.judge_points-fine.ensures)
     (line_drawn (content c.args.table.now) c.args.first c.args.line.forms _ c.args.a c.args.b _ (sym (rw t at c.is_below.ensures) ∙ c.if-is_below.false) (sym (rw (to_z-of_z w64 c.args.b c.ranges.b) at c.is_number.ensures) ∙ c.if-not-is_number.false)
-    _ (ap (λ (x : ℕ). x - 1) z) (omega (arith, c.requires)) _ (lent_points c.args.table.now.points.now _) _ (ap (λ (x : ℕ). c.args.first + (x - 1)) z))
+    _ (ap (λ (x : ℕ). x - 1) z) (omega (arith, c.requires.first_in_bounds)) _ (lent_points c.args.table.now.points.now _) _ (ap (λ (x : ℕ). c.args.first + (x - 1)) z))

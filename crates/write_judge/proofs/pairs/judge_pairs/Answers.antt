@@ -14,6 +14,7 @@ judge_attribute-requires c =
     let g = c.in-Some.ensures.steps in
     let e = given_kind _ _ _ _ c.loop-at.invariant.0 g in
     record {
+      counted = c.attribute_at-attribute.ensures.counted;
       attribute_in_bounds = omega (arith, own_inside _ _ _ _ _ _ _ _ i e _ (rw g.at at c.attribute_at-attribute.ensures));
       first_in_bounds = i.drawn;
     }

@@ -15,4 +15,4 @@ returns-then-components-eq3 c =
 
 pub returns-else-components-eq3 : goal.returns-else-components-eq3
 returns-else-components-eq3 c =
-    λ undefined k text table. third_none undefined text table k c.args.cell c.args.cells.now c.args.components.items c.args.components.count (omega arith) _ (omega (arith, c.args.components.counted, c.if-components-eq3.false))
+    λ undefined k text table. third_none undefined text table k c.args.cell c.args.cells.now c.args.components.items c.args.components.count (omega arith) _ (omega (arith, c.requires.counted, c.if-components-eq3.false))

@@ -16,5 +16,5 @@ returns c =
       | then-components-eq3 w ↦
           rw (w.third-is, w.is_within-third.ensures, c.is_within-second.ensures, c.is_within-first.ensures, x, y, z) (three_within _ a.east a.north a.height a.components.items a.components.count (omega arith) w.if-components-eq3.true)
       | else-components-eq3 w ↦
-          rw (w.third-is, w.is_number-third.ensures, c.is_within-second.ensures, c.is_within-first.ensures, x, y, z) (two_within _ a.east a.north a.height a.components.items a.components.count (omega arith) (omega (arith, a.components.counted, w.if-components-eq3.false)))
+          rw (w.third-is, w.is_number-third.ensures, c.is_within-second.ensures, c.is_within-first.ensures, x, y, z) (two_within _ a.east a.north a.height a.components.items a.components.count (omega arith) (omega (arith, c.requires, w.if-components-eq3.false)))
     ]
