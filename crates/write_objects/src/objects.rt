@@ -1,6 +1,6 @@
 // The lines of an object, put into a lent room, each cut to the width.
-ghost use Rattle.std.specs.Prelude.{◌≡◌, true, [], ◌∷◌, ◌++◌, ◌+◌, ◌*◌, ◌-◌, ◌/◌, ◌≤◌, ◌<◌, ◌^◌, min, pos, length};
-ghost use Rattle.std.specs.Prelude.{drop, get_or};
+ghost use Rattle.std.specs.Prelude.{◌≡◌, true, List, [], ◌∷◌, ◌++◌, ℕ, ◌+◌, ◌*◌, ◌-◌, ◌/◌, ◌≤◌, ◌<◌, ◌^◌, min};
+ghost use Rattle.std.specs.Prelude.{pos, length, drop, get_or};
 ghost use Rattle.meaning.specs.Field.{OBJE, ELIN};
 ghost use Rattle.meaning.specs.Check.{good_components};
 ghost use Rattle.meaning.specs.Model.{attribute_of};
@@ -13,7 +13,7 @@ ghost use Rattle.model_records.specs.Components.{components_of};
 ghost use Rattle.model_records.specs.Records.{model_at, payload_at, pairs_at};
 ghost use Rattle.model_records.specs.AtRecord.{AttributeHere, AttributesHere};
 ghost use Rattle.write_lines.specs.Puts.{Puts};
-ghost use Rattle.table.specs.Contents.{content};
+ghost use Rattle.table.specs.Contents.{content, content_in};
 
 use crate::fields;
 use model_records::counts::count_of;
@@ -307,9 +307,11 @@ pub fn put_object(
 ) -> Put
     requires attributes_here { AttributesHere (model_at model.now) model.now first }
     requires undefined_value { style.undefined ≡ (model_at model.now).undefined }
-    ensures { let b = model.now in
+    ensures { (marks : List ℕ) →
+        let b = model.now in
         let t = table.now in
-        let lines = object_lines (model_at b) t.text.now (content t) (pairs_at b first) row in
+        let c = content_in marks t.rows.now t.cells.now t.points.now in
+        let lines = object_lines (model_at b) t.text.now c (pairs_at b first) row in
         Puts (cut_lines style.mark style.width (lines_bytes lines)) put out.old out.new result }
 {
     let line = put_object_line(model, first, table, style, row, out, put);

@@ -15,7 +15,7 @@ loop-row-preserved c =
     let l = c.loop-row in
     let t = c.put_object-all in
     let turn = rows_turn a.style.mark a.style.width (model_at a.model.now) a.table.now.text.now (content a.table.now) (pairs_at a.model.now a.first) _ l.row-index c.loop-row-test.true in
-    left_on l.invariant _ _ turn _ t.result t.ensures
+    left_on l.invariant _ _ turn _ t.result (t.ensures a.table.now.marks.now)
 
 pub returns : goal.returns
 returns c =

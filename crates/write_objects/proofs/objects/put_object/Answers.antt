@@ -6,12 +6,12 @@ use Rattle.write_objects.proofs.Whole.{object_lines_lem}
 use Rattle.write_objects.proofs.objects.put_object.Goals as goal
 
 pub returns : goal.returns
-returns c =
+returns c marks =
     let a = c.args in
     let b = a.model.now in
     let t = a.table.now in
     let p = c.put_object_line-line in
     let r = c.put_attribute_lines in
     let q = rw c.requires.undefined_value at p.ensures in
-    renamed _ _ a.put a.out.now _ r.result (object_lines_lem t.text.now (content t) a.style.mark a.style.width (model_at b) (pairs_at b a.first) a.row)
+    renamed _ _ a.put a.out.now _ r.result (object_lines_lem t.text.now (content t) marks a.style.mark a.style.width (model_at b) (pairs_at b a.first) a.row)
     (then _ _ a.put p.result r.result a.out.now _ _ q r.ensures)
