@@ -42,7 +42,7 @@ module _ (r : Result) (rooms : Rooms) (text marks rows : List ℕ) (cells points
       rw (e, lt, lm, lr, lc, lp)
       (record { answer_is = refl; text_is = z.text_is; marks_are = z.marks_are; rows_are = z.rows_are; cells_are = z.cells_are; points_are = z.points_are })
 
-  left_accepted : (u : Used) → Unfinished r rooms text marks rows cells points u → Fits rows cells points (Ok u)
+  left_accepted : (u : Used) → Unfinished r rooms text marks rows cells points u → Fits {E = Refused} rows cells points (Ok u)
       → Closed text marks rows cells points u text' marks' rows' cells' points' → Left r text' marks' rows' cells' points' (Ok u)
   unfolding accepted_with
   left_accepted u read f z =

@@ -11,6 +11,7 @@ use Rattle.meaning.specs.Lines.{Run, stopped}
 use Rattle.meaning.specs.Table.{Resolved, resolved, unresolved, resolve_rows, resolve, Result, refused_with, accepted_with, read_resolved, read_run}
 use Rattle.model_records.specs.Records.{model_at}
 use Rattle.read_state.specs.declared.State.{State}
+use Rattle.base.specs.declared.reasons.Refused.{Refused}
 use Rattle.read_text.specs.Outcomes.{AllRead, Answer, Fits, used_of, TableRead}
 use Rattle.std.proofs.Common.{Ok}
 
@@ -33,7 +34,7 @@ module _ (m : Model) (rooms : Rooms) (text marks rows : List ℕ) (cells points 
   unresolved_read object field e = ap (λ (q : Resolved). read_resolved rooms text (used_of marks rows cells points o c p) q) (sym e)
 
 pub resolved_fits : (rows : List ℕ) (cells lent points : List ℤ) (o c p : ℕ) → o ≤ length rows → c ≤ length cells → 4 * p ≤ length points → length lent ≡ length (take c cells)
-    → Fits rows (lent ++ drop c cells) points (Ok (record { objects = o; cells = c; points = p }))
+    → Fits {E = Refused} rows (lent ++ drop c cells) points (Ok (record { objects = o; cells = c; points = p }))
 resolved_fits rows cells lent points o c p ho hc hp l = (ho, rw (length_front cells lent c l) hc, hp)
 
 -- ## The lines, then the references

@@ -54,8 +54,8 @@ abbrev pub answer_of : Answer → meaning.Answer
 answer_of (Ok u) = meaning.accepted u.objects u.cells u.points
 answer_of (Err r) = meaning.refusal (number_of r.reason) r.first r.second
 
--- the counts lie within the buffers
-abbrev pub Fits : (rows : List ℕ) (cells points : List ℤ) → Answer → Type 0
+-- the counts lie within the buffers, whatever a refusal is told by
+abbrev pub Fits : {E : Type 0} → (rows : List ℕ) (cells points : List ℤ) → std.Result Used E → Type 0
 Fits rows cells points (Ok u) = (u.objects ≤ length rows) × (u.cells ≤ length cells) × (4 * u.points ≤ length points)
 Fits rows cells points (Err refused) = Unit {0}
 
@@ -115,8 +115,8 @@ pub record Closed (text marks rows : List ℕ) (cells points : List ℤ) (u : Us
   pub cells_are : cells' ≡ filled (pos 0) (length cells) (take u.cells cells)
   pub points_are : points' ≡ filled (pos 0) (length points) (take (4 * u.points) points)
 
-abbrev pub Finished : (text marks rows : List ℕ) (cells points : List ℤ) (text' marks' rows' : List ℕ)
-    (cells' points' : List ℤ) → Answer → Type 0
+abbrev pub Finished : {E : Type 0} → (text marks rows : List ℕ) (cells points : List ℤ)
+    (text' marks' rows' : List ℕ) (cells' points' : List ℤ) → std.Result Used E → Type 0
 Finished text marks rows cells points text' marks' rows' cells' points' (Ok u) =
     Closed text marks rows cells points u text' marks' rows' cells' points'
 Finished text marks rows cells points text' marks' rows' cells' points' (Err refused) =

@@ -2,7 +2,7 @@
 ghost use Rattle.std.specs.Prelude.{◌≡◌, length, replicate};
 ghost use Rattle.read_text.specs.Outcomes.{Fits, Finished, Zeroed};
 
-use crate::Answer;
+use table::Used;
 
 // "All result buffers are zeroed by every refusal".
 fn clear_all(
@@ -23,9 +23,9 @@ fn clear_all(
     points.fill(0);
 }
 
-// "Every result buffer is zero behind its used part", and the index is all zeros.
-pub fn finish(
-    answer: Answer,
+// "Every result buffer is zero behind its used part", and the index is all zeros; a refusal may be told by anything.
+pub fn finish<E: Copy>(
+    answer: Result<Used, E>,
     text: &mut [u8],
     marks: &mut [u8],
     rows: &mut [u64],

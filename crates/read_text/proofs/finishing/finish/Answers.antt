@@ -6,7 +6,7 @@ use Rattle.read_text.proofs.Endings.{cleared}
 use Rattle.read_text.proofs.finishing.finish.Goals as goal
 
 pub returns-in-Ok : goal.returns-in-Ok
-returns-in-Ok c =
+returns-in-Ok g c =
     let a = c.args in
     let fits = subst (Fits a.rows.now a.cells.now a.points.now) c.in-Ok.is c.requires in
     record {
