@@ -1,23 +1,27 @@
 -- The attribute records of a table and their pairs. Assumes nothing.
-use Prim.Native.Nat.{ℕ}
+use Prim.Native.Nat.{ℕ, zero, suc, ◌+◌}
+use native.Mathlib.Omega.{arith}
 use mathlib.Core.Path.{◌≡◌, refl, sym, ap, ◌∙◌}
-use mathlib.Core.Bool.{Bool, true, false, not, ◌||◌, or-false}
+use mathlib.Core.Bool.{Bool, true, false, not, ◌&&◌, ◌||◌, or-false}
 use mathlib.Core.List.{List, [], ◌∷◌, ◌++◌, append-nil}
 use Rattle.std.proofs.lemmas.Bool.{false≢true}
-use Rattle.meaning.specs.Bytes.{all_of}
-use Rattle.meaning.specs.Model.{Model, AttributeType, Component, Reference, Coordinate, Number, Text, Date, Enumeration, Line, attribute_of}
+use lib.Dec.{eqb}
+use lib.ListN.{drop}
+use Rattle.meaning.specs.Bytes.{all_of, byte_at, choose}
+use Rattle.meaning.specs.Model.{Model, AttributeType, Component, Reference, Coordinate, Number, Text, Date, Enumeration, Line, attribute_of, components_of, flag_of}
+use Rattle.meaning.specs.Model.{type_of as type_of_number}
 use Rattle.meaning.specs.Check.{is_dimension, good_type}
 use Rattle.meaning.specs.Row.{Pair, OfAttribute, OfComponent, OfLine, component_pairs, pairs_of_type, pairs_of, has_mandatory}
 use Rattle.model_records.specs.declared.attributes.Attribute.{Attribute}
 use Rattle.model_records.specs.declared.attributes.Components.{Components}
 use Rattle.model_records.specs.declared.attributes.Kind.TheVariants as kind
 use Rattle.model_records.specs.Records.{kind_at, payload_at, next_at, pairs_at}
-use Rattle.model_records.specs.Attributes.{type_of, RecordAttribute}
+use Rattle.model_records.specs.Attributes.{type_of, ParametersFit, RecordAttribute}
 use Rattle.model_records.specs.AtRecord.{RecordFits, AttributeHere, AttributeNext, AttributesHere}
 use Rattle.model_records.specs.AttributeRecords.{RecordGiven, NoRecord}
 use Rattle.model_records.specs.declared.records.AttributeRecords.{AttributeRecords}
 use Rattle.model_records.proofs.AtRecord as standing
-use Rattle.model_records.proofs.Types.{line_kind}
+use Rattle.model_records.proofs.Types.{line_kind, payload_byte, parts_room, type_at, sized}
 use Rattle.model_records.proofs.Walking.{given_here, given_next, none_given}
 use Rattle.read_fields.proofs.Coordinates.{mandatory_components}
 use Rattle.read_objects.specs.Fields.{record_pairs}
@@ -55,6 +59,30 @@ module _ (b : List ℕ) (at : ℕ) (a : Attribute) (d : RecordAttribute b at a) 
 
   pub other_mandatory : ((forms : ℕ) (cs : Components) → a.kind ≡ kind.Line forms cs → ⊥) → not a.optional ≡ has_mandatory (record_pairs b at)
   other_mandatory n = own_mandatory a.optional (type_of a) d.good (λ forms cs e. line_kind a.kind forms cs e n) ∙ ap has_mandatory decoded_pairs
+
+-- by the type's number: 8 is a line
+by_number : (o : Bool) (q : List ℕ) (t : ℕ) → ParametersFit t q → (not (eqb t 8) && not o) ≡ has_mandatory (pairs_of_type o (type_of_number t q))
+unfolding has_mandatory pairs_of_type component_pairs type_of_number components_of choose
+by_number o q zero s = absurd (omega (arith, s.least))
+by_number o q (suc zero) s = sym (or-false _)
+by_number o q (suc (suc zero)) s = sym (or-false _)
+by_number o q (suc (suc (suc zero))) s = sym (or-false _)
+by_number o q (suc (suc (suc (suc zero)))) s = sym (or-false _)
+by_number o q (suc (suc (suc (suc (suc zero))))) s = sym (or-false _)
+by_number o q (suc (suc (suc (suc (suc (suc zero)))))) s = sym (or-false _)
+by_number o q (suc (suc (suc (suc (suc (suc (suc zero))))))) s = sym (or-false _)
+by_number o q (suc (suc (suc (suc (suc (suc (suc (suc zero)))))))) s = refl
+by_number o q (suc (suc (suc (suc (suc (suc (suc (suc (suc t))))))))) s = absurd (omega (arith, s.most))
+
+-- the record's flag and its type's number, as they stand among the model's bytes
+pub number_mandatory : (b : List ℕ) (at : ℕ) → AttributeHere b at
+    → (not (eqb (byte_at b (at + 5)) 8) && not (eqb (byte_at b (at + 4)) 1)) ≡ has_mandatory (record_pairs b at)
+unfolding attribute_of flag_of
+number_mandatory b at h =
+    let p = payload_at b at in
+    let e : at + 4 + 0 ≡ at + 4 = omega arith in
+    let f : byte_at p 0 ≡ byte_at b (at + 4) = payload_byte b at 0 (omega (arith, parts_room b at h)) ∙ ap (byte_at b) e in
+    rw (type_at b at h, ← f) (by_number (eqb (byte_at p 0) 1) (drop 2 p) (byte_at p 1) (sized b at h))
 
 -- ## Records
 
