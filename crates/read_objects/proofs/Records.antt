@@ -1,12 +1,15 @@
 -- The attribute records of a table and their pairs. Assumes nothing.
-use Prim.Native.Nat.{ℕ}
+use Prim.Native.Nat.{ℕ, zero, suc, ◌+◌}
 use native.Mathlib.Omega.{arith}
 use mathlib.Core.Path.{◌≡◌, refl, sym, ap, ◌∙◌}
-use mathlib.Core.Bool.{Bool, true, false, not, ◌||◌, or-false}
+use mathlib.Core.Bool.{Bool, true, false, not, ◌&&◌, ◌||◌, or-false}
 use mathlib.Core.List.{List, [], ◌∷◌, ◌++◌, append-nil}
 use Rattle.std.proofs.lemmas.Bool.{false≢true}
-use Rattle.meaning.specs.Bytes.{all_of}
-use Rattle.meaning.specs.Model.{Model, AttributeType, Component, Reference, Coordinate, Number, Text, Date, Enumeration, Line, attribute_of}
+use lib.Dec.{eqb}
+use lib.ListN.{drop}
+use Rattle.meaning.specs.Bytes.{all_of, byte_at, choose}
+use Rattle.meaning.specs.Model.{Model, AttributeType, Component, Reference, Coordinate, Number, Text, Date, Enumeration, Line, attribute_of, components_of, flag_of}
+use Rattle.meaning.specs.Model.{type_of as type_of_number}
 use Rattle.meaning.specs.Check.{is_dimension, good_type}
 use Rattle.meaning.specs.Row.{Pair, OfAttribute, OfComponent, OfLine, component_pairs, pairs_of_type, pairs_of, has_mandatory}
 use Rattle.model_records.specs.declared.attributes.Attribute.{Attribute}
@@ -14,12 +17,12 @@ use Rattle.model_records.specs.declared.attributes.Components.{Components}
 use Rattle.model_records.specs.declared.attributes.Kind.{Kind}
 use Rattle.model_records.specs.declared.attributes.Kind.TheVariants as kind
 use Rattle.model_records.specs.Records.{kind_at, payload_at, next_at, pairs_at}
-use Rattle.model_records.specs.Attributes.{type_of, Counted, RecordAttribute}
+use Rattle.model_records.specs.Attributes.{type_of, Counted, ParametersFit, RecordAttribute}
 use Rattle.model_records.specs.AtRecord.{RecordFits, AttributeHere, AttributeNext, AttributesHere}
 use Rattle.model_records.specs.AttributeRecords.{RecordGiven, NoRecord}
 use Rattle.model_records.specs.declared.records.AttributeRecords.{AttributeRecords}
 use Rattle.model_records.proofs.AtRecord as standing
-use Rattle.model_records.proofs.Types.{line_kind}
+use Rattle.model_records.proofs.Types.{line_kind, payload_byte, parts_room, type_at, sized}
 use Rattle.model_records.proofs.Walking.{given_here, given_next, none_given}
 use Rattle.read_fields.specs.RowProgress.{ComponentsCounted}
 use Rattle.read_fields.proofs.Coordinates.{mandatory_components}
@@ -68,6 +71,30 @@ counted (kind.Text longest) c = tt
 counted kind.Date c = tt
 counted (kind.Enumeration leaves) c = tt
 counted (kind.Line forms cs) c = tt
+
+-- by the type's number: 8 is a line
+by_number : (o : Bool) (q : List ℕ) (t : ℕ) → ParametersFit t q → (not (eqb t 8) && not o) ≡ has_mandatory (pairs_of_type o (type_of_number t q))
+unfolding has_mandatory pairs_of_type component_pairs type_of_number components_of choose
+by_number o q zero s = absurd (omega (arith, s.least))
+by_number o q (suc zero) s = sym (or-false _)
+by_number o q (suc (suc zero)) s = sym (or-false _)
+by_number o q (suc (suc (suc zero))) s = sym (or-false _)
+by_number o q (suc (suc (suc (suc zero)))) s = sym (or-false _)
+by_number o q (suc (suc (suc (suc (suc zero))))) s = sym (or-false _)
+by_number o q (suc (suc (suc (suc (suc (suc zero)))))) s = sym (or-false _)
+by_number o q (suc (suc (suc (suc (suc (suc (suc zero))))))) s = sym (or-false _)
+by_number o q (suc (suc (suc (suc (suc (suc (suc (suc zero)))))))) s = refl
+by_number o q (suc (suc (suc (suc (suc (suc (suc (suc (suc t))))))))) s = absurd (omega (arith, s.most))
+
+-- the record's flag and its type's number, as they stand among the model's bytes
+pub number_mandatory : (b : List ℕ) (at : ℕ) → AttributeHere b at
+    → (not (eqb (byte_at b (at + 5)) 8) && not (eqb (byte_at b (at + 4)) 1)) ≡ has_mandatory (record_pairs b at)
+unfolding attribute_of flag_of
+number_mandatory b at h =
+    let p = payload_at b at in
+    let e : at + 4 + 0 ≡ at + 4 = omega arith in
+    let f : byte_at p 0 ≡ byte_at b (at + 4) = payload_byte b at 0 (omega (arith, parts_room b at h)) ∙ ap (byte_at b) e in
+    rw (type_at b at h, ← f) (by_number (eqb (byte_at p 0) 1) (drop 2 p) (byte_at p 1) (sized b at h))
 
 -- ## Records
 

@@ -8,20 +8,17 @@ ghost use Rattle.read_fields.specs.RowProgress.{going_over, covering, CursorRead
 ghost use Rattle.read_objects.specs.Fields.{record_pairs, EndsHere, Ends};
 
 use base::reasons::{Reason, Refusal};
-use model_records::{ATTRIBUTE, Kind, counts};
+use model_records::{ATTRIBUTE, LINE, counts};
 use read_fields::filling::{RowCursor, RowProgress};
 use read_fields::{filling, storing};
 
-// Whether the field of the attribute record at a byte may not be undefined; a line has none here.
+// Whether the field of the attribute record at a byte may not be undefined; a line has none here. Its type's number and
+// its flag say it: what is not asked for is not decoded.
 fn is_mandatory(model: &[u8], at: usize) -> bool
     requires { AttributeHere model.now at }
     ensures { result ≡ has_mandatory (record_pairs model.now at) }
 {
-    let attribute = model_records::attribute_at(model, at);
-    match attribute.kind {
-        Kind::Line(_, _) => false,
-        _ => !attribute.optional,
-    }
+    (model[at + 5] != LINE) & (model[at + 4] != 1)
 }
 
 // Whether one of the attributes from a byte on may not be undefined.

@@ -1,9 +1,14 @@
 -- `read_objects::is_mandatory` meets its contract. Assumes nothing.
-use Rattle.read_objects.proofs.Records.{line_mandatory, other_mandatory}
+use native.Mathlib.Omega.{arith}
+use Rattle.model_records.proofs.Types.{parts_room}
+use Rattle.read_objects.proofs.Records.{number_mandatory}
 use Rattle.read_objects.proofs.rows.is_mandatory.Goals as goal
 
-pub returns-in-Line : goal.returns-in-Line
-returns-in-Line c = line_mandatory _ _ _ c.attribute_at-attribute.ensures _ _ c.in-Line.is
+pub bounds-model-at : goal.bounds-model-at
+bounds-model-at c = omega (arith, parts_room _ _ c.requires, c.requires.fits)
 
-pub returns-in_default : goal.returns-in_default
-returns-in_default c = other_mandatory _ _ _ c.attribute_at-attribute.ensures c.in_default.not-Line
+pub bounds-model-at-2 : goal.bounds-model-at-2
+bounds-model-at-2 c = omega (arith, parts_room _ _ c.requires, c.requires.fits)
+
+pub returns : goal.returns
+returns c = number_mandatory _ _ c.requires
