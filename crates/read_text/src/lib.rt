@@ -7,7 +7,7 @@ mod loops;
 pub mod tables;
 
 use base::reasons::Refused;
-use table::Used;
+pub use table::Used;
 
 // "0, objects, cells, points; or a refusal, two place numbers, 0".
 pub type Answer = Result<Used, Refused>;
