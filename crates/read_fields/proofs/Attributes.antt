@@ -24,7 +24,7 @@ use Rattle.std.proofs.Common.{Result, Ok, Err}
 use Rattle.base.specs.declared.reasons.Refusal.{Refusal}
 use Rattle.base.specs.Reasons.{number_of}
 use Rattle.read_fields.proofs.Pairs.{own, of_line}
-use Rattle.read_fields.proofs.RowFilled.{both, wider, renamed, before, refuses}
+use Rattle.read_fields.proofs.RowFilled.{none, both, wider, renamed, before, refuses}
 use Rattle.read_fields.proofs.Coordinates.{length_listed, covered_over}
 use Rattle.model_records.proofs.ComponentLaws.{listed_next}
 
@@ -45,6 +45,12 @@ then u start rest n exit a (Ok (RestUndefined v count)) f = (omega (arith, f.0, 
 then u start rest n exit a (Err r) f = refuses (refused (number_of r.reason) r.field) f (λ vs. refl) a
 
 -- ## A coordinate
+
+-- one of no component has no pair
+pub coordinate_none : (u start : ℕ) (rest : List ℕ) (o : Bool) (count : ℕ) (items : List Component) → count ≡ 0 → (s : RowCursor) (l : List ℤ) → s.at ≤ length rest → s.place ≤ s.at + 3
+    → Fills u start rest 6 (going_over u start rest (pairs_of_type o (Coordinate (list_of (take count items)))) s) s l l (Ok (On s))
+unfolding pairs_of_type list_of
+coordinate_none u start rest o count items e s l w p = rw e (wider 6 (omega arith) (none rest (going u start rest s) s l w p))
 
 module _ (u start : ℕ) (rest : List ℕ) (o : Bool) (count : ℕ) (items : List Component) (d : Component) (h : 1 ≤ count) (g : count ≤ length items) (s : RowCursor) where
   first_due : (ps : List Pair) → going_over u start rest (pairs_of_type o (Coordinate (list_of (take count items)))) s ps

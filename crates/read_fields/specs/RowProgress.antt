@@ -84,16 +84,6 @@ further_asked before c = record { needed = before; forbidden = not before; kind 
 abbrev pub own_asked : Bool → Kind → FieldRule
 own_asked optional k = record { needed = not optional; forbidden = false; kind = k }
 
--- a coordinate has a component
-abbrev pub ComponentsCounted : Kind → Type 0
-ComponentsCounted (kind.Reference table) = Unit {0}
-ComponentsCounted (kind.Coordinate components) = 1 ≤ components.count
-ComponentsCounted (kind.Number component) = Unit {0}
-ComponentsCounted (kind.Text longest) = Unit {0}
-ComponentsCounted kind.Date = Unit {0}
-ComponentsCounted (kind.Enumeration leaves) = Unit {0}
-ComponentsCounted (kind.Line forms components) = Unit {0}
-
 -- the fields that are left
 abbrev pub left : (start : ℕ) → List ℕ → RowCursor → List Field
 left start rest s = fields_of (start + s.at) (drop s.at rest)

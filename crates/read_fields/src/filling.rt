@@ -8,7 +8,7 @@ ghost use Rattle.model_records.specs.Attributes.{of_kind, type_of};
 ghost use Rattle.model_records.specs.Components.{components_of};
 ghost use Rattle.value_read.specs.Meant.{value_meant, field_of};
 ghost use Rattle.read_fields.specs.RowProgress.{forbids, due, moved, filled, passed, further_asked};
-ghost use Rattle.read_fields.specs.RowProgress.{own_asked, going_over, ComponentsCounted, CursorReady};
+ghost use Rattle.read_fields.specs.RowProgress.{own_asked, going_over, CursorReady};
 ghost use Rattle.read_fields.specs.RowProgress.{Puts, Fills};
 
 use crate::taking::Form;
@@ -223,14 +223,16 @@ fn put_coordinate(
     cells: &mut [i64],
     cursor: RowCursor,
 ) -> Result<RowProgress, Refusal>
-    requires least_one { 1 ≤ components.count }
-    requires cursor_ready { CursorReady start rest.now 6 cursor }
+    requires { CursorReady start rest.now 6 cursor }
     ensures { Fills undefined start rest.now 6
         (going_over undefined start rest.now
         (pairs_of_type optional (Coordinate (components_of components))) cursor)
         cursor cells.old cells.new result }
 {
     let count = components.count;
+    if count == 0 {
+        return Ok(RowProgress::On(cursor));
+    }
     let asked = ask_own(optional, Kind::Number(components.items[0]));
     match put_field(asked, rest, start, undefined, cells, cursor)? {
         RowProgress::On(t) => put_further(components, rest, start, undefined, cells, t),
@@ -249,8 +251,7 @@ pub fn put_attribute(
     cells: &mut [i64],
     cursor: RowCursor,
 ) -> Result<RowProgress, Refusal>
-    requires components_counted { ComponentsCounted attribute.kind }
-    requires cursor_ready { CursorReady start rest.now 6 cursor }
+    requires { CursorReady start rest.now 6 cursor }
     ensures { Fills undefined start rest.now 6
         (going_over undefined start rest.now (pairs_of_type attribute.optional (type_of attribute)) cursor)
         cursor cells.old cells.new result }

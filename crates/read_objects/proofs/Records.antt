@@ -14,17 +14,15 @@ use Rattle.meaning.specs.Check.{is_dimension, good_type}
 use Rattle.meaning.specs.Row.{Pair, OfAttribute, OfComponent, OfLine, component_pairs, pairs_of_type, pairs_of, has_mandatory}
 use Rattle.model_records.specs.declared.attributes.Attribute.{Attribute}
 use Rattle.model_records.specs.declared.attributes.Components.{Components}
-use Rattle.model_records.specs.declared.attributes.Kind.{Kind}
 use Rattle.model_records.specs.declared.attributes.Kind.TheVariants as kind
 use Rattle.model_records.specs.Records.{kind_at, payload_at, next_at, pairs_at}
-use Rattle.model_records.specs.Attributes.{type_of, Counted, ParametersFit, RecordAttribute}
+use Rattle.model_records.specs.Attributes.{type_of, ParametersFit, RecordAttribute}
 use Rattle.model_records.specs.AtRecord.{RecordFits, AttributeHere, AttributeNext, AttributesHere}
 use Rattle.model_records.specs.AttributeRecords.{RecordGiven, NoRecord}
 use Rattle.model_records.specs.declared.records.AttributeRecords.{AttributeRecords}
 use Rattle.model_records.proofs.AtRecord as standing
 use Rattle.model_records.proofs.Types.{line_kind, payload_byte, parts_room, type_at, sized}
 use Rattle.model_records.proofs.Walking.{given_here, given_next, none_given}
-use Rattle.read_fields.specs.RowProgress.{ComponentsCounted}
 use Rattle.read_fields.proofs.Coordinates.{mandatory_components}
 use Rattle.read_objects.specs.Fields.{record_pairs}
 
@@ -61,16 +59,6 @@ module _ (b : List ℕ) (at : ℕ) (a : Attribute) (d : RecordAttribute b at a) 
 
   pub other_mandatory : ((forms : ℕ) (cs : Components) → a.kind ≡ kind.Line forms cs → ⊥) → not a.optional ≡ has_mandatory (record_pairs b at)
   other_mandatory n = own_mandatory a.optional (type_of a) d.good (λ forms cs e. line_kind a.kind forms cs e n) ∙ ap has_mandatory decoded_pairs
-
--- a record's coordinate has a component
-pub counted : (k : Kind) → Counted k → ComponentsCounted k
-counted (kind.Reference table) c = tt
-counted (kind.Coordinate cs) c = omega (arith, c.0)
-counted (kind.Number component) c = tt
-counted (kind.Text longest) c = tt
-counted kind.Date c = tt
-counted (kind.Enumeration leaves) c = tt
-counted (kind.Line forms cs) c = tt
 
 -- by the type's number: 8 is a line
 by_number : (o : Bool) (q : List ℕ) (t : ℕ) → ParametersFit t q → (not (eqb t 8) && not o) ≡ has_mandatory (pairs_of_type o (type_of_number t q))

@@ -14,7 +14,7 @@ returns-in-Coordinate c = rw c.in-Coordinate.is c.put_coordinate.ensures
 pub returns-in-Line : goal.returns-in-Line
 unfolding pairs_of_type
 returns-in-Line c =
-    rw (c.in-Line.is, c.put_line.ensures.cursor) (line_filled c.args.undefined c.args.start c.args.rest.now _ _ _ c.args.cursor _ _ c.requires.cursor_ready.within c.requires.cursor_ready.placed c.put_line.ensures.stored)
+    rw (c.in-Line.is, c.put_line.ensures.cursor) (line_filled c.args.undefined c.args.start c.args.rest.now _ _ _ c.args.cursor _ _ c.requires.within c.requires.placed c.put_line.ensures.stored)
 
 pub returns-in_default : goal.returns-in_default
 returns-in_default c =
