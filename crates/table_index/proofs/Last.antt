@@ -49,6 +49,15 @@ last_passes p (suc n) o e = go (p n) refl (last_passes p n o)
     go true h r = let q : Some n ≡ Some o = sym (last_hit p n h) ∙ e in let k : n ≡ o = cc in ap p (sym k) ∙ h
     go false h r = r (sym (last_miss p n h) ∙ e)
 
+-- what passes stands not behind what is found
+pub last_after : (p : ℕ → Bool) (n o : ℕ) → o < n → p o ≡ true → o < upto (last_of p n)
+last_after p zero o l h = absurd (omega arith)
+last_after p (suc n) o l h = go (p n) refl (last_after p n o)
+  where
+    go : (x : Bool) → p n ≡ x → (o < n → p o ≡ true → o < upto (last_of p n)) → o < upto (last_of p (suc n))
+    go true e r = rw (last_hit p n e) (omega arith)
+    go false e r = ⊎_elim (λ q. let z : ◌≡◌ {A = Bool} true false = sym h ∙ ap p q ∙ e in absurd (let w : ◌≡◌ {A = ℕ} 0 1 = cc in omega arith)) (λ g. rw (last_miss p n e) (r g h)) (eq-or-lt_of_le (le_of_suc-le-suc l))
+
 -- a test that another one implies is decided along the other's chain
 pub last_skip : (p q : ℕ → Bool) (n : ℕ) → ((o : ℕ) → o < n → p o ≡ true → q o ≡ true) → last_of p (upto (last_of q n)) ≡ last_of p n
 unfolding last_of
