@@ -2,7 +2,7 @@
 use Rattle.model_records.specs.Records.{model_at, pairs_at}
 use Rattle.write_lines.proofs.Puts.{renamed, then}
 use Rattle.table.specs.Contents.{content}
-use Rattle.write_objects.proofs.Whole.{object_lines_lem}
+use Rattle.write_objects.proofs.Whole.{marks_same}
 use Rattle.write_objects.proofs.objects.put_object.Goals as goal
 
 pub returns : goal.returns
@@ -13,5 +13,5 @@ returns c marks =
     let p = c.put_object_line-line in
     let r = c.put_attribute_lines in
     let q = rw c.requires.undefined_value at p.ensures in
-    renamed _ _ a.put a.out.now _ r.result (object_lines_lem t.text.now (content t) marks a.style.mark a.style.width (model_at b) (pairs_at b a.first) a.row)
+    renamed _ _ a.put a.out.now _ r.result (marks_same t.text.now (content t) marks a.style.mark a.style.width (model_at b) (pairs_at b a.first) a.row)
     (then _ _ a.put p.result r.result a.out.now _ _ q r.ensures)
