@@ -54,7 +54,7 @@ pub marks_same : (text : List ℕ) (c : Content) (marks : List ℕ) (mark width 
     ≡ cut_lines mark width (lines_bytes (object_lines m text (content_in marks c.rows c.cells c.points) ps row))
 marks_same text c marks mark width m ps row =
     rw (fields_same text c m.undefined ps (drop (row + 3) c.cells), lines_same text c (line_attributes (row + 3) ps))
-        (object_lines_lem text (content_in marks c.rows c.cells c.points) mark width m ps row)
+    (object_lines_lem text (content_in marks c.rows c.cells c.points) mark width m ps row)
 
 -- ## An object's line
 
